@@ -1,18 +1,18 @@
 /* Renews a replica, saves it, and loads it again, and prints the times.
  *
- *     renewals KEYS FORMAT
+ *     renewals KEYS KEY_BYTES VALUE_BYTES FORMAT
  *
- * Each key has 10 bytes, and one version with a value of 8 bytes and a clock of one pair. The line has the milliseconds
- * of the renewal, of writing all rows into memory, and of loading them into a new replica, and the bytes of the rows.
- * The status is 1 if a call is refused or the rows differ in the end. */
-#include "antientropy.h"
+ * The keys and values are those of entries.h. Each key has one version, whose clock has one pair. The line has the
+ * milliseconds of the renewal, of writing all rows into memory, and of loading them into a new replica, and the bytes
+ * of the rows. The status is 1 if a call is refused or the rows differ in the end. */
+#include "entries.h"
 
-#include <stdio.h>
-#include <stdlib.h>
-#include <string.h>
 #include <time.h>
 
-enum { LIMIT = 1000000, ROOT_AT = 7, ROOT_LEN = 32 };
+/* (a row has 20 bytes in addition to its key and its value) */
+enum { LIMIT = 1000000, ROOT_AT = 7, ROOT_LEN = 32, ROW_ROOM = KEY_ROOM + 32 };
+
+static uint8_t value[ANTIENTROPY_VALUE_MAX_2];
 
 static void must(const char *call, uint32_t number)
 {
@@ -33,11 +33,12 @@ static void fill(struct antientropy *replica, unsigned keys)
 {
     struct antientropy_pair none[1] = {{0, 0}};
     struct antientropy_receipt receipt;
-    char key[16];
+    uint8_t key[KEY_ROOM];
     for (unsigned n = 0; n < keys; n++) {
-        snprintf(key, sizeof key, "key%07u", n);
-        must("put", antientropy_put(replica, 1, (const uint8_t *)key, 10, none, 0, ANTIENTROPY_LIVE,
-                                    (const uint8_t *)"12345678", 8, &receipt));
+        size_t len = key_of(n, key);
+        value_of(n, value);
+        must("put", antientropy_put(replica, 1, key, len, none, 0, ANTIENTROPY_LIVE, value, shape.value_bytes,
+                                    &receipt));
     }
 }
 
@@ -53,20 +54,20 @@ static void root_of(struct antientropy *replica, struct antientropy_snapshot *sn
 
 int main(int argc, char **argv)
 {
-    if (argc != 3)
+    if (argc != 5 || !read_shape(3, argv + 2))
         return 2;
-    unsigned keys = (unsigned)strtoul(argv[1], NULL, 10), format = (unsigned)strtoul(argv[2], NULL, 10);
-    unsigned leaves = format == 1 ? 256 : 4096;
+    unsigned keys = (unsigned)strtoul(argv[1], NULL, 10);
+    unsigned leaves = shape.format == 1 ? ANTIENTROPY_LEAVES_1 : ANTIENTROPY_LEAVES_2;
     struct antientropy old = {0}, new = {0}, loaded = {0};
     struct antientropy_snapshot snapshot = {0}, other = {0};
     struct antientropy_loaded counts;
     uint8_t root[ROOT_LEN], root_now[ROOT_LEN];
-    size_t room = (size_t)keys * 64, used = 0;
+    size_t room = (size_t)keys * (ROW_ROOM + shape.value_bytes), used = 0;
     uint8_t *rows = malloc(room);
     uint64_t *lens = calloc(leaves, sizeof *lens);
     if (rows == NULL || lens == NULL)
         return 1;
-    must("new", antientropy_new(&old, format, 0, 0, LIMIT));
+    must("new", antientropy_new(&old, shape.format, 0, 0, LIMIT));
     fill(&old, keys);
     root_of(&old, &snapshot, root);
 
@@ -81,7 +82,7 @@ int main(int argc, char **argv)
     }
     double saved = now() - begin;
 
-    must("new", antientropy_new(&loaded, format, 0, 0, LIMIT));
+    must("new", antientropy_new(&loaded, shape.format, 0, 0, LIMIT));
     size_t at = 0;
     begin = now();
     for (unsigned leaf = 0; leaf < leaves; leaf++) {

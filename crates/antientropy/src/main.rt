@@ -19,7 +19,7 @@ use std::io::BufWriter;
 use std::process::ExitCode;
 use std::sync::Wait;
 use std::thread::Threads;
-use storm::{MOST_PUTS, StormEnd, Tallies, run_storm};
+use storm::{PUTS_MAX, StormEnd, Tallies, run_storm};
 use vclock::Refusal;
 use words::{Task, task_in, words_of};
 
@@ -92,11 +92,11 @@ fn storm<R: Print + Eprint + AllocGlobal + Threads + Wait + Sync>(
     let tallies = Tallies::new();
     let end = if progress {
         let teller = Teller::new(rt, &tallies, puts);
-        let end = run_storm(rt, rt.alloc(), puts.min(MOST_PUTS), &teller, &tallies);
+        let end = run_storm(rt, rt.alloc(), puts.min(PUTS_MAX), &teller, &tallies);
         teller.tell_end(rt);
         end
     } else {
-        run_storm(rt, rt.alloc(), puts.min(MOST_PUTS), &OpenGate, &tallies)
+        run_storm(rt, rt.alloc(), puts.min(PUTS_MAX), &OpenGate, &tallies)
     };
     match &end {
         Ok(end) => print_end(rt, end)?,

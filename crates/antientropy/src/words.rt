@@ -6,7 +6,7 @@ use std::alloc::Global;
 use std::env;
 use std::env::Env;
 use std::io::ErrorKind;
-use storm::MOST_PUTS;
+use storm::PUTS_MAX;
 
 /// The description of the program.
 const ABOUT: &str =
@@ -125,7 +125,7 @@ fn storm_command<'a>(alloc: Global) -> Result<Command<'a>, Error> {
         .value_name("N")
         .help("The number of puts of each writer, 1 to 10000")
         .default_value("100")
-        .value_parser(value_parser!(u64).range(1..=MOST_PUTS as i64));
+        .value_parser(value_parser!(u64).range(1..=PUTS_MAX as i64));
     let progress = Arg::new(alloc, "progress")
         .long("progress")
         .help("Prints the progress on standard error")

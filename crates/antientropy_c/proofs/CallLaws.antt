@@ -35,12 +35,12 @@ held {S} code old new Same Right s t was now is_old is_new right =
 
 -- the number is that of a result
 pub returns : {T : Type 0} (code : ℕ) (Right : Result T Refusal → Type 0) (r : Result T Refusal) → code ≡ code_of r → Right r → Returns code Right
-returns code Right r number right = record { told = r; number = number; right = right }
+returns code Right r number right = record { outcome = r; number = number; right = right }
 
 -- the bytes of a result are handed out
 pub gives : (code : ℕ) (before after : ℕ × List ℕ) (Right : Result (List ℕ) Refusal → Type 0) (r : Result (List ℕ) Refusal)
     → HandsOut r code before after → Right r → HandsOutRight code before after Right
-gives code before after Right r handed right = record { told = r; handed = handed; right = right }
+gives code before after Right r handed right = record { outcome = r; handed = handed; right = right }
 
 -- what the bytes decode to
 pub reads : (bytes : List ℕ) (Right : Result Message Refusal → Type 0) (d : Result Message Refusal) → Decodes bytes d → Right d → Reads bytes Right
@@ -49,4 +49,4 @@ reads bytes Right d decodes right = record { decoded = d; decodes = decodes; rig
 -- the pairs of a clock are handed out
 pub gives_clock : (code : ℕ) (before after : ℕ × List Pair) (Right : Result Pairs Refusal → Type 0) (r : Result Pairs Refusal)
     → HandsClock r code before after → Right r → GivesClock code before after Right
-gives_clock code before after Right r handed right = record { told = r; handed = handed; right = right }
+gives_clock code before after Right r handed right = record { outcome = r; handed = handed; right = right }

@@ -24,9 +24,9 @@ HandsOut (Err e) code before after = (code ≡ cause_number e) × (after.0 ≡ b
 
 -- A result that is right is copied out.
 pub record HandsOutRight (code : ℕ) (before after : ℕ × List ℕ) (Right : Result (List ℕ) Refusal → Type 0) : Type 0 where
-  pub told : Result (List ℕ) Refusal
-  pub handed : HandsOut told code before after
-  pub right : Right told
+  pub outcome : Result (List ℕ) Refusal
+  pub handed : HandsOut outcome code before after
+  pub right : Right outcome
 
 -- bytes are handed out, if there are any; otherwise the result is NO_VERSION, and nothing is written
 abbrev pub HandsAny : Option (List ℕ) → ℕ → ℕ × List ℕ → ℕ × List ℕ → Type 0

@@ -18,6 +18,6 @@ HandsClock (Err e) code before after = (code ≡ cause_number e) × (after.0 ≡
 
 -- A result that is right is copied out.
 pub record GivesClock (code : ℕ) (before after : ℕ × List Pair) (Right : Result Pairs Refusal → Type 0) : Type 0 where
-  pub told : Result Pairs Refusal
-  pub handed : HandsClock told code before after
-  pub right : Right told
+  pub outcome : Result Pairs Refusal
+  pub handed : HandsClock outcome code before after
+  pub right : Right outcome

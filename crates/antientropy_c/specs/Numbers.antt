@@ -10,9 +10,9 @@ code_of (Err e) = cause_number e
 
 -- A result that is right has this number.
 pub record Returns {T : Type 0} (code : ℕ) (Right : Result T Refusal → Type 0) : Type 0 where
-  pub told : Result T Refusal
-  pub number : code ≡ code_of told
-  pub right : Right told
+  pub outcome : Result T Refusal
+  pub number : code ≡ code_of outcome
+  pub right : Right outcome
 
 -- the buffer is too small
 abbrev pub SMALL : ℕ

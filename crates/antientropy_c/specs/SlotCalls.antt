@@ -25,13 +25,13 @@ set_target a target = do
   gives tt (record a { target = target })
 
 -- a percentile, if there were samples
-abbrev pub percentile_told : Option ℕ → Percentile
-percentile_told None = record { found = 0; micros = 0 }
-percentile_told (Some p) = record { found = 1; micros = p }
+abbrev pub percentile_from : Option ℕ → Percentile
+percentile_from None = record { found = 0; micros = 0 }
+percentile_from (Some p) = record { found = 1; micros = p }
 
 -- the caller gets the percentile, unless the adjustment was refused
 abbrev pub TellsPercentile : Result (Option ℕ) Refusal → Percentile → Percentile → Type 0
-TellsPercentile (Ok p) old new = new ≡ percentile_told p
+TellsPercentile (Ok p) old new = new ≡ percentile_from p
 TellsPercentile (Err e) old new = new ≡ old
 
 abbrev pub numbers_of : Admission → SlotNumbers

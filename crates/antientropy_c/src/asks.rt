@@ -35,10 +35,10 @@ pub extern "C" fn antientropy_outstanding(
     let Some(state) = replica.take(alloc) else {
         return EMPTY;
     };
-    let told = count_of(&state, session);
+    let outcome = count_of(&state, session);
     replica.hold(state);
-    tell_number(&told, count);
-    code(&told)
+    tell_number(&outcome, count);
+    code(&outcome)
 }
 
 /// Counts the nodes that a session has outstanding. Refused: UnknownSession.
@@ -67,9 +67,9 @@ pub extern "C" fn antientropy_ask(
     let Some(state) = replica.take(alloc) else {
         return EMPTY;
     };
-    let told = ask(alloc, &state, session, 0, number);
+    let outcome = ask(alloc, &state, session, 0, number);
     replica.hold(state);
-    hand_out(&told, out, need)
+    hand_out(&outcome, out, need)
 }
 
 /// Writes the message that asks for one of the outstanding nodes of a session, by its place from 0 in the order in which
@@ -92,9 +92,9 @@ pub extern "C" fn antientropy_ask_at(
     let Some(state) = replica.take(alloc) else {
         return EMPTY;
     };
-    let told = ask(alloc, &state, session, place, number);
+    let outcome = ask(alloc, &state, session, place, number);
     replica.hold(state);
-    hand_out(&told, out, need)
+    hand_out(&outcome, out, need)
 }
 
 /// Writes the message that asks for the node that a session has outstanding at a place, with the number of the partner's

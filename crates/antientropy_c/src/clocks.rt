@@ -33,9 +33,9 @@ pub extern "C" fn antientropy_compare(
         (λ n. n ≡ order_between (clock_of (clock_pairs first.now)) (clock_of (clock_pairs second.now)))
         × TellsNumber r order.old order.new) }
 {
-    let told = compare(alloc, first, second);
-    tell_number(&told, order);
-    code(&told)
+    let outcome = compare(alloc, first, second);
+    tell_number(&outcome, order);
+    code(&outcome)
 }
 
 /// Compares two clocks.
@@ -81,8 +81,8 @@ pub extern "C" fn antientropy_merge(
         (λ c. c ≡ merged (clock_of (clock_pairs first.now)) (clock_of (clock_pairs second.now)))
         × NoMemoryAfter (first_fault (pairs_fault (clock_pairs first.now)) (pairs_fault (clock_pairs second.now))) r) }
 {
-    let told = merge(alloc, first, second);
-    hand_clock(&told, out, need)
+    let outcome = merge(alloc, first, second);
+    hand_clock(&outcome, out, need)
 }
 
 /// Merges two clocks.
@@ -100,10 +100,10 @@ fn merge(alloc: Global, first: &[Pair], second: &[Pair]) -> Result<Clock, Refusa
 }
 
 /// Copies out the pairs of a clock, or nothing on error, and returns the number of the outcome.
-fn hand_clock(told: &Result<Clock, Refusal>, out: &mut [Pair], need: &mut u64) -> u32
-    ensures { HandsClock told.now result (need.old, out.old) (need.new, out.new) }
+fn hand_clock(outcome: &Result<Clock, Refusal>, out: &mut [Pair], need: &mut u64) -> u32
+    ensures { HandsClock outcome.now result (need.old, out.old) (need.new, out.new) }
 {
-    match told {
+    match outcome {
         Ok(clock) => copy_pairs(clock.pairs(), out, need),
         Err(refusal) => refusal.number() as u32,
     }

@@ -37,10 +37,10 @@ pub extern "C" fn antientropy_top_counter(
     let Some(state) = replica.take(alloc) else {
         return EMPTY;
     };
-    let told = top_counter(&state, node, key, entries);
+    let outcome = top_counter(&state, node, key, entries);
     replica.hold(state);
-    tell_number(&told, counter);
-    code(&told)
+    tell_number(&outcome, counter);
+    code(&outcome)
 }
 
 /// Returns the greatest counter of a node for a key, over the first entries: 0 for a key that isn't 1 to 255 bytes long,

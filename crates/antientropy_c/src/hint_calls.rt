@@ -118,7 +118,7 @@ pub extern "C" fn antientropy_hint_keep(
     let Some(mut store) = hints.store.take(alloc) else {
         return EMPTY;
     };
-    let told = keep(
+    let outcome = keep(
         alloc,
         &mut store,
         hints.before,
@@ -129,8 +129,8 @@ pub extern "C" fn antientropy_hint_keep(
         value,
     );
     hints.store.hold(store);
-    tell_number(&told, id);
-    code(&told)
+    tell_number(&outcome, id);
+    code(&outcome)
 }
 
 /// Keeps a version for an owner.
@@ -395,9 +395,9 @@ pub extern "C" fn antientropy_hint_confirm(
     let Some(mut store) = hints.store.take(alloc) else {
         return EMPTY;
     };
-    let told = settle(&mut store, hints.before, id, known);
+    let outcome = settle(&mut store, hints.before, id, known);
     hints.store.hold(store);
-    code(&told)
+    code(&outcome)
 }
 
 /// Records that a pending hint was delivered. Refused: UnknownHint.
@@ -421,9 +421,9 @@ pub extern "C" fn antientropy_hints_renew(alloc: Global, hints: &mut Carrier) ->
     let Some(mut store) = hints.store.take(alloc) else {
         return EMPTY;
     };
-    let told = renew(alloc, &mut store, &mut hints.before);
+    let outcome = renew(alloc, &mut store, &mut hints.before);
     hints.store.hold(store);
-    code(&told)
+    code(&outcome)
 }
 
 /// Replaces a store by its renewal, whose numbers begin after the last one that was used.

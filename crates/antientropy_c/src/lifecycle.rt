@@ -84,9 +84,9 @@ pub extern "C" fn antientropy_migrate(alloc: Global, replica: &mut Replica) -> u
     let Some(mut state) = replica.take(alloc) else {
         return EMPTY;
     };
-    let told = state.migrate(alloc);
+    let outcome = state.migrate(alloc);
     replica.hold(state);
-    code(&told)
+    code(&outcome)
 }
 
 /// Frees the replica of a handle, if any.

@@ -61,9 +61,9 @@ pub extern "C" fn antientropy_rows(
     let Some(rows) = publication.take(alloc) else {
         return EMPTY;
     };
-    let told = rows_of(alloc, rows.snapshot(), leaf);
+    let outcome = rows_of(alloc, rows.snapshot(), leaf);
     publication.hold(rows);
-    hand_out(&told, out, need)
+    hand_out(&outcome, out, need)
 }
 
 /// Writes the texts of the rows of a leaf of a snapshot.
@@ -97,10 +97,10 @@ pub extern "C" fn antientropy_load(
     let Some(mut state) = replica.take(alloc) else {
         return EMPTY;
     };
-    let told = state.load_rows(alloc, 0, rows);
+    let outcome = state.load_rows(alloc, 0, rows);
     replica.hold(state);
-    tell_loaded(&told, loaded);
-    code(&told)
+    tell_loaded(&outcome, loaded);
+    code(&outcome)
 }
 
 /// Loads rows of a format, of any leaves, from their texts, as
@@ -126,10 +126,10 @@ pub extern "C" fn antientropy_load_format(
     let Some(mut state) = replica.take(alloc) else {
         return EMPTY;
     };
-    let told = load_format(alloc, &mut state, format, rows);
+    let outcome = load_format(alloc, &mut state, format, rows);
     replica.hold(state);
-    tell_loaded(&told, loaded);
-    code(&told)
+    tell_loaded(&outcome, loaded);
+    code(&outcome)
 }
 
 /// Loads rows of the format of a number.
@@ -162,10 +162,10 @@ fn is_newer(rows: Format, replica: Format) -> bool
 }
 
 /// Stores the counts of a load, or the offset of a broken field.
-fn tell_loaded(told: &Result<Loaded, Refusal>, receipt: &mut LoadReceipt)
-    ensures { TellsLoaded told.now receipt.old receipt.new }
+fn tell_loaded(outcome: &Result<Loaded, Refusal>, receipt: &mut LoadReceipt)
+    ensures { TellsLoaded outcome.now receipt.old receipt.new }
 {
-    match told {
+    match outcome {
         Ok(Loaded { taken, known }) => {
             *receipt = LoadReceipt {
                 taken: *taken,

@@ -17,10 +17,10 @@ pub(crate) const HELD: u32 = 35;
 pub(crate) const NO_VERSION: u32 = 36;
 
 /// Returns 0, or the number of a refusal.
-pub(crate) fn code<T>(told: &Result<T, Refusal>) -> u32
-    ensures { result ≡ code_of told.now }
+pub(crate) fn code<T>(outcome: &Result<T, Refusal>) -> u32
+    ensures { result ≡ code_of outcome.now }
 {
-    match told {
+    match outcome {
         Ok(_) => 0,
         Err(refusal) => refusal.number() as u32,
     }

@@ -32,9 +32,9 @@ pub struct OfferParts {
 pub extern "C" fn antientropy_read_offer(alloc: Global, offer: &[u8], parts: &mut OfferParts) -> u32
     ensures { Returns result (λ (r : Result Offer Refusal). Reads offer.now (IsOffer r) × TellsParts r parts.old parts.new) }
 {
-    let told = read_offer(alloc, offer);
-    tell_parts(&told, parts);
-    code(&told)
+    let outcome = read_offer(alloc, offer);
+    tell_parts(&outcome, parts);
+    code(&outcome)
 }
 
 /// Reads the bytes of an offer.
@@ -58,10 +58,10 @@ fn offer_in(decoded: Result<Message, Refusal>) -> Result<Offer, Refusal>
 }
 
 /// Stores the parts of an offer, if it was not refused.
-fn tell_parts(told: &Result<Offer, Refusal>, parts: &mut OfferParts)
-    ensures { TellsParts told.now parts.old parts.new }
+fn tell_parts(outcome: &Result<Offer, Refusal>, parts: &mut OfferParts)
+    ensures { TellsParts outcome.now parts.old parts.new }
 {
-    if let Ok(offer) = told {
+    if let Ok(offer) = outcome {
         *parts = OfferParts {
             number: u64::from(offer.offer),
             format: u64::from(offer.format),

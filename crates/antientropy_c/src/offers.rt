@@ -116,9 +116,9 @@ pub extern "C" fn antientropy_offer(
     let Some(rows) = publication.take(alloc) else {
         return EMPTY;
     };
-    let told = offer(alloc, rows.snapshot(), number);
+    let outcome = offer(alloc, rows.snapshot(), number);
     publication.hold(rows);
-    hand_out(&told, out, need)
+    hand_out(&outcome, out, need)
 }
 
 /// Writes the message of the offer of a snapshot.
@@ -150,9 +150,9 @@ pub extern "C" fn antientropy_serve(
     let Some(rows) = publication.take(alloc) else {
         return EMPTY;
     };
-    let told = serve(alloc, rows.snapshot(), number, ask);
+    let outcome = serve(alloc, rows.snapshot(), number, ask);
     publication.hold(rows);
-    hand_out(&told, out, need)
+    hand_out(&outcome, out, need)
 }
 
 /// Answers the bytes of an ask from a snapshot.

@@ -7,10 +7,10 @@ use tree_nodes::Text;
 use vclock::Refusal;
 
 /// Copies out the bytes of a result, or nothing on error, and returns the number of the outcome.
-pub(crate) fn hand_out(told: &Result<Text, Refusal>, out: &mut [u8], need: &mut u64) -> u32
-    ensures { HandsOut told.now result (need.old, out.old) (need.new, out.new) }
+pub(crate) fn hand_out(outcome: &Result<Text, Refusal>, out: &mut [u8], need: &mut u64) -> u32
+    ensures { HandsOut outcome.now result (need.old, out.old) (need.new, out.new) }
 {
-    match told {
+    match outcome {
         Ok(bytes) => copy_out(bytes.as_slice(), out, need),
         Err(refusal) => refusal.number() as u32,
     }

@@ -60,10 +60,10 @@ pub extern "C" fn antientropy_put(
         return EMPTY;
     };
     let test = ContextTest::Fresh;
-    let told = put(alloc, &mut state, test, node, key, context, kind, value);
+    let outcome = put(alloc, &mut state, test, node, key, context, kind, value);
     replica.hold(state);
-    tell_put(&told, node, receipt);
-    code(&told)
+    tell_put(&outcome, node, receipt);
+    code(&outcome)
 }
 
 /// Puts a value, or a tombstone, for a key at a node, as [`antientropy_put`] does, if its client has read all that the
@@ -96,10 +96,10 @@ pub extern "C" fn antientropy_put_read(
         return EMPTY;
     };
     let test = ContextTest::Read;
-    let told = put(alloc, &mut state, test, node, key, context, kind, value);
+    let outcome = put(alloc, &mut state, test, node, key, context, kind, value);
     replica.hold(state);
-    tell_put(&told, node, receipt);
-    code(&told)
+    tell_put(&outcome, node, receipt);
+    code(&outcome)
 }
 
 /// Puts a value into a replica, by a test of its context.
@@ -164,10 +164,10 @@ pub extern "C" fn antientropy_accept(
     let Some(mut state) = replica.take(alloc) else {
         return EMPTY;
     };
-    let told = accept(alloc, &mut state, key, clock, kind, value);
+    let outcome = accept(alloc, &mut state, key, clock, kind, value);
     replica.hold(state);
-    tell_accepted(&told, taken);
-    code(&told)
+    tell_accepted(&outcome, taken);
+    code(&outcome)
 }
 
 /// Accepts a version into a replica, as [`antientropy_accept`] does.
@@ -191,11 +191,11 @@ fn accept(
 }
 
 /// Stores the receipt of a put, if it was not refused.
-fn tell_put(told: &Result<Receipt, Refusal>, node: u64, receipt: &mut PutReceipt)
-    requires { OnOk told.now (node ≤ 65535) }
-    ensures { TellsPut node told.now receipt.old receipt.new }
+fn tell_put(outcome: &Result<Receipt, Refusal>, node: u64, receipt: &mut PutReceipt)
+    requires { OnOk outcome.now (node ≤ 65535) }
+    ensures { TellsPut node outcome.now receipt.old receipt.new }
 {
-    if let Ok(entry) = told {
+    if let Ok(entry) = outcome {
         *receipt = PutReceipt {
             number: entry.number,
             counter: entry.version.clock.get(node as u16),
@@ -204,10 +204,10 @@ fn tell_put(told: &Result<Receipt, Refusal>, node: u64, receipt: &mut PutReceipt
 }
 
 /// Stores 1 if a version was accepted and 0 if it was known, if it was not refused.
-fn tell_accepted(told: &Result<Accepted, Refusal>, taken: &mut u64)
-    ensures { TellsAccepted told.now taken.old taken.new }
+fn tell_accepted(outcome: &Result<Accepted, Refusal>, taken: &mut u64)
+    ensures { TellsAccepted outcome.now taken.old taken.new }
 {
-    match told {
+    match outcome {
         Ok(Accepted::Taken(_)) => *taken = 1,
         Ok(Accepted::Known) => *taken = 0,
         Err(_) => {}

@@ -35,9 +35,9 @@ pub extern "C" fn antientropy_get(
     let Some(state) = replica.take(alloc) else {
         return EMPTY;
     };
-    let told = row(alloc, &state, key);
+    let outcome = row(alloc, &state, key);
     replica.hold(state);
-    hand_out(&told, out, need)
+    hand_out(&outcome, out, need)
 }
 
 /// Writes the text of the row of a key.

@@ -41,10 +41,10 @@ pub extern "C" fn antientropy_open(
     let Some(mut state) = replica.take(alloc) else {
         return EMPTY;
     };
-    let told = open(alloc, &mut state, partner, offer);
+    let outcome = open(alloc, &mut state, partner, offer);
     replica.hold(state);
-    tell_number(&told, session);
-    code(&told)
+    tell_number(&outcome, session);
+    code(&outcome)
 }
 
 /// Opens a session by the bytes of an offer, if the partner's number isn't over 65,535.
@@ -88,10 +88,10 @@ fn open_decoded(
 }
 
 /// Stores a number, if there was no refusal.
-pub(crate) fn tell_number(told: &Result<u64, Refusal>, out: &mut u64)
-    ensures { TellsNumber told.now out.old out.new }
+pub(crate) fn tell_number(outcome: &Result<u64, Refusal>, out: &mut u64)
+    ensures { TellsNumber outcome.now out.old out.new }
 {
-    if let Ok(number) = told {
+    if let Ok(number) = outcome {
         *out = *number;
     }
 }
@@ -131,10 +131,10 @@ pub extern "C" fn antientropy_take(
     let Some(mut state) = replica.take(alloc) else {
         return EMPTY;
     };
-    let told = take(alloc, &mut state, session, number, answer);
+    let outcome = take(alloc, &mut state, session, number, answer);
     replica.hold(state);
-    tell_taken(&told, receipt);
-    code(&told)
+    tell_taken(&outcome, receipt);
+    code(&outcome)
 }
 
 /// Takes the bytes of an answer.
@@ -207,10 +207,10 @@ fn has(nodes: &[NodeAt], node: NodeAt) -> bool
 }
 
 /// Stores the receipt of an answer, if it was not refused.
-fn tell_taken(told: &Result<AnswerTaken, Refusal>, receipt: &mut TakenReceipt)
-    ensures { TellsTaken told.now receipt.old receipt.new }
+fn tell_taken(outcome: &Result<AnswerTaken, Refusal>, receipt: &mut TakenReceipt)
+    ensures { TellsTaken outcome.now receipt.old receipt.new }
 {
-    if let Ok(taken) = told {
+    if let Ok(taken) = outcome {
         *receipt = TakenReceipt {
             accepted: taken.receipts.len() as u64,
             known: taken.known,
@@ -241,9 +241,9 @@ pub extern "C" fn antientropy_cancel(alloc: Global, replica: &mut Replica, sessi
     let Some(mut state) = replica.take(alloc) else {
         return EMPTY;
     };
-    let told = state.cancel_session(session);
+    let outcome = state.cancel_session(session);
     replica.hold(state);
-    code(&told)
+    code(&outcome)
 }
 
 /// Stores the state of a session: 0 open, 1 finished, 2 failed, 3 cancelled. Refused, in order: EMPTY, UnknownSession.
@@ -262,10 +262,10 @@ pub extern "C" fn antientropy_session(
     let Some(state) = replica.take(alloc) else {
         return EMPTY;
     };
-    let told = standing_of(&state, session);
+    let outcome = standing_of(&state, session);
     replica.hold(state);
-    tell_number(&told, standing);
-    code(&told)
+    tell_number(&outcome, standing);
+    code(&outcome)
 }
 
 /// Returns the number of a session's state. Refused: UnknownSession.

@@ -7,7 +7,7 @@ ghost use Rattle.admission.specs.Admission.{fresh_admission, lend, give_back, sa
 ghost use Rattle.antientropy_c.specs.Calls.{CallsOn};
 ghost use Rattle.antientropy_c.specs.Makes.{MakesIn, Takes};
 ghost use Rattle.antientropy_c.specs.Numbers.{Returns};
-ghost use Rattle.antientropy_c.specs.SlotCalls.{slots_in, bounds_fault, set_target, percentile_told, TellsPercentile, numbers_of};
+ghost use Rattle.antientropy_c.specs.SlotCalls.{slots_in, bounds_fault, set_target, percentile_from, TellsPercentile, numbers_of};
 
 use crate::numbers::{EMPTY, HELD, code};
 use crate::slots::Slots;
@@ -114,9 +114,9 @@ pub extern "C" fn antientropy_slot_lend(alloc: Global, slots: &mut Slots) -> u32
     let Some(mut budget) = slots.take(alloc) else {
         return EMPTY;
     };
-    let told = budget.lend();
+    let outcome = budget.lend();
     slots.hold(budget);
-    code(&told)
+    code(&outcome)
 }
 
 /// Takes a slot back. Refused, in order: EMPTY, NoSlot (none is lent).
@@ -130,9 +130,9 @@ pub extern "C" fn antientropy_slot_give_back(alloc: Global, slots: &mut Slots) -
     let Some(mut budget) = slots.take(alloc) else {
         return EMPTY;
     };
-    let told = budget.give_back();
+    let outcome = budget.give_back();
     slots.hold(budget);
-    code(&told)
+    code(&outcome)
 }
 
 /// Records the latency of a reply of the foreground, in microseconds, with its moment in milliseconds. Refused, in order:
@@ -151,9 +151,9 @@ pub extern "C" fn antientropy_slots_sample(
     let Some(mut budget) = slots.take(alloc) else {
         return EMPTY;
     };
-    let told = budget.sample(moment, micros);
+    let outcome = budget.sample(moment, micros);
     slots.hold(budget);
-    code(&told)
+    code(&outcome)
 }
 
 /// Sets the target by the samples of the last 60,000 milliseconds, and stores their 99th percentile. Refused, in order:
@@ -173,24 +173,24 @@ pub extern "C" fn antientropy_slots_adjust(
     let Some(mut budget) = slots.take(alloc) else {
         return EMPTY;
     };
-    let told = budget.adjust(now);
+    let outcome = budget.adjust(now);
     slots.hold(budget);
-    tell_percentile(&told, percentile);
-    code(&told)
+    tell_percentile(&outcome, percentile);
+    code(&outcome)
 }
 
 /// Stores a percentile, if the adjustment was not refused.
-fn tell_percentile(told: &Result<Option<u32>, Refusal>, percentile: &mut Percentile)
-    ensures { TellsPercentile told.now percentile.old percentile.new }
+fn tell_percentile(outcome: &Result<Option<u32>, Refusal>, percentile: &mut Percentile)
+    ensures { TellsPercentile outcome.now percentile.old percentile.new }
 {
-    if let Ok(found) = told {
+    if let Ok(found) = outcome {
         *percentile = percentile_of(*found);
     }
 }
 
 /// Returns a percentile in the form that C has.
 fn percentile_of(found: Option<u32>) -> Percentile
-    ensures { result ≡ percentile_told found }
+    ensures { result ≡ percentile_from found }
 {
     match found {
         Some(micros) => Percentile {
@@ -216,9 +216,9 @@ pub extern "C" fn antientropy_slots_set_target(alloc: Global, slots: &mut Slots,
     let Some(mut budget) = slots.take(alloc) else {
         return EMPTY;
     };
-    let told = set_target(&mut budget, target);
+    let outcome = set_target(&mut budget, target);
     slots.hold(budget);
-    code(&told)
+    code(&outcome)
 }
 
 /// Sets the target, if it is within the bounds.

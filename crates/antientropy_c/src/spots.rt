@@ -30,9 +30,9 @@ pub extern "C" fn antientropy_place(format: u64, bits: u64, key: &[u8], spot: &m
     ensures { Returns result (λ (r : Result Spot Refusal). (r ≡ spot_of (format_of format) bits key.now)
         × TellsSpot r spot.old spot.new) }
 {
-    let told = spot_of(format, bits, key);
-    tell_spot(&told, spot);
-    code(&told)
+    let outcome = spot_of(format, bits, key);
+    tell_spot(&outcome, spot);
+    code(&outcome)
 }
 
 /// Returns the range and the leaf of a key. Refused, in order: BadRing, BadKey.
@@ -52,10 +52,10 @@ fn spot_of(format: u64, bits: u64, key: &[u8]) -> Result<Spot, Refusal>
 }
 
 /// Stores the range and the leaf of a key, if they were not refused.
-fn tell_spot(told: &Result<Spot, Refusal>, spot: &mut Spot)
-    ensures { TellsSpot told.now spot.old spot.new }
+fn tell_spot(outcome: &Result<Spot, Refusal>, spot: &mut Spot)
+    ensures { TellsSpot outcome.now spot.old spot.new }
 {
-    if let Ok(found) = told {
+    if let Ok(found) = outcome {
         *spot = *found;
     }
 }

@@ -25,9 +25,9 @@ pub extern "C" fn antientropy_rehash(alloc: Global, replica: &mut Replica) -> u3
     let Some(mut state) = replica.take(alloc) else {
         return EMPTY;
     };
-    let told = rehash(alloc, &mut state);
+    let outcome = rehash(alloc, &mut state);
     replica.hold(state);
-    code(&told)
+    code(&outcome)
 }
 
 /// Hashes every dirty node of a replica.
@@ -55,10 +55,10 @@ pub extern "C" fn antientropy_rehash_some(
     let Some(mut state) = replica.take(alloc) else {
         return EMPTY;
     };
-    let told = rehash_some(alloc, &mut state, most);
+    let outcome = rehash_some(alloc, &mut state, most);
     replica.hold(state);
-    tell_number(&told, left);
-    code(&told)
+    tell_number(&outcome, left);
+    code(&outcome)
 }
 
 /// Hashes at most `most` of the dirty nodes whose children are clean, and returns the number of nodes that are dirty

@@ -40,7 +40,8 @@ fn make_all(
     alloc: Global,
     plan: CallPlan,
 ) -> Result<Paces, Fault> {
-    let (mut first, mut second) = (new_range(alloc)?, new_range(alloc)?);
+    let format = plan.shape.format;
+    let (mut first, mut second) = (new_range(alloc, format)?, new_range(alloc, format)?);
     make_calls(rt, alloc, plan, &mut first, &mut second)
 }
 
@@ -52,14 +53,14 @@ fn make_calls(
     first: &mut RangeState,
     second: &mut RangeState,
 ) -> Result<Paces, Fault> {
-    let (keys, last) = (plan.keys, plan.last_round());
+    let last = plan.last_round();
     let mut paces = Paces::default();
-    paces.puts = Phase::Puts(Round::First).time(rt, alloc, first, keys)?;
-    paces.gets = Phase::Gets.time(rt, alloc, first, keys)?;
+    paces.puts = Phase::Puts(Round::First).time(rt, alloc, first, plan)?;
+    paces.gets = Phase::Gets.time(rt, alloc, first, plan)?;
     if last == Round::Second {
-        paces.rewrites = Phase::Puts(last).time(rt, alloc, first, keys)?;
+        paces.rewrites = Phase::Puts(last).time(rt, alloc, first, plan)?;
     }
-    paces.accepts = Phase::Accepts(last).time(rt, alloc, second, keys)?;
+    paces.accepts = Phase::Accepts(last).time(rt, alloc, second, plan)?;
     rehash(rt, alloc, first)?;
     rehash(rt, alloc, second)?;
     run_turns(rt, alloc, plan, first, second, &mut paces)?;

@@ -17,7 +17,7 @@ pub(crate) enum Fault {
     #[error("a key that was put is not held")]
     NotHeld,
     /// A sync did more or less than take one key.
-    #[error("a sync did not take one key by three asks")]
+    #[error("a sync did not take one key by an ask at each depth")]
     NotOneKey,
     /// A thread did not begin, or ended too early.
     #[error("the threads did not start together")]

@@ -4,9 +4,14 @@
 //!   `snapshots KEYS migrate` migrates it to format 2 (`bench/snapshot`).
 //! - `reconciles KEYS DIFFER TURNS` makes two replicas with the same KEYS keys. In each turn it gives each replica
 //!   DIFFER keys that the other lacks, and reconciles them (`bench/reconcile`).
-//! - `calls [KEYS]` makes the calls of a range in one thread (`bench/calls`).
-//! - `threads KEYS THREADS one|each` puts keys into ranges that threads share, and gets them again (`bench/threads`).
+//! - `calls [KEYS [KEY_BYTES VALUE_BYTES [FORMAT]]]` makes the calls of a range in one thread (`bench/calls`).
+//! - `threads KEYS THREADS one|each [KEY_BYTES VALUE_BYTES [FORMAT]]` puts keys into ranges that threads share, and
+//!   gets them again (`bench/threads`).
 //! - `storms PUTS beside|alone` runs a storm (`bench/storm`).
+//!
+//! KEY_BYTES is 0 to 255. Keys of 0 bytes, the default, are `key-N`. Others have at least 13 bytes and are in no order:
+//! `user:` and 16 hexadecimal digits, cut or filled up with `z`. VALUE_BYTES is 32 by default, and at most 4,096, or
+//! 65,536 in format 2. FORMAT is 1 by default.
 //!
 //! Standard output says what was done. The figures, except those of snapshots, are a line of JSON on standard error.
 #![tactic(auto)]
@@ -36,7 +41,8 @@ use threads::plan::ThreadPlan;
 /// The usage lines.
 const USAGE: &str =
     "usage: bench_costs snapshots KEYS COUNT|migrate\n       bench_costs reconciles KEYS DIFFER TURNS\n       \
-                     bench_costs calls [KEYS]\n       bench_costs threads KEYS THREADS one|each\n       \
+                     bench_costs calls [KEYS [KEY_BYTES VALUE_BYTES [FORMAT]]]\n       \
+                     bench_costs threads KEYS THREADS one|each [KEY_BYTES VALUE_BYTES [FORMAT]]\n       \
                      bench_costs storms PUTS beside|alone";
 
 /// A measurement.

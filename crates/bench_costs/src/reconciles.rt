@@ -69,8 +69,8 @@ fn do_turns(
     for _ in 0..plan.turns {
         pair.part(rt, alloc, plan.differ)?;
         let from = Instant::now(rt)?;
-        let told = pair.reconcile(alloc)?;
-        done.count(&told, Instant::now(rt)?.duration_since(from));
+        let report = pair.reconcile(alloc)?;
+        done.count(&report, Instant::now(rt)?.duration_since(from));
         done.leaves = done.leaves.wrapping_add(pair.leaves());
     }
     Ok(done)
@@ -87,11 +87,11 @@ fn tell(rt: &(impl Print + Eprint), done: &Done) -> io::Result<()> {
 
 impl Done {
     /// Adds a turn.
-    fn count(&mut self, told: &Reconciled, took: Duration) {
-        for asked in [told.asked_a, told.asked_b] {
+    fn count(&mut self, report: &Reconciled, took: Duration) {
+        for asked in [report.asked_a, report.asked_b] {
             self.asked = self.asked.wrapping_add(asked);
         }
-        for accepted in [told.accepted_a, told.accepted_b] {
+        for accepted in [report.accepted_a, report.accepted_b] {
             self.accepted = self.accepted.wrapping_add(accepted);
         }
         self.nanos = self.nanos.wrapping_add(took.as_nanos());

@@ -5,7 +5,7 @@ use range_state::RangeState;
 use std::alloc::Global;
 use std::io;
 use std::thread::Threads;
-use vclock::Refusal;
+use vclock::{Format, Refusal};
 
 /// The plan of the work.
 #[derive(Clone, Copy)]
@@ -80,7 +80,7 @@ fn clean_range(
     alloc: Global,
     keys: u64,
 ) -> Result<RangeState, Refusal> {
-    let mut state = new_range(alloc)?;
+    let mut state = new_range(alloc, Format::One)?;
     for number in 0..keys {
         accept(alloc, &mut state, number)?;
     }

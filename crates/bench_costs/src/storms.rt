@@ -9,7 +9,7 @@ use std::io;
 use std::sync::Wait;
 use std::thread::Threads;
 use std::time::{Clock, Duration, Instant};
-use storm::{MOST_PUTS, StormEnd, Tallies, run_storm};
+use storm::{PUTS_MAX, StormEnd, Tallies, run_storm};
 use watch::Watch;
 
 /// The time when the rehash and sync workers run.
@@ -39,7 +39,7 @@ impl StormPlan {
         };
         let puts = puts.parse::<u64>().ok()?;
         let workers = Workers::of_word(workers)?;
-        if 1 <= puts && puts <= MOST_PUTS {
+        if 1 <= puts && puts <= PUTS_MAX {
             Some(StormPlan { puts, workers })
         } else {
             None
@@ -80,7 +80,7 @@ fn time_storm<R: Threads + Wait + Clock + Sync>(
     tallies: &Tallies,
 ) -> Result<(StormEnd, Duration), Fault> {
     let start = Instant::now(rt)?;
-    let end = run_storm(rt, alloc, plan.puts.min(MOST_PUTS), watch, tallies)?;
+    let end = run_storm(rt, alloc, plan.puts.min(PUTS_MAX), watch, tallies)?;
     Ok((end, start.elapsed(rt)?))
 }
 

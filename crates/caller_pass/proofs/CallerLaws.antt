@@ -148,16 +148,16 @@ in_filter p (y ∷ ys) x has test = elim (contains_cons y ys x has) [
   ]
 ]
 
-pub each_entry_told : (seats : ℕ) (l : Locked) (passes : List PassView) → IsLocked seats l → AllThere seats passes → All (IsSettled l.state.store.entries) passes → (e : Entry) → Contains l.state.store.entries e → Any (λ (p : PassView). Contains p.receipts e) passes
-each_entry_told seats l passes ok there settled e has =
+pub each_entry_kept : (seats : ℕ) (l : Locked) (passes : List PassView) → IsLocked seats l → AllThere seats passes → All (IsSettled l.state.store.entries) passes → (e : Entry) → Contains l.state.store.entries e → Any (λ (p : PassView). Contains p.receipts e) passes
+each_entry_kept seats l passes ok there settled e has =
     let seat : e.seat < seats = subst (λ (x : Entry). x.seat < seats) has.2 (All-from_recursion (λ (x : Entry). x.seat < seats) l.state.store.entries ok.seated has.0 e has.1) in
     let pass = there e.seat seat in
     let p : PassView = pass.0 in
     let at = pass.1 in
     let is : IsSettled l.state.store.entries p = subst (IsSettled l.state.store.entries) at.2 (settled at.0 p at.1) in
     let mine : nat_eq e.seat p.seat ≡ true = eq-eqb e.seat p.seat (sym pass.2) in
-    let told : Contains p.receipts e = subst (λ (xs : List Entry). Contains xs e) (sym is.receipts) (in_filter (λ (x : Entry). nat_eq x.seat p.seat) l.state.store.entries e has mine) in
-    (at.0, p, at.1, at.2, told)
+    let shown : Contains p.receipts e = subst (λ (xs : List Entry). Contains xs e) (sym is.receipts) (in_filter (λ (x : Entry). nat_eq x.seat p.seat) l.state.store.entries e has mine) in
+    (at.0, p, at.1, at.2, shown)
 
 -- ---- new passes
 

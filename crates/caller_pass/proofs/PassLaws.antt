@@ -17,8 +17,8 @@ all_below : (rs : List Reading) (m n : ℕ) → m ≤ n → AllByRecursion (λ (
 all_below [] m n le all = tt
 all_below (r ∷ rs) m n le all = (omega (arith, all.0, le), all_below rs m n le all.1)
 
-pub pass_told : (n : ℕ) (p : PassView) (journal : ℕ) (es : List Entry) → IsPass n p → IsPass n (with_receipts p journal es)
-pass_told n p journal es ok = record {
+pub pass_grown : (n : ℕ) (p : PassView) (journal : ℕ) (es : List Entry) → IsPass n p → IsPass n (with_receipts p journal es)
+pass_grown n p journal es ok = record {
   seated = ok.seated;
   counted = omega (arith, ok.counted, length-append p.receipts es);
   in_order = ok.in_order;
@@ -29,7 +29,7 @@ pass_told n p journal es ok = record {
 pub pass_after : (n : ℕ) (p : PassView) (journal seen share : ℕ) (receipts es : List Entry) → IsPass n p → seen ≡ seen_after p.seen journal (length es) → share ≡ p.share + length es → receipts ≡ p.receipts ++ es
     → IsPass n (record p { seen = seen; share = share; receipts = receipts })
 pass_after n p journal seen share receipts es ok seen_is share_is receipts_are =
-    subst (IsPass n) (λ i. record p { seen = sym seen_is i; share = sym share_is i; receipts = sym receipts_are i }) (pass_told n p journal es ok)
+    subst (IsPass n) (λ i. record p { seen = sym seen_is i; share = sym share_is i; receipts = sym receipts_are i }) (pass_grown n p journal es ok)
 
 in_order_push : (rs : List Reading) (r : Reading) → AreInOrder rs → AllByRecursion (λ (s : Reading). s.front ≤ r.front) rs → AreInOrder (rs ++ r ∷ [])
 in_order_push [] r ordered below = (tt, tt)

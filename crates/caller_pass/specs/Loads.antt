@@ -5,12 +5,12 @@ use Rattle.row_bytes.specs.declared.row.Row.{Row}
 use Rattle.range_store.specs.declared.store.loading.Loaded.{Loaded}
 use Rattle.range_state.specs.Loads.{load, load_text}
 use Rattle.range_state.specs.State.{State}
-use Rattle.caller_pass.specs.Locks.{Locked, told}
+use Rattle.caller_pass.specs.Locks.{Locked, recorded}
 use Rattle.caller_pass.specs.Passes.{PassView}
 
 -- range and pass after a load: the pass gets the receipts of the new entries
 abbrev pub after_load : Locked → PassView → State → Locked × PassView
-after_load l p s = told l p s (drop (length l.state.store.entries) s.store.entries)
+after_load l p s = recorded l p s (drop (length l.state.store.entries) s.store.entries)
 
 -- rows of one leaf, loaded for the pass
 abbrev pub load_in : Locked → PassView → List Row → Outcome Loaded (Locked × PassView)

@@ -22,7 +22,7 @@ use Rattle.range_store.specs.declared.context_test.ContextTest.TheVariants.{Fres
 use Rattle.range_state.specs.State.{State, IsRight, put_by, accept}
 use Rattle.range_state.specs.Sessions.{TakesAnswer}
 use Rattle.range_state.specs.Syncs.{IsFirstOf}
-use Rattle.range_state.specs.Told.{count_of}
+use Rattle.range_state.specs.Receipts.{count_of}
 use Rattle.caller_pass.specs.Passes.{PassView, BookView, counted, with_receipts, with_reading}
 
 -- a range and its book
@@ -42,14 +42,14 @@ abbrev pub moved : Locked → State → Locked
 moved l s = record l { state = s }
 
 -- the range with another state that has these new entries, and the pass with their receipts
-abbrev pub told : Locked → PassView → State → List Entry → Locked × PassView
-told l p s es = (record { state = s; book = counted l.book (length es) }, with_receipts p (length s.store.entries) es)
+abbrev pub recorded : Locked → PassView → State → List Entry → Locked × PassView
+recorded l p s es = (record { state = s; book = counted l.book (length es) }, with_receipts p (length s.store.entries) es)
 
 -- a put by the pass, by a test of its context: the pass gets the receipt
 abbrev pub put_in_by : ContextTest → Locked → PassView → ℕ → List ℕ → Pairs → Kind → List ℕ → Outcome Entry (Locked × PassView)
 put_in_by test l p at key context kind value = do
   entry ← put_by test l.state p.seat at key context kind value
-  gives entry.0 (told l p entry.1 (entry.0 ∷ []))
+  gives entry.0 (recorded l p entry.1 (entry.0 ∷ []))
 
 -- a put by the pass
 abbrev pub put_in : Locked → PassView → ℕ → List ℕ → Pairs → Kind → List ℕ → Outcome Entry (Locked × PassView)
@@ -61,7 +61,7 @@ put_read_in l p at key context kind value = put_in_by Read l p at key context ki
 
 -- range and pass after a version of another node: the pass gets the receipt if it was accepted
 abbrev pub after_sent : Locked → PassView → Accepted → State → Locked × PassView
-after_sent l p (Taken e) s = told l p s (e ∷ [])
+after_sent l p (Taken e) s = recorded l p s (e ∷ [])
 after_sent l p Known s = (l, p)
 
 -- a version of another node, accepted for the pass
@@ -105,16 +105,16 @@ plainly (Ok x) = Ok x
 plainly (Err u) = Err u.refusal
 
 -- a text was taken: the book counts its receipts, and the pass has them
-pub record IsToldOf (l : Locked) (p : PassView) (id : ℕ) (t : TakenText) (a : AnswerCounted) (m : Locked) (q : PassView) : Type 0 where
+pub record IsRecorded (l : Locked) (p : PassView) (id : ℕ) (t : TakenText) (a : AnswerCounted) (m : Locked) (q : PassView) : Type 0 where
   pub taken : AnswerTaken
   pub takes : TakesAnswer l.state p.seat id t (Ok taken) m.state
   pub count : a ≡ count_of taken
-  pub range : m ≡ (told l p m.state taken.receipts.items).0
-  pub pass : q ≡ (told l p m.state taken.receipts.items).1
+  pub range : m ≡ (recorded l p m.state taken.receipts.items).0
+  pub pass : q ≡ (recorded l p m.state taken.receipts.items).1
 
 -- the result of a partner's text for a session, and range and pass afterwards
 abbrev pub TellsAnswer : Locked → PassView → ℕ → TakenText → Result AnswerCounted Refusal → Locked → PassView → Type 0
-TellsAnswer l p id t (Ok a) m q = IsToldOf l p id t a m q
+TellsAnswer l p id t (Ok a) m q = IsRecorded l p id t a m q
 TellsAnswer l p id t (Err e) m q = TakesAnswer l.state p.seat id t (Err e) m.state × (m ≡ moved l m.state) × (q ≡ p)
 
 -- the first outstanding node of a session, which is known

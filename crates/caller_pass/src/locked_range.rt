@@ -1,9 +1,11 @@
 //! The range that a lock keeps.
 ghost use Rattle.std.specs.Prelude.{◌≡◌, ◌≤◌, [], None, IfErr, IsTrue, MatchOption, slice_get};
-ghost use Rattle.vclock.specs.Answer.{AnswersAtOnce};
+ghost use Rattle.std.specs.Arc.{arc_value};
+ghost use Rattle.vclock.specs.Answer.{Answers, AnswersAtOnce};
+ghost use Rattle.range_tree.specs.Jobs.{GivesJob};
 ghost use Rattle.vclock.specs.Outcome.{Does, DoesAtOnce, DoesOrNoMemory, through};
 ghost use Rattle.range_state.specs.Counts.{counts_of};
-ghost use Rattle.range_store.specs.Store.{is_sent, ask_fault};
+ghost use Rattle.range_store.specs.Store.{is_sent, ask_fault, dirty_fault, rows_now, tree_in};
 ghost use Rattle.range_state.specs.State.{install};
 ghost use Rattle.range_state.specs.Sessions.{open_session, cancel_session, unknown_fault};
 ghost use Rattle.range_state.specs.Migrates.{migrate};
@@ -23,8 +25,11 @@ use range_state::{
     Record,
 };
 use range_store::RangeStore;
+use rehash::Job;
+use snapshot::Snapshot;
 use std::alloc::Global;
 use std::marker::Model;
+use std::sync::Arc;
 use std::sync::ledger::Ledger;
 use tree_nodes::{Hashed, NodeAt};
 use vclock::{Bytes, Clock, Refusal};
@@ -151,7 +156,7 @@ impl<L: Ledger> LockedRange<L> {
         let seat = pass.seat;
         let receipt = state.put_into(alloc, receipts, test, seat, at, key, context, kind, value)?;
         pass.by_key.note(receipts, key.front());
-        book.count(&mut pass.share, &mut pass.seen, state.journal(), 1);
+        book.count(&mut pass.share, &mut pass.seen, state.store().journal(), 1);
         Ok(receipt)
     }
 
@@ -265,6 +270,13 @@ impl<L: Ledger> LockedRange<L> {
         Ok(versions)
     }
 
+    /// Returns a job for a node, as `RangeState::take_job` does. Refused: NoMemory.
+    pub fn take_job(&self, alloc: Global, skip: u64) -> Result<Option<Job>, Refusal>
+        ensures { Answers result None (GivesJob (tree_in self.now.state.store)) }
+    {
+        self.state.take_job(alloc, skip)
+    }
+
     /// Installs the digest of a text at a node, as `RangeState::install` does. Doesn't allocate. Refused: Stale.
     pub fn install(&mut self, node: NodeAt, hashed: &Hashed) -> Result<(), Refusal>
         ensures { DoesAtOnce result self.old self.new
@@ -273,6 +285,14 @@ impl<L: Ledger> LockedRange<L> {
         let installed = self.state.install(node, hashed);
         let _right = self.state.journal();
         installed
+    }
+
+    /// Makes a snapshot, as `RangeState::snapshot` does. Refused, in order: Dirty, NoMemory.
+    pub fn snapshot(&self, alloc: Global) -> Result<Arc<Snapshot, Global>, Refusal>
+        ensures { Answers result (dirty_fault self.now.state.store)
+            (λ snapshot. arc_value snapshot ≡ rows_now self.now.state.store) }
+    {
+        self.state.snapshot(alloc)
     }
 
     /// Opens a session with a partner's offer, as `RangeState::open_session` does, and returns its number. Refused as

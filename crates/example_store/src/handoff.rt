@@ -9,7 +9,7 @@ use vclock::{Bytes, Refusal};
 use version_set::Version;
 
 /// The maximum number of hints that a round delivers.
-const MOST_HINTS: u64 = 1_000;
+const HINTS_MAX: u64 = 1_000;
 
 /// The state of a node, as the store's failure detector sees it.
 #[derive(Clone, Copy)]
@@ -55,7 +55,7 @@ impl<A: Ledger> Replica<A> {
         let slot = slots.lend(rt)?;
         let (hints, range, pass) = (&self.hints, &other.range, &mut other.peer);
         let owner = range.node();
-        let report = deliver(rt, alloc, &slot, hints, range, pass, owner, MOST_HINTS);
+        let report = deliver(rt, alloc, &slot, hints, range, pass, owner, HINTS_MAX);
         slots.give_back(rt, slot);
         report
     }

@@ -6,7 +6,7 @@ use tree_nodes::NodeAt;
 use version_set::Version;
 
 /// The maximum number of nodes of a tree at one depth.
-const MOST_NODES: u16 = 4_096;
+const NODES_MAX: u16 = 4_096;
 
 /// Returns true if a state is between two others: its entries are those before and the first few of those after, its
 /// rows and digests are each those of before or after, and a session that is new after may be there, cancelled halfway.
@@ -60,7 +60,7 @@ fn are_same_versions(versions: &[Version], others: &[Version]) -> bool {
 /// Returns true if each node has the digest of before or of after, or no digest if before or after has none there.
 fn are_digests_between(state: &RangeState, before: &RangeState, after: &RangeState) -> bool {
     for depth in 0..4u8 {
-        for index in 0..MOST_NODES {
+        for index in 0..NODES_MAX {
             if let Some(node) = NodeAt::new(depth, index) {
                 let digest = state.digest_at(node);
                 if digest != before.digest_at(node) && digest != after.digest_at(node) {
@@ -76,7 +76,7 @@ fn are_digests_between(state: &RangeState, before: &RangeState, after: &RangeSta
 pub(crate) fn clean_nodes(state: &RangeState) -> u64 {
     let mut count = 0u64;
     for depth in 0..4u8 {
-        for index in 0..MOST_NODES {
+        for index in 0..NODES_MAX {
             if let Some(node) = NodeAt::new(depth, index)
                 && state.digest_at(node).is_some()
             {

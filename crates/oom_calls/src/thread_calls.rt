@@ -10,12 +10,12 @@ mod ended;
 mod links;
 mod locked;
 mod partner;
+mod pass_copy;
 mod pools;
 mod renewals;
 mod scene;
 mod shared;
 mod stories;
-mod told;
 mod versions;
 
 use std::io;

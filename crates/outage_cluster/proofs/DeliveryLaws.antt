@@ -44,7 +44,7 @@ hinted_none e owners s o n is p = rw (is, p) refl
 -- a put that was taken
 pub put_result : (p : Put) (s : Cluster) (e : Entry) (copies n : ℕ) (owners : List ℕ) (new : List Replica) (after : Cluster) → put_fault p s ≡ None → put_into s.down p (replicas_of s p.key) ≡ gives (e, copies) new → owners ≡ owners_of (gets_hint s.down p.node p.lose) (replicas_of s p.key) → (n, after) ≡ hinted e owners (with_replicas s p.key new) (carrier_of s (range_at s.ring.bits p.key)) → put_act p s ≡ gives (Answers.Put e.version.clock copies n e.number) after
 unfolding put_act
-put_result p s e copies n owners new after fine made own told = rw (fine, made, ← own, ← told) refl
+put_result p s e copies n owners new after fine made own said = rw (fine, made, ← own, ← said) refl
 
 -- and one that its range refused
 pub put_refused : (p : Put) (s : Cluster) (e : Refusal) → put_fault p s ≡ None → put_into s.down p (replicas_of s p.key) ≡ refuses e → put_act p s ≡ refuses e

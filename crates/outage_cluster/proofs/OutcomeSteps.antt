@@ -111,22 +111,22 @@ homed n reps i r new call (Ok x) its is did = at_its n reps i r call its is ∙ 
 homed n reps i r new call (Err e) its is (same, inl m) = (unchanged reps i r new is same, inl m)
 homed n reps i r new call (Err e) its is (same, inr cause) = (unchanged reps i r new is same, inr (at_its n reps i r call its is ∙ turned_down n reps r e (call r.range) cause))
 
--- ---- what is told
+-- ---- answers
 
--- a refusal is told by its name, and want of memory is not told
-pub told_reply : {S : Type 0} (r : Result CommandAnswer Refusal) (a : Result CommandAnswer AllocError) (old new : S) (o : Outcome CommandAnswer S) → DoesOrBreaksOff r old new o
+-- the answer to a refusal has its name, and NoMemory has no answer
+pub reply_said : {S : Type 0} (r : Result CommandAnswer Refusal) (a : Result CommandAnswer AllocError) (old new : S) (o : Outcome CommandAnswer S) → DoesOrBreaksOff r old new o
     → IfOk r (λ x. a ≡ Ok x) → IfErr r (λ e. IfOk a (λ x. (e ≢ NoMemory) × (x ≡ Refused e))) → IfOk a (λ x. x ≡ replied o)
-told_reply (Ok x) (Ok y) old new o did ok err = let same : y ≡ x = cc in same ∙ ap replied (sym did)
-told_reply (Ok x) (Err f) old new o did ok err = tt {0}
-told_reply (Err e) (Ok y) old new o (inl m) ok err = absurd (err.0 m)
-told_reply (Err e) (Ok y) old new o (inr is) ok err = err.1 ∙ ap replied (sym is.1)
-told_reply (Err e) (Err f) old new o did ok err = tt {0}
+reply_said (Ok x) (Ok y) old new o did ok err = let same : y ≡ x = cc in same ∙ ap replied (sym did)
+reply_said (Ok x) (Err f) old new o did ok err = tt {0}
+reply_said (Err e) (Ok y) old new o (inl m) ok err = absurd (err.0 m)
+reply_said (Err e) (Ok y) old new o (inr is) ok err = err.1 ∙ ap replied (sym is.1)
+reply_said (Err e) (Err f) old new o did ok err = tt {0}
 
 -- and changes nothing
-pub told_after : {S : Type 0} (r : Result CommandAnswer Refusal) (a : Result CommandAnswer AllocError) (old new : S) (o : Outcome CommandAnswer S) → DoesOrBreaksOff r old new o
+pub after_said : {S : Type 0} (r : Result CommandAnswer Refusal) (a : Result CommandAnswer AllocError) (old new : S) (o : Outcome CommandAnswer S) → DoesOrBreaksOff r old new o
     → IfOk r (λ x. a ≡ Ok x) → IfErr r (λ e. IfOk a (λ x. (e ≢ NoMemory) × (x ≡ Refused e))) → OnOk a (new ≡ left o old)
-told_after (Ok x) (Ok y) old new o did ok err = ap (λ p. left p old) (sym did)
-told_after (Ok x) (Err f) old new o did ok err = tt {0}
-told_after (Err e) (Ok y) old new o (inl m) ok err = absurd (err.0 m)
-told_after (Err e) (Ok y) old new o (inr is) ok err = is.0 ∙ ap (λ p. left p old) (sym is.1)
-told_after (Err e) (Err f) old new o did ok err = tt {0}
+after_said (Ok x) (Ok y) old new o did ok err = ap (λ p. left p old) (sym did)
+after_said (Ok x) (Err f) old new o did ok err = tt {0}
+after_said (Err e) (Ok y) old new o (inl m) ok err = absurd (err.0 m)
+after_said (Err e) (Ok y) old new o (inr is) ok err = is.0 ∙ ap (λ p. left p old) (sym is.1)
+after_said (Err e) (Err f) old new o did ok err = tt {0}

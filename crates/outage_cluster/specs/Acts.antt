@@ -125,14 +125,14 @@ put_into down p reps = do
   gives (at.0, length (filter (takes down p.node p.lose at.0) at.1)) (map (after_copy down p.node p.lose at.0) at.1)
 
 -- a put whose hints were kept
-abbrev pub put_told : Entry × ℕ → ℕ × Cluster → Outcome CommandAnswer Cluster
-put_told e kept = gives (Answers.Put e.0.version.clock e.1 kept.0 e.0.number) kept.1
+abbrev pub put_answer : Entry × ℕ → ℕ × Cluster → Outcome CommandAnswer Cluster
+put_answer e kept = gives (Answers.Put e.0.version.clock e.1 kept.0 e.0.number) kept.1
 
 unfoldable pub put_act : Put → Cluster → Outcome CommandAnswer Cluster
 put_act p s = do
   put_fault p s
   at ← put_into s.down p (replicas_of s p.key)
-  put_told at.0 (hinted at.0.0 (owners_of (gets_hint s.down p.node p.lose) (replicas_of s p.key)) (with_replicas s p.key at.1) (carrier_of s (range_at s.ring.bits p.key)))
+  put_answer at.0 (hinted at.0.0 (owners_of (gets_hint s.down p.node p.lose) (replicas_of s p.key)) (with_replicas s p.key at.1) (carrier_of s (range_at s.ring.bits p.key)))
 
 -- ---- reads of a node
 

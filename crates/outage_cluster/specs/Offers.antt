@@ -23,6 +23,6 @@ after_offer (Some false) replicas hints taken known = round_at replicas hints (t
 after_offer (Some true) replicas hints taken known = round_at replicas hints taken (known + 1)
 
 -- the reply of an owner: true if it knew the version, None if it refused it
-abbrev pub told_by : Outcome Accepted (List Replica) → Option Bool
-told_by (gives reply reps) = Some (is_known reply)
-told_by (refuses e) = None
+abbrev pub answer_of : Outcome Accepted (List Replica) → Option Bool
+answer_of (gives reply reps) = Some (is_known reply)
+answer_of (refuses e) = None

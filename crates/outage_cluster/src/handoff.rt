@@ -4,7 +4,7 @@ ghost use Rattle.vclock.specs.Answer.{Answers};
 ghost use Rattle.vclock.specs.Outcome.{is_given};
 ghost use Rattle.hint_store.specs.Hints.{AreHints, confirm, delivery_by, keep, next_hint};
 ghost use Rattle.outage_cluster.specs.Handoff.{asked, asked_in, first_round, kept_all, kept_for, offer_one, offered_to};
-ghost use Rattle.outage_cluster.specs.Offers.{after_offer, round_at, told_by};
+ghost use Rattle.outage_cluster.specs.Offers.{after_offer, round_at, answer_of};
 ghost use Rattle.outage_cluster.specs.State.{Replica, left};
 ghost use Rattle.hint_store.specs.declared.hint.Kept.{Kept};
 
@@ -133,7 +133,7 @@ fn offer(
 /// Asks the owner of a hint to take it. Returns true if the owner knew it, and `None` if the owner refused it.
 #[tactic(auto, unfolding(crate::specs::Handoff::asked))]
 fn ask_owner(alloc: Global, replicas: &mut Replicas, hint: &Hint) -> Result<Option<bool>, Refusal>
-    ensures answer { Answers result None (λ o. o ≡ told_by (asked hint.now replicas.old)) }
+    ensures answer { Answers result None (λ o. o ≡ answer_of (asked hint.now replicas.old)) }
     ensures after { OnOk result (replicas.new ≡ left (asked hint.now replicas.old) replicas.old) }
 {
     let version = hint.version.try_clone()?;

@@ -9,7 +9,7 @@ use Rattle.serde_json.specs.Data.{Data}
 use Rattle.serde_json.specs.Written.{compact_text, items_outline, members_outline}
 use Rattle.serde_json.proofs.Texts.{print-outline}
 use Rattle.outage_script.specs.Answers.{items_of, members_of}
-use Rattle.outage_script.specs.Told.{part_data, tokens_of}
+use Rattle.outage_script.specs.Parts.{part_data, tokens_of}
 use Rattle.outage_script.specs.declared.part.Part.{Part}
 
 -- the tokens of a value print as its text

@@ -1,6 +1,6 @@
 pub mod Lines
 pub mod Answers
-pub mod Told
+pub mod Parts
 pub mod Script
 pub mod Ends
 pub mod Moves

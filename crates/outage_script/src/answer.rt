@@ -1,7 +1,7 @@
 //! The text of an answer, as JSON.
 ghost use Rattle.std.specs.Prelude.{◌≡◌, [], ◌++◌, ◌∷◌, IfOk, OnOk};
 ghost use Rattle.outage_script.specs.Answers.{answer_data, answer_line, digest_data, maybe_number, object_of, refusal_data, sync_data};
-ghost use Rattle.outage_script.specs.Told.{part_data, tokens_of};
+ghost use Rattle.outage_script.specs.Parts.{part_data, tokens_of};
 
 use crate::part::{Part, write_object};
 use json::Writer;

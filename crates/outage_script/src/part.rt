@@ -1,7 +1,7 @@
 //! The members of an answer, and their text as JSON.
 ghost use Rattle.std.specs.Prelude.{◌≡◌, ◌++◌, map, OnOk};
 ghost use Rattle.outage_script.specs.Answers.{bytes_data, clock_data, list_data, object_of, pair_data, value_data, version_data};
-ghost use Rattle.outage_script.specs.Told.{part_data, tokens_of};
+ghost use Rattle.outage_script.specs.Parts.{part_data, tokens_of};
 
 use json::Writer;
 use std::alloc::{AllocError, Global};

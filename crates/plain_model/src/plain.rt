@@ -15,10 +15,10 @@ pub const NODES: usize = 4;
 pub const KEYS: u64 = 14;
 
 /// The maximum number of versions that are held for a key.
-const MOST_VERSIONS: usize = 64;
+const VERSIONS_MAX: usize = 64;
 
 /// The greatest limit of a journal.
-const MOST_ENTRIES: u64 = 1_000_000;
+const ENTRIES_MAX: u64 = 1_000_000;
 
 /// The reason of a refusal.
 #[derive(Clone, Copy)]
@@ -410,7 +410,7 @@ impl PlainRange {
                 count = count.wrapping_add(1);
             }
         }
-        count >= MOST_VERSIONS
+        count >= VERSIONS_MAX
     }
 
     /// Returns the versions that are held for a key: the accepted ones that are below no other, each once, in the order
@@ -427,7 +427,7 @@ impl PlainRange {
 
     /// Returns the reason why the range isn't renewed with a limit, if there is one.
     pub fn renewal_fault(&self, alloc: Global, limit: u64) -> Result<Option<Fault>, Trouble> {
-        if limit == 0 || limit > MOST_ENTRIES {
+        if limit == 0 || limit > ENTRIES_MAX {
             return Ok(Some(Fault::BadRing));
         }
         let held = self.held_entries(alloc, 0)?.len() as u64;

@@ -166,10 +166,11 @@ fn check_reply(
     wanted: Result<(CaughtUp, CaughtUp), Fault>,
 ) -> Result<(), Trouble> {
     match (reply, wanted) {
-        (Ok(told), Ok((first, second))) => {
-            let asked = (told.asked_a, told.asked_b) == (first.asked, second.asked);
+        (Ok(report), Ok((first, second))) => {
+            let asked = (report.asked_a, report.asked_b) == (first.asked, second.asked);
             expect(asked, "the number of nodes that a pair asked")?;
-            let accepted = (told.accepted_a, told.accepted_b) == (first.accepted, second.accepted);
+            let accepted = (report.accepted_a, report.accepted_b)
+                == (first.accepted, second.accepted);
             expect(accepted, "the number of versions that a pair accepted")
         }
         (Err(refusal), Err(fault)) => expect(fault.is(refusal), "the refusal of a pair"),

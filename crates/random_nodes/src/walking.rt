@@ -16,10 +16,10 @@ use tree_nodes::{Digest, NodeAt};
 use vclock::Refusal;
 
 /// The maximum number of open sessions.
-const MOST_OPEN: u64 = 64;
+const OPEN_MAX: u64 = 64;
 
 /// The maximum number of sessions.
-const MOST_SESSIONS: usize = 1_024;
+const SESSIONS_MAX: usize = 1_024;
 
 /// The bytes that a link returned and the range has not taken yet.
 #[derive(Drop)]
@@ -270,7 +270,7 @@ fn offer_fault(here: &Mirror, offer: &PlainOffer, dirty: u64) -> Option<Fault> {
         Some(Fault::OtherFormat)
     } else if offer.range != here.plain.part.number() {
         Some(Fault::OtherRange)
-    } else if here.open_count() >= MOST_OPEN || here.walks.len() >= MOST_SESSIONS {
+    } else if here.open_count() >= OPEN_MAX || here.walks.len() >= SESSIONS_MAX {
         Some(Fault::SessionsFull)
     } else if dirty > 0 {
         Some(Fault::Dirty)

@@ -192,10 +192,10 @@ whole s seat rows others known same = λ i. first_fault (same.crowded i) (cond (
 -- the judgement of the rows that the own ones lack is that of all
 pub judged : (s : Store) (seat : ℕ) (m : RowMap) (n : Node) (text : List ℕ) (rows others : List Row) (known : ℕ) (result : Result (Unit {0}) Refusal) → AreSpelled m n text rows → IsSame s seat rows others known
     → AnswersAtOnce result (leaf_fault s seat (offers_of others)) (λ _. ⊤) → JudgesLeaf s seat m n text result
-judged s seat m n text rows others known (Ok ok) spelled same told = (rows, spelled, whole s seat rows others known same ∙ told.0)
-judged s seat m n text rows others known (Err e) spelled same told = elim (leaf_cause s seat (offers_of others) e told) [
-  | inl is ↦ subst (λ (x : Refusal). JudgesLeaf s seat m n text (Err x)) (sym is) (rows, spelled, whole s seat rows others known same ∙ told ∙ ap (λ (x : Refusal). Some x) is)
-  | inr is ↦ subst (λ (x : Refusal). JudgesLeaf s seat m n text (Err x)) (sym is) (rows, spelled, whole s seat rows others known same ∙ told ∙ ap (λ (x : Refusal). Some x) is)
+judged s seat m n text rows others known (Ok ok) spelled same shown = (rows, spelled, whole s seat rows others known same ∙ shown.0)
+judged s seat m n text rows others known (Err e) spelled same shown = elim (leaf_cause s seat (offers_of others) e shown) [
+  | inl is ↦ subst (λ (x : Refusal). JudgesLeaf s seat m n text (Err x)) (sym is) (rows, spelled, whole s seat rows others known same ∙ shown ∙ ap (λ (x : Refusal). Some x) is)
+  | inr is ↦ subst (λ (x : Refusal). JudgesLeaf s seat m n text (Err x)) (sym is) (rows, spelled, whole s seat rows others known same ∙ shown ∙ ap (λ (x : Refusal). Some x) is)
 ]
 
 -- ---- the text of a record's session
@@ -205,16 +205,16 @@ leaf_read s r t rows due deep format spelled = record { due = due; leaf = deep �
 
 -- a leaf's text that can't be taken
 pub text_fault : (s : State) (seat : ℕ) (r : Record) (t : TakenText) (e : Refusal) → IsDue r.session t → t.node.depth ≡ tree_depth r.session.own.format → r.session.own.format ≡ s.store.config.format → JudgesLeaf s.store seat r.session.own t.node t.text (Err e) → TextFault s seat r t e
-text_fault s seat r t refusals.Crowded due deep format told = record { rows = told.0; read = leaf_read s r t told.0 due deep format told.1; fault = told.2 }
-text_fault s seat r t refusals.JournalFull due deep format told = record { rows = told.0; read = leaf_read s r t told.0 due deep format told.1; fault = told.2 }
-text_fault s seat r t refusals.NotCanonical due deep format told = (
+text_fault s seat r t refusals.Crowded due deep format shown = record { rows = shown.0; read = leaf_read s r t shown.0 due deep format shown.1; fault = shown.2 }
+text_fault s seat r t refusals.JournalFull due deep format shown = record { rows = shown.0; read = leaf_read s r t shown.0 due deep format shown.1; fault = shown.2 }
+text_fault s seat r t refusals.NotCanonical due deep format shown = (
   due,
   λ can. elim can [
     | inl inner ↦ omega (arith, inner.0, deep)
-    | inr leaf ↦ told leaf.1.0 leaf.1.1
+    | inr leaf ↦ shown leaf.1.0 leaf.1.1
   ],
 )
-text_fault s seat r t e due deep format told = subst (IsTakeFault r.session t) (sym told) (due, λ less. absurd (omega (arith, less, deep)))
+text_fault s seat r t e due deep format shown = subst (IsTakeFault r.session t) (sym shown) (due, λ less. absurd (omega (arith, less, deep)))
 
 -- a fault of the session
 pub session_fault : (s : State) (seat : ℕ) (r : Record) (t : TakenText) (e : Refusal) → IsTakeFault r.session t e → TextFault s seat r t e
@@ -223,12 +223,12 @@ session_fault s seat r t refusals.JournalFull fault = absurd fault
 session_fault s seat r t e fault = fault
 
 -- the news of a text that can be taken
-pub text_told : (s : State) (seat : ℕ) (r : Record) (t : TakenText) (result : Result News Refusal) → Tells r.session t result → IsTakable s seat r t → TellsText s seat r t result
-text_told s seat r t (Ok news) told can = (told, can)
-text_told s seat r t (Err e) told can = session_fault s seat r t e told
+pub text_shown : (s : State) (seat : ℕ) (r : Record) (t : TakenText) (result : Result News Refusal) → Tells r.session t result → IsTakable s seat r t → TellsText s seat r t result
+text_shown s seat r t (Ok news) shown can = (shown, can)
+text_shown s seat r t (Err e) shown can = session_fault s seat r t e shown
 
 pub leaf_takable : (s : State) (seat : ℕ) (r : Record) (t : TakenText) → IsDue r.session t → t.node.depth ≡ tree_depth r.session.own.format → r.session.own.format ≡ s.store.config.format → IsRowsFault s.store seat r.session.own t.node t.text None → IsTakable s seat r t
-leaf_takable s seat r t due deep format told = inr (told.0, leaf_read s r t told.0 due deep format told.1, told.2)
+leaf_takable s seat r t due deep format shown = inr (shown.0, leaf_read s r t shown.0 due deep format shown.1, shown.2)
 
 pub inner_takable : (s : State) (seat : ℕ) (r : Record) (t : TakenText) → IsDue r.session t → t.node.depth < tree_depth r.session.own.format → r.session.own.format ≡ s.store.config.format → IsInnerText r.session.own.format t.text → IsTakable s seat r t
 inner_takable s seat r t due inner format form = inl (record { due = due; inner = omega (arith, inner, ap tree_depth format); form = subst (λ (f : Format). IsInnerText f t.text) format form })

@@ -38,11 +38,11 @@ got_none [] = refl
 got_none (r ∷ rs) = got_none rs
 
 -- a session that refused a leaf was cancelled
-pub given_up : (s last new : State) (seat partner id : ℕ) (other : RowMap) (told : Synced) (e : Refusal) (result : Result (Unit {0}) Refusal) → IsSyncedTo s seat other last told → HasAskedAll s partner other last.records → told.fault ≡ Some e → id ≡ length s.records
+pub given_up : (s last new : State) (seat partner id : ℕ) (other : RowMap) (sync : Synced) (e : Refusal) (result : Result (Unit {0}) Refusal) → IsSyncedTo s seat other last sync → HasAskedAll s partner other last.records → sync.fault ≡ Some e → id ≡ length s.records
     → DoesAtOnce result last new (cancel_session last id) → HasGivenUp s seat partner other e new
-given_up s last new seat partner id other told e result synced session cause at did = record {
+given_up s last new seat partner id other sync e result synced session cause at did = record {
   last = last;
-  told = told;
+  sync = sync;
   synced = synced;
   session = session;
   cause = cause;

@@ -352,43 +352,43 @@ asked_all s now seat known other u is near =
     (λ n h. differ_is_asked (held now.store.entries) u.r.session other is.right.walked is.right.orderly is.partner u.honest near n (ap (λ (m : RowMap). contains_node n (differ m other)) u.own ∙ h))
 
 -- what is answered at the end
-pub record IsTold (s now : State) (id count : ℕ) (cause : Option Refusal) (a : Synced) : Type 0 where
+pub record IsShown (s now : State) (id count : ℕ) (cause : Option Refusal) (a : Synced) : Type 0 where
   pub accepted : length s.store.entries + a.accepted ≡ length now.store.entries
   pub known : a.known ≡ count
   pub asked : MatchOption (slice_get now.records id) ⊥ (λ r. a.asked ≡ length r.session.asked)
   pub fault : a.fault ≡ cause
 
-pub is_told : {s now : State} {id count before : ℕ} {cause : Option Refusal} {a : Synced} → before ≡ length s.store.entries → before + a.accepted ≡ length now.store.entries → a.known ≡ count → MatchOption (slice_get now.records id) ⊥ (λ r. a.asked ≡ length r.session.asked) → a.fault ≡ cause
-    → IsTold s now id count cause a
-is_told {a = a} start accepted known asked fault = record { accepted = ap (λ k. k + a.accepted) (sym start) ∙ accepted; known = known; asked = asked; fault = fault }
+pub is_shown : {s now : State} {id count before : ℕ} {cause : Option Refusal} {a : Synced} → before ≡ length s.store.entries → before + a.accepted ≡ length now.store.entries → a.known ≡ count → MatchOption (slice_get now.records id) ⊥ (λ r. a.asked ≡ length r.session.asked) → a.fault ≡ cause
+    → IsShown s now id count cause a
+is_shown {a = a} start accepted known asked fault = record { accepted = ap (λ k. k + a.accepted) (sym start) ∙ accepted; known = known; asked = asked; fault = fault }
 
 ends : (s now : State) (seat id known : ℕ) (other : RowMap) (fault : Option Refusal) (a : Synced) (u : IsUnderWay s seat other known now) → IsTrueWalk s now other u.r → id ≡ length s.records → IsNearlyDone u.r.session
-    → taken_leaves s.store seat other 0 (leaves_in s.store.config.format u.r.session.asked) ≡ record { store = now.store; known = known; fault = fault } → u.r.session.state ≡ ended fault → IsTold s now id known fault a
+    → taken_leaves s.store seat other 0 (leaves_in s.store.config.format u.r.session.asked) ≡ record { store = now.store; known = known; fault = fault } → u.r.session.state ≡ ended fault → IsShown s now id known fault a
     → IsSyncedTo s seat other now a
-ends s now seat id known other fault a u is at near progress state told =
+ends s now seat id known other fault a u is at near progress state shown =
     let all = asked_all s now seat known other u is near in
     let end : synced s.store seat other ≡ record { store = now.store; known = known; fault = fault } = ap (λ (xs : List Node). taken_leaves s.store seat other 0 (leaves_in s.store.config.format xs)) (sym all) ∙ progress in
-    let asked : a.asked ≡ length u.r.session.asked = subst (λ (o : Option Record). MatchOption o ⊥ (λ r. a.asked ≡ length r.session.asked)) (here_is s now seat known id other u at) told.asked in
+    let asked : a.asked ≡ length u.r.session.asked = subst (λ (o : Option Record). MatchOption o ⊥ (λ r. a.asked ≡ length r.session.asked)) (here_is s now seat known id other u at) shown.asked in
     record {
       store = sym (ap (λ (p : Progress). p.store) end);
       sessions = ap standings u.records ∙ map-append (λ (r : Record). r.session.state) s.records (u.r ∷ []) ∙ ap (λ (x : SessionState). standings s.records ++ x ∷ []) (state ∙ ap (λ (p : Progress). ended p.fault) (sym end));
-      accepted = told.accepted;
-      known = told.known ∙ sym (ap (λ (p : Progress). p.known) end);
+      accepted = shown.accepted;
+      known = shown.known ∙ sym (ap (λ (p : Progress). p.known) end);
       asked = asked ∙ ap length all;
-      fault = told.fault ∙ sym (ap (λ (p : Progress). p.fault) end);
+      fault = shown.fault ∙ sym (ap (λ (p : Progress). p.fault) end);
     }
 
 -- nothing is outstanding
-pub finished : {s now : State} {seat id known : ℕ} {other : RowMap} {u : IsUnderWay s seat other known now} {a : Synced} → IsDone s now seat id known other u → IsTold s now id known None a → IsSyncedTo s seat other now a
-finished {s = s} {now = now} {seat = seat} {id = id} {known = known} {other = other} {u = u} {a = a} done told =
+pub finished : {s now : State} {seat id known : ℕ} {other : RowMap} {u : IsUnderWay s seat other known now} {a : Synced} → IsDone s now seat id known other u → IsShown s now id known None a → IsSyncedTo s seat other now a
+finished {s = s} {now = now} {seat = seat} {id = id} {known = known} {other = other} {u = u} {a = a} done shown =
     let taken : u.r.session.asked ≡ nodes_of u.r.session.taken = u.turn ∙ ap (λ (xs : List Node). nodes_of u.r.session.taken ++ xs) done.none ∙ append-nil (nodes_of u.r.session.taken) in
     ends s now seat id known other None a u done.is done.at (none_left s now seat known other u done.none)
     (ap (λ (xs : List Node). taken_leaves s.store seat other 0 (leaves_in s.store.config.format xs)) taken ∙ u.progress)
-    (u.stands ∙ ap state_by done.none) told
+    (u.stands ∙ ap state_by done.none) shown
 
 -- the leaf of a node is refused
-pub refused_at : {s now new : State} {seat id known : ℕ} {other : RowMap} {u : IsUnderWay s seat other known now} {a : Synced} {n : Node} {e : Refusal} → IsNext s now seat id known other u n → IsLeafFault now seat u.r (entry n (text_of other n)) e × (new ≡ now) → IsTold s new id known (Some e) a → IsSyncedTo s seat other new a
-refused_at {s = s} {now = now} {seat = seat} {id = id} {known = known} {other = other} {u = u} {a = a} {n = n} {e = e} next cause told =
+pub refused_at : {s now new : State} {seat id known : ℕ} {other : RowMap} {u : IsUnderWay s seat other known now} {a : Synced} {n : Node} {e : Refusal} → IsNext s now seat id known other u n → IsLeafFault now seat u.r (entry n (text_of other n)) e × (new ≡ now) → IsShown s new id known (Some e) a → IsSyncedTo s seat other new a
+refused_at {s = s} {now = now} {seat = seat} {id = id} {known = known} {other = other} {u = u} {a = a} {n = n} {e = e} next cause shown =
     let is = next.is in
     let rest = next.rest in
     let first = next.first in
@@ -404,7 +404,7 @@ refused_at {s = s} {now = now} {seat = seat} {id = id} {known = known} {other = 
     ∙ taken_more s.store now.store seat other 0 known (leaves_in f done) (n ∷ leaves_in f rest) u.progress
     ∙ leaf_refused now.store seat other known n (leaves_in f rest) e fault)
     (u.stands ∙ ap state_by first)
-    (subst (λ (x : State). IsTold s x id known (Some e) a) cause.1 told))
+    (subst (λ (x : State). IsShown s x id known (Some e) a) cause.1 shown))
 
 length-nodes : (ts : List TakenText) → length (nodes_of ts) ≡ length ts
 length-nodes [] = refl

@@ -1,7 +1,7 @@
 pub mod Records
 pub mod State
 pub mod Sessions
-pub mod Told
+pub mod Receipts
 pub mod Syncs
 pub mod Unions
 pub mod Reconciles

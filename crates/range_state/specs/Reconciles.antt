@@ -25,20 +25,20 @@ pair_fault a b = first_fault (dirty_fault a.store) (first_fault (dirty_fault b.s
 -- A whole session on a partner's rows that took every leaf at which the trees differ: the number of nodes that were
 -- asked, and of versions that were accepted. It is finished.
 pub record HasCaughtUp (s : State) (seat partner : ℕ) (other : RowMap) (nodes versions : ℕ) (new : State) : Type 0 where
-  pub told : Synced
-  pub synced : IsSyncedTo s seat other new told
+  pub sync : Synced
+  pub synced : IsSyncedTo s seat other new sync
   pub session : HasAskedAll s partner other new.records
-  pub all : told.fault ≡ None
-  pub asked : nodes ≡ told.asked
-  pub accepted : versions ≡ told.accepted
+  pub all : sync.fault ≡ None
+  pub asked : nodes ≡ sync.asked
+  pub accepted : versions ≡ sync.accepted
 
 -- a session that was refused a leaf, for this cause, and was then cancelled; the leaves before it stay
 pub record HasGivenUp (s : State) (seat partner : ℕ) (other : RowMap) (e : Refusal) (new : State) : Type 0 where
   pub last : State
-  pub told : Synced
-  pub synced : IsSyncedTo s seat other last told
+  pub sync : Synced
+  pub synced : IsSyncedTo s seat other last sync
   pub session : HasAskedAll s partner other last.records
-  pub cause : told.fault ≡ Some e
+  pub cause : sync.fault ≡ Some e
   pub cancelled : cancel_session last (length s.records) ≡ gives tt new
 
 -- a session that ran out of memory midway, and was then cancelled; the leaves that it took stay

@@ -240,13 +240,13 @@ pub load_crowded : (s : Store) (seat : ℕ) (c : Config) (leaf : ℕ) (rows : Li
 load_crowded s seat c leaf rows e config are crowd = load_is s seat c leaf rows config are ∙ rw crowd refl
 
 -- what was accepted are the entries of the batch
-pub load_tells : (s new : Store) (seat : ℕ) (source : Source) (leaf : ℕ) (offers : Offers) (b : Batch) (told : Loaded) → IsAcceptable s seat source leaf offers b → accept_offers s seat source offers ≡ gives told new → drop (length s.entries) new.entries ≡ b.entries.items
-load_tells s new seat source leaf offers b told is done =
+pub load_tells : (s new : Store) (seat : ℕ) (source : Source) (leaf : ℕ) (offers : Offers) (b : Batch) (report : Loaded) → IsAcceptable s seat source leaf offers b → accept_offers s seat source offers ≡ gives report new → drop (length s.entries) new.entries ≡ b.entries.items
+load_tells s new seat source leaf offers b report is done =
     let end = accepted_in s seat source offers in
     by_case (nat_le (length end.entries) s.config.limit) (sym (load_by s seat source offers (nat_le (length end.entries) s.config.limit) is.fits refl) ∙ done)
   where
     by_case : (room : Bool)
-        → cond room (gives (loaded s (accepted_in s seat source offers) offers) (accepted_in s seat source offers)) (refuses JournalFull) ≡ gives told new
+        → cond room (gives (loaded s (accepted_in s seat source offers) offers) (accepted_in s seat source offers)) (refuses JournalFull) ≡ gives report new
         → drop (length s.entries) new.entries ≡ b.entries.items
     by_case true same = ap (λ (x : Store). drop (length s.entries) x.entries) (given_state same) ∙ ap (drop (length s.entries)) (sym is.batch.entries) ∙ drop-append_seam s.entries b.entries.items
     by_case false clash = absurd cc

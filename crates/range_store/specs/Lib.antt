@@ -4,7 +4,7 @@ pub mod Store
 pub mod ContextTests
 pub mod Fitting
 pub mod Offers
-pub mod Told
+pub mod Receipts
 pub mod Batches
 pub mod Loads
 pub mod FormatLoads

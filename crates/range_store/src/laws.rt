@@ -75,8 +75,8 @@ pub fn a_checked_put_replaces_only_what_was_read()
 
 /// No load lowers the greatest counter of a node for a key, and a renewal keeps it.
 pub fn no_load_lowers_a_counter()
-    ensures load { (s t : Store) (seat : ℕ) (rows : List Row) (told : Loaded) (key : List ℕ) (node : ℕ)
-        → load s seat rows ≡ gives told t → top_counter s.entries key node ≤ top_counter t.entries key node }
+    ensures load { (s t : Store) (seat : ℕ) (rows : List Row) (report : Loaded) (key : List ℕ) (node : ℕ)
+        → load s seat rows ≡ gives report t → top_counter s.entries key node ≤ top_counter t.entries key node }
     ensures renewal { (s : Store) (seat limit : ℕ) (key : List ℕ) (node : ℕ)
         → top_counter (renewed_by s seat limit).entries key node ≡ top_counter s.entries key node }
 {}

@@ -12,7 +12,7 @@ ghost use Rattle.range_journal.specs.declared.journal.Source.{Source};
 ghost use Rattle.range_store.specs.Store.{is_sent, IsSound, fresh, leaf_in, place_fault, ask_fault, full_fault, entry_of, put_version, knows, admit, accept, tree_in};
 ghost use Rattle.range_store.specs.ContextTests.{fails, context_fault, put_by};
 ghost use Rattle.range_store.specs.Fitting.{IsFitting, made_fault, sent_fault};
-ghost use Rattle.range_store.specs.Told.{with_put};
+ghost use Rattle.range_store.specs.Receipts.{with_put};
 
 use crate::config::RangeConfig;
 use crate::context_test::ContextTest;
@@ -382,14 +382,7 @@ fn any_is_unread(versions: &[Version], node: u16, seen: u64) -> bool
 {
     versions
         .iter()
-        .any(|version| is_unread(version, node, seen))
-}
-
-/// Returns true if a version has a greater counter of a node than the one that was seen.
-fn is_unread(version: &Version, node: u16, seen: u64) -> bool
-    ensures { result ≡ nat_lt seen (counter version.now.clock node) }
-{
-    version.clock.get(node) > seen
+        .any(|version| version.clock.get(node) > seen)
 }
 
 /// Returns true if some version has seen everything that the clock has.

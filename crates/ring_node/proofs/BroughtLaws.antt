@@ -47,7 +47,7 @@ all_brought s seat source (o ∷ offers) =
     let t = accept_step s seat source o.0 o.1 in
     then seat source s.entries t.entries (accepted_in t seat source offers).entries (step s seat source o.0 o.1) (all_brought t seat source offers)
 
--- who was told of them has seen them
+-- a pass that has their receipts has seen them
 reaches : (seen journal k : ℕ) → 0 < k → journal ≤ seen_after seen journal k
 reaches seen journal k some = elim (nat_eq k 0) as (λ b. nat_eq k 0 ≡ b → journal ≤ cond b seen (max seen journal)) [
   | true ↦ λ is. absurd (omega (arith, eqb-true k 0 is, some))

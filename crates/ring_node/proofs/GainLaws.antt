@@ -29,15 +29,15 @@ gains_same p q source same = subst (λ (x : PassView). Gains p x source 0) (sym 
 
 -- one entry
 gains_one : (p q : PassView) (source : Source) (key : List ℕ) (v : Version) (e : Entry) → IsReceiptOf p.seat source key v e → HasReceiptOf p q e → Gains p q source 1
-gains_one p q source key v e is told = record {
+gains_one p q source key v e is shown = record {
   gained = e ∷ [];
   count = refl;
-  each = (record { seat_is = is.seat_is; source_is = is.source_is; seen_is = omega (arith, ap (λ (x : PassView). x.seen) told) }, tt);
-  receipts = ap (λ (x : PassView). x.receipts) told;
-  share = ap (λ (x : PassView). x.share) told;
-  seen = omega (arith, ap (λ (x : PassView). x.seen) told);
-  seat = ap (λ (x : PassView). x.seat) told;
-  readings = ap (λ (x : PassView). x.readings) told;
+  each = (record { seat_is = is.seat_is; source_is = is.source_is; seen_is = omega (arith, ap (λ (x : PassView). x.seen) shown) }, tt);
+  receipts = ap (λ (x : PassView). x.receipts) shown;
+  share = ap (λ (x : PassView). x.share) shown;
+  seen = omega (arith, ap (λ (x : PassView). x.seen) shown);
+  seat = ap (λ (x : PassView). x.seat) shown;
+  readings = ap (λ (x : PassView). x.readings) shown;
 }
 
 -- a version of another node that was taken

@@ -51,8 +51,8 @@ gains_loaded l m p q text a h =
     let came : drop (length s.entries) t.entries ≡ es = ap (drop (length s.entries)) grown ∙ drop-append_seam s.entries es in
     let end = parts g.first a (after_load l p (with_store l.state t)) (m, q) g.then_gave in
     let same : g.first ≡ a = end.0 in
-    let told : q ≡ with_receipts p (length t.entries) (drop (length s.entries) t.entries) = sym (ap (λ (x : Locked × PassView). x.1) end.1) in
-    let pass : q ≡ with_receipts p (length t.entries) es = told ∙ ap (with_receipts p (length t.entries)) came in
+    let shown : q ≡ with_receipts p (length t.entries) (drop (length s.entries) t.entries) = sym (ap (λ (x : Locked × PassView). x.1) end.1) in
+    let pass : q ≡ with_receipts p (length t.entries) es = shown ∙ ap (with_receipts p (length t.entries)) came in
     let count : a.taken ≡ length es = omega (arith, ap (λ (x : Loaded). x.taken) (sym same ∙ gave.0), ap length grown, length-append s.entries es) in
     let each = subst (λ (xs : List Entry). AllByRecursion (IsGain p.seat Copy (length xs)) es) (sym (ap (λ (x : Store). x.entries) gave.1)) brought.each in
     let seen : q.seen ≡ seen_after p.seen (length t.entries) (length es) = ap (λ (x : PassView). x.seen) pass in
@@ -68,9 +68,9 @@ gains_loaded l m p q text a h =
     }
 
 -- a load that was not refused
-pub gains_told : (l m : Locked) (p q : PassView) (text : List ℕ) (r : Result Loaded Refusal) → DoesOrNoMemory r (l, p) (m, q) (load_text_in l p text) → IfOk r (λ (a : Loaded). Gains p q Copy a.taken)
-gains_told l m p q text (Ok a) h = gains_loaded l m p q text a h
-gains_told l m p q text (Err e) h = tt
+pub gains_kept : (l m : Locked) (p q : PassView) (text : List ℕ) (r : Result Loaded Refusal) → DoesOrNoMemory r (l, p) (m, q) (load_text_in l p text) → IfOk r (λ (a : Loaded). Gains p q Copy a.taken)
+gains_kept l m p q text (Ok a) h = gains_loaded l m p q text a h
+gains_kept l m p q text (Err e) h = tt
 
 -- a load of rows that were read is that of their text
 pub did_text : (l m : Locked) (p q : PassView) (text : List ℕ) (config : Config) (rows : List Row) (r : Result Loaded Refusal) → config ≡ l.state.store.config → rows_in config.format text ≡ Ok rows

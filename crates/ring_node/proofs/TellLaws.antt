@@ -1,4 +1,4 @@
--- What a pass is told by a call that a lock let through.
+-- What a call that a lock let through records in a pass.
 use Rattle.std.proofs.Common.{◌≡◌, inl, inr, ℕ, ◌+◌, Bool, true, false, cond, List, [], ◌∷◌, length, Option, Some, None, Result, Ok, Err, refl, sym, ap, subst, ◌∙◌, length-append}
 use Rattle.std.specs.Prelude.{IfOk, IfErr, OnOk, OnErr, IsTrue, nat_lt}
 use Rattle.std.proofs.lemmas.Bool.{ltb-true, ltb-false}
@@ -24,15 +24,15 @@ use Rattle.range_state.specs.State.{with_store}
 use Rattle.range_store.specs.Store.{Store, accept, put, place_fault, ask_fault, full_fault, stale_fault, put_entry, put_version, entry_of, journaled, knows, admit}
 use Rattle.range_store.proofs.StoreLaws.{first_none, later_none}
 use Rattle.caller_pass.specs.Passes.{PassView, with_receipts}
-use Rattle.caller_pass.specs.Locks.{Locked, UnreadView, told, put_in_by, accept_in, after_sent, first_missing, missing_fault, behind_fault, get_in, plainly}
+use Rattle.caller_pass.specs.Locks.{Locked, UnreadView, recorded, put_in_by, accept_in, after_sent, first_missing, missing_fault, behind_fault, get_in, plainly}
 use Rattle.ring_node.specs.Passes.{IsReceiptOf, HasReceiptOf, IsSent, IsPutRefusal, IsSentRefusal, IsBehind}
 use Rattle.ring_node.proofs.OutcomeLaws.{given, within, refused, first_cause}
 use Rattle.ring_node.proofs.CauseLaws.{of_key, of_value, of_range, place_cause, clock_cause, crowd_cause, where_holds, where_fails}
 
--- an entry that came, and the pass that was told of it
+-- a new entry, and the pass that has its receipt
 record Admitted (l : Locked) (p : PassView) (x e : Entry) (s : Store) : Type 0 where
   pub entry : e ≡ x
-  pub told_of : (told l p (with_store l.state s) (e ∷ [])).1 ≡ with_receipts p (e.number + 1) (e ∷ [])
+  pub kept : (recorded l p (with_store l.state s) (e ∷ [])).1 ≡ with_receipts p (e.number + 1) (e ∷ [])
 
 admitted : (l : Locked) (p : PassView) (x e : Entry) (s : Store) → x.number ≡ length l.state.store.entries → admit l.state.store x ≡ gives e s → Admitted l p x e s
 admitted l p x e s number is =
@@ -40,19 +40,19 @@ admitted l p x e s number is =
     let same : e ≡ x = let h = full.1 in cc in
     let grown : s ≡ journaled l.state.store x = let h = full.1 in cc in
     let long : length s.entries ≡ e.number + 1 = ap (λ (t : Store). length t.entries) grown ∙ (length-append l.state.store.entries (x ∷ []) ∙ ap (λ n. n + 1) (sym number ∙ ap (λ (y : Entry). y.number) (sym same))) in
-    record { entry = same; told_of = ap (λ n. with_receipts p n (e ∷ [])) long }
+    record { entry = same; kept = ap (λ n. with_receipts p n (e ∷ [])) long }
 
--- what a put told
-pub record PutTold (p q : PassView) (at : ℕ) (key : List ℕ) (context : Pairs) (kind : Kind) (value : List ℕ) (e : Entry) : Type 0 where
+-- the result of a put
+pub record PutGave (p q : PassView) (at : ℕ) (key : List ℕ) (context : Pairs) (kind : Kind) (value : List ℕ) (e : Entry) : Type 0 where
   pub receipt : IsReceiptOf p.seat Client key (put_version at context kind value) e
-  pub told_of : HasReceiptOf p q e
+  pub kept : HasReceiptOf p q e
   pub fits : (key_fault key ≡ None) × (raise_fault context at ≡ None)
 
-put_told : (test : ContextTest) (l m : Locked) (p q : PassView) (at : ℕ) (key : List ℕ) (context : Pairs) (kind : Kind) (value : List ℕ) (e : Entry) → put_in_by test l p at key context kind value ≡ gives e (m, q) → PutTold p q at key context kind value e
-put_told test l m p q at key context kind value e is =
+put_gave : (test : ContextTest) (l m : Locked) (p q : PassView) (at : ℕ) (key : List ℕ) (context : Pairs) (kind : Kind) (value : List ℕ) (e : Entry) → put_in_by test l p at key context kind value ≡ gives e (m, q) → PutGave p q at key context kind value e
+put_gave test l m p q at key context kind value e is =
     let o = put_by test l.state.store p.seat at key context kind value in
-    let after = λ (entry : Entry × Store). gives entry.0 (told l p (with_store l.state entry.1) (entry.0 ∷ [])) in
-    let g = given o after e (m, q) (within (with_store l.state) o (λ entry. gives entry.0 (told l p entry.1 (entry.0 ∷ []))) ∙ is) in
+    let after = λ (entry : Entry × Store). gives entry.0 (recorded l p (with_store l.state entry.1) (entry.0 ∷ [])) in
+    let g = given o after e (m, q) (within (with_store l.state) o (λ entry. gives entry.0 (recorded l p entry.1 (entry.0 ∷ []))) ∙ is) in
     let gave = put_by_is_put test l.state.store p.seat at key context kind value g.first g.between g.gave in
     let place = passed (place_fault l.state.store.config key kind value) _ g.first g.between gave in
     let clock = passed (raise_fault context at) _ g.first g.between place.1 in
@@ -60,7 +60,7 @@ put_told test l m p q at key context kind value e is =
     let crowd = passed (offer_fault (put_version at context kind value) (held l.state.store.entries key)) _ g.first g.between stale.1 in
     let a = admitted l p (put_entry l.state.store p.seat at key context kind value) g.first g.between refl crowd.1 in
     let same : g.first ≡ e = let h = g.then_gave in cc in
-    let pass : q ≡ (told l p (with_store l.state g.between) (g.first ∷ [])).1 = let h = g.then_gave in cc in
+    let pass : q ≡ (recorded l p (with_store l.state g.between) (g.first ∷ [])).1 = let h = g.then_gave in cc in
     let whole : e ≡ put_entry l.state.store p.seat at key context kind value = sym same ∙ a.entry in
     record {
       receipt = record {
@@ -69,7 +69,7 @@ put_told test l m p q at key context kind value e is =
         key_is = ap (λ (x : Entry). x.key) whole;
         version_is = ap (λ (x : Entry). x.version) whole;
       };
-      told_of = pass ∙ (a.told_of ∙ ap (λ (x : Entry). with_receipts p (x.number + 1) (x ∷ [])) same);
+      kept = pass ∙ (a.kept ∙ ap (λ (x : Entry). with_receipts p (x.number + 1) (x ∷ [])) same);
       fits = (first_none (key_fault key) _ place.0, clock.0);
     }
 
@@ -111,8 +111,8 @@ put_refused_by : (test : ContextTest) (l : Locked) (p : PassView) (at : ℕ) (ke
 put_refused_by test l p at key context kind value e is =
     let Why : Refusal → Type 0 = IsPutRefusal at key context kind value in
     let o = put_by test l.state.store p.seat at key context kind value in
-    let after = λ (entry : Entry × Store). gives entry.0 (told l p (with_store l.state entry.1) (entry.0 ∷ [])) in
-    let r = refused o after e (λ x. refl) (within (with_store l.state) o (λ entry. gives entry.0 (told l p entry.1 (entry.0 ∷ []))) ∙ is) in
+    let after = λ (entry : Entry × Store). gives entry.0 (recorded l p (with_store l.state entry.1) (entry.0 ∷ [])) in
+    let r = refused o after e (λ x. refl) (within (with_store l.state) o (λ entry. gives entry.0 (recorded l p entry.1 (entry.0 ∷ []))) ∙ is) in
     elim (put_by_refuses test l.state.store p.seat at key context kind value e r) as (λ _. Why e) [
       | inl plain ↦ put_refused l p at key context kind value e plain
       | inr unread ↦
@@ -125,7 +125,7 @@ put_refused_by test l p at key context kind value e is =
 -- what a put says of pass and result
 pub record PutTells (p q : PassView) (at : ℕ) (key : List ℕ) (context : Pairs) (kind : Kind) (value : List ℕ) (r : Result Entry Refusal) : Type 0 where
   pub receipt : IfOk r (IsReceiptOf p.seat Client key (put_version at context kind value))
-  pub told_of : IfOk r (HasReceiptOf p q)
+  pub kept : IfOk r (HasReceiptOf p q)
   pub fits : OnOk r ((key_fault key ≡ None) × (raise_fault context at ≡ None))
   pub refusal : IfErr r (IsPutRefusal at key context kind value)
   pub same : OnErr r (q ≡ p)
@@ -133,13 +133,13 @@ pub record PutTells (p q : PassView) (at : ℕ) (key : List ℕ) (context : Pair
 pub put_tells : (test : ContextTest) (l m : Locked) (p q : PassView) (at : ℕ) (key : List ℕ) (context : Pairs) (kind : Kind) (value : List ℕ) (r : Result Entry Refusal) → DoesOrNoMemory r (l, p) (m, q) (put_in_by test l p at key context kind value)
     → IfErr r (λ e. e ≡ NoMemory → ask_fault l.state.store.config at key context kind value ≡ None) → PutTells p q at key context kind value r
 put_tells test l m p q at key context kind value (Ok e) does early =
-    let t = put_told test l m p q at key context kind value e does in
-    record { receipt = t.receipt; told_of = t.told_of; fits = t.fits; refusal = tt; same = tt }
+    let t = put_gave test l m p q at key context kind value e does in
+    record { receipt = t.receipt; kept = t.kept; fits = t.fits; refusal = tt; same = tt }
 put_tells test l m p q at key context kind value (Err e) does early =
     let Why : Refusal → Type 0 = IsPutRefusal at key context kind value in
     record {
       receipt = tt;
-      told_of = tt;
+      kept = tt;
       fits = tt;
       refusal =
           elim does.1 as (λ _. Why e) [
@@ -155,10 +155,10 @@ put_tells test l m p q at key context kind value (Err e) does early =
     }
 
 -- news that came
-news_told : (l : Locked) (p q : PassView) (source : Source) (key : List ℕ) (v : Version) (e : Entry) (s : Store) (known : Bool) → cond known (gives Known l.state.store) (offer_fault v (held l.state.store.entries key) >> (admit l.state.store (entry_of l.state.store p.seat source key v) >>= (λ taken. gives (Taken taken.0) taken.1))) ≡ gives (Taken e) s
-    → q ≡ (told l p (with_store l.state s) (e ∷ [])).1 → IsReceiptOf p.seat source key v e × HasReceiptOf p q e
-news_told l p q source key v e s true is pass = absurd (let no : Known ≡ Taken e = cc in cc)
-news_told l p q source key v e s false is pass =
+news_gave : (l : Locked) (p q : PassView) (source : Source) (key : List ℕ) (v : Version) (e : Entry) (s : Store) (known : Bool) → cond known (gives Known l.state.store) (offer_fault v (held l.state.store.entries key) >> (admit l.state.store (entry_of l.state.store p.seat source key v) >>= (λ taken. gives (Taken taken.0) taken.1))) ≡ gives (Taken e) s
+    → q ≡ (recorded l p (with_store l.state s) (e ∷ [])).1 → IsReceiptOf p.seat source key v e × HasReceiptOf p q e
+news_gave l p q source key v e s true is pass = absurd (let no : Known ≡ Taken e = cc in cc)
+news_gave l p q source key v e s false is pass =
     let crowd = passed (offer_fault v (held l.state.store.entries key)) _ (Taken e) s is in
     let g = given (admit l.state.store (entry_of l.state.store p.seat source key v)) (λ taken. gives (Taken taken.0) taken.1) (Taken e) s crowd.1 in
     let taken : Taken g.first ≡ Taken e = let h = g.then_gave in cc in
@@ -171,17 +171,17 @@ news_told l p q source key v e s false is pass =
         key_is = ap (λ (x : Entry). x.key) a.entry;
         version_is = ap (λ (x : Entry). x.version) a.entry;
       },
-      pass ∙ a.told_of,
+      pass ∙ a.kept,
     )
 
 by_reply : (l : Locked) (p q : PassView) (source : Source) (key : List ℕ) (v : Version) (a : Accepted) (s : Store) → cond (knows l.state.store key v) (gives Known l.state.store) (offer_fault v (held l.state.store.entries key) >> (admit l.state.store (entry_of l.state.store p.seat source key v) >>= (λ taken. gives (Taken taken.0) taken.1))) ≡ gives a s
     → q ≡ (after_sent l p a (with_store l.state s)).1 → IsSent p source key v q a
-by_reply l p q source key v (Taken e) s is pass = news_told l p q source key v e s (knows l.state.store key v) is pass
+by_reply l p q source key v (Taken e) s is pass = news_gave l p q source key v e s (knows l.state.store key v) is pass
 by_reply l p q source key v Known s is pass = pass
 
 -- a version of another node that was not refused
-sent_told : (l m : Locked) (p q : PassView) (source : Source) (key : List ℕ) (v : Version) (a : Accepted) → accept_in l p source key v ≡ gives a (m, q) → (key_fault key ≡ None) × IsSent p source key v q a
-sent_told l m p q source key v a is =
+sent_gave : (l m : Locked) (p q : PassView) (source : Source) (key : List ℕ) (v : Version) (a : Accepted) → accept_in l p source key v ≡ gives a (m, q) → (key_fault key ≡ None) × IsSent p source key v q a
+sent_gave l m p q source key v a is =
     let o = accept l.state.store p.seat source key v in
     let after = λ (reply : Accepted × Store). gives reply.0 (after_sent l p reply.0 (with_store l.state reply.1)) in
     let g = given o after a (m, q) (within (with_store l.state) o (λ reply. gives reply.0 (after_sent l p reply.0 reply.1)) ∙ is) in
@@ -241,7 +241,7 @@ given_key l p source key v all = first_none (key_fault key) _ (given_first (with
 
 pub sent_tells : (l m : Locked) (p q : PassView) (source : Source) (key : List ℕ) (v : Version) (r : Result Accepted Refusal) → Does r (l, p) (m, q) (accept_in l p source key v) → SentTells p q source key v r
 sent_tells l m p q source key v (Ok a) does =
-    let t = sent_told l m p q source key v a does in
+    let t = sent_gave l m p q source key v a does in
     record { reply = t.1; fits = t.0; refusal = tt; same = tt }
 sent_tells l m p q source key v (Err e) does =
     let Why : Refusal → Type 0 = IsSentRefusal key v in

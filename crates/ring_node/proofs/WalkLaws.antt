@@ -17,7 +17,7 @@ use Rattle.range_state.specs.State.{State}
 use Rattle.range_store.specs.Offers.{offers_of}
 use Rattle.range_state.specs.Sessions.{open_session, taken_in, Refuses, TakesInner, TakesLeaf, TakesFor}
 use Rattle.caller_pass.specs.Passes.{PassView, with_receipts, seen_after}
-use Rattle.caller_pass.specs.Locks.{Locked, moved, IsToldOf, TellsAnswer}
+use Rattle.caller_pass.specs.Locks.{Locked, moved, IsRecorded, TellsAnswer}
 use Rattle.caller_pass.proofs.PassLaws.{seen_rises}
 use Rattle.ring_node.specs.Gains.{IsGain, Gains, GainsSome}
 use Rattle.ring_node.specs.Links.{IsLostExactly}
@@ -51,8 +51,8 @@ by_text s seat id t a new (Some r) took = elim took.1 [
   | inr leaf ↦ by_leaf s seat id r t a new leaf
 ]
 
-gains_told : (l m : Locked) (p q : PassView) (id : ℕ) (t : TakenText) (a : AnswerCounted) → IsToldOf l p id t a m q → Gains p q Partner a.receipts
-gains_told l m p q id t a is =
+gains_kept : (l m : Locked) (p q : PassView) (id : ℕ) (t : TakenText) (a : AnswerCounted) → IsRecorded l p id t a m q → Gains p q Partner a.receipts
+gains_kept l m p q id t a is =
     let es = is.taken.receipts.items in
     let count : a.receipts ≡ length es = ap (λ (x : AnswerCounted). x.receipts) is.count in
     let pass : q ≡ with_receipts p (length m.state.store.entries) es = is.pass in
@@ -93,7 +93,7 @@ pub record TextTells (p q : PassView) (r : Result AnswerCounted Refusal) : Type 
   pub refusal : IfErr r IsTakeRefusal
 
 pub text_tells : (l m : Locked) (p q : PassView) (id : ℕ) (t : TakenText) (r : Result AnswerCounted Refusal) → TellsAnswer l p id t r m q → TextTells p q r
-text_tells l m p q id t (Ok a) is = let all = gains_told l m p q id t a is in record { gains = all; same = tt; some = (a.receipts, all); refusal = tt }
+text_tells l m p q id t (Ok a) is = let all = gains_kept l m p q id t a is in record { gains = all; same = tt; some = (a.receipts, all); refusal = tt }
 text_tells l m p q id t (Err e) is = record { gains = tt; same = is.2; some = some_same p q Partner is.2; refusal = refused_for l.state p.seat id t e m.state (slice_get l.state.records id) is.0 }
 
 -- ---- which refusals do not say that the link failed

@@ -25,7 +25,7 @@ use version_set::Version;
 /// let slot = slots.lend(rt)?;
 /// let (hints, range, pass) = (&self.hints, &other.range, &mut other.peer);
 /// let owner = range.node();
-/// let report = deliver(rt, alloc, &slot, hints, range, pass, owner, MOST_HINTS);
+/// let report = deliver(rt, alloc, &slot, hints, range, pass, owner, HINTS_MAX);
 /// slots.give_back(rt, slot);
 /// ```
 #[derive(Clone, Copy, Debug, PartialEq, Eq)]

@@ -126,7 +126,7 @@ impl<L: Ledger> SharedRange<L> {
     ) -> Result<Receipt, Refusal>
         ensures receipt { IfOk result (IsReceiptOf pass.old.seat Source.Client key.now
             (put_version self.now context.now kind value)) }
-        ensures told { IfOk result (HasReceiptOf pass.old pass.new) }
+        ensures kept { IfOk result (HasReceiptOf pass.old pass.new) }
         ensures fits { OnOk result ((key_fault key.now ≡ None) × (raise_fault context.now self.now ≡ None)) }
         ensures refusal { IfErr result (IsPutRefusal self.now key.now context.now kind value) }
         ensures same { OnErr result (pass.new ≡ pass.old) }
@@ -134,7 +134,7 @@ impl<L: Ledger> SharedRange<L> {
             DoesOrNoMemory result (before, pass.old) (after, pass.new)
             (put_in before pass.old self.now key.now context.now kind value)) }
     {
-        let node = self.node();
+        let node = self.node;
         let test = ContextTest::Fresh;
         let key = HashedKey::new(key);
         let mut range = self.range.lock(rt);
@@ -160,7 +160,7 @@ impl<L: Ledger> SharedRange<L> {
     ) -> Result<Receipt, Refusal>
         ensures receipt { IfOk result (IsReceiptOf pass.old.seat Source.Client key.now
             (put_version self.now context.now kind value)) }
-        ensures told { IfOk result (HasReceiptOf pass.old pass.new) }
+        ensures kept { IfOk result (HasReceiptOf pass.old pass.new) }
         ensures fits { OnOk result ((key_fault key.now ≡ None) × (raise_fault context.now self.now ≡ None)) }
         ensures refusal { IfErr result (IsPutRefusal self.now key.now context.now kind value) }
         ensures same { OnErr result (pass.new ≡ pass.old) }
@@ -168,7 +168,7 @@ impl<L: Ledger> SharedRange<L> {
             DoesOrNoMemory result (before, pass.old) (after, pass.new)
             (put_read_in before pass.old self.now key.now context.now kind value)) }
     {
-        let node = self.node();
+        let node = self.node;
         let test = ContextTest::Read;
         let key = HashedKey::new(key);
         let mut range = self.range.lock(rt);
@@ -320,7 +320,10 @@ impl<L: Ledger> SharedRange<L> {
             Answers result (dirty_fault locked.state.store)
             (λ snapshot. arc_value snapshot ≡ rows_now locked.state.store)) }
     {
-        self.range.lock(rt).store().tree().snapshot(alloc)
+        let range = self.range.lock(rt);
+        // Called for its clause `valid` alone: the range is right.
+        let _valid = range.store();
+        range.snapshot(alloc)
     }
 
     /// Migrates the range to format 2, as [`LockedRange::migrate`] does: the journal is unchanged, open sessions are

@@ -75,7 +75,10 @@ impl<L: Ledger> SharedRange<L> {
         ensures moment { FoundAtSomeMoment (IsLocked L.parts)
             (λ locked. IfOk result (GivesJob (tree_in locked.state.store))) }
     {
-        self.range.lock(rt).store().tree().take_job(alloc, skip)
+        let range = self.range.lock(rt);
+        // Called for its clause `valid` alone: the range is right.
+        let _valid = range.store();
+        range.take_job(alloc, skip)
     }
 
     /// Hashes the text of a job, and installs its digest. Returns false if it was too late.

@@ -12,5 +12,5 @@ mod threads;
 mod workers;
 mod writer;
 
-pub use storm::{MOST_PUTS, StormEnd, run_storm};
+pub use storm::{PUTS_MAX, StormEnd, run_storm};
 pub use tally::{SharedTally, Tallies, Tally};

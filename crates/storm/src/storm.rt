@@ -15,7 +15,7 @@ use std::thread::Threads;
 use vclock::Refusal;
 
 /// The maximum number of puts of a writer.
-pub const MOST_PUTS: u64 = 10_000;
+pub const PUTS_MAX: u64 = 10_000;
 
 /// The end of a storm.
 #[derive(Clone, Copy, Debug, PartialEq, Eq)]
@@ -45,7 +45,7 @@ pub fn run_storm<R: Threads + Wait + Sync, G: Gate + Sync>(
     gate: &G,
     tallies: &Tallies,
 ) -> Result<StormEnd, Refusal>
-    requires { puts ≤ MOST_PUTS }
+    requires { puts ≤ PUTS_MAX }
     ensures { IfOk result (λ end. end.puts ≡ 2 * puts) }
 {
     let (one, two, slots) = (Blank::new(2), Blank::new(2), Blank::new(1_024));
@@ -69,7 +69,7 @@ where
     C: Ledger + Send + Sync,
     R: Threads + Wait + Sync,
     G: Gate + Sync,
-    requires puts { puts ≤ MOST_PUTS }
+    requires puts { puts ≤ PUTS_MAX }
     requires first { (first.name ≡ S.name) × (first.parts ≡ S.parts) × (first.parts ≡ 2) }
     requires second { (second.name ≡ T.name) × (second.parts ≡ T.parts) × (second.parts ≡ 2) }
     requires slots { (slots.name ≡ C.name) × (slots.parts ≡ C.parts) × (slots.parts ≡ 1024) }

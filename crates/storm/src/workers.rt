@@ -14,7 +14,7 @@ const REHASH_TURNS: u64 = 300;
 const SYNC_TURNS: u64 = 600;
 
 /// The maximum number of rounds of a worker.
-const MOST_ROUNDS: u64 = 100;
+const ROUNDS_MAX: u64 = 100;
 
 /// Rehashes a node's tree, and publishes a snapshot if it is clean then, in one round for each put, but at most 100.
 /// Refused: NoMemory, SessionsFull.
@@ -24,7 +24,7 @@ pub(crate) fn rehash_rounds<L: Ledger, C: Ledger, R: Wait, G: Gate>(
     node: &Node<'_, L>,
     plan: &Plan<'_, C, G>,
 ) -> Result<(), Refusal> {
-    for _ in 0..plan.puts.min(MOST_ROUNDS) {
+    for _ in 0..plan.puts.min(ROUNDS_MAX) {
         pass_over(rehash(rt, alloc, node, plan))?;
     }
     Ok(())
@@ -54,7 +54,7 @@ fn sync_over<L: Ledger, C: Ledger, R: Wait, G: Gate>(
     pass: &mut Pass<L>,
     link: &mut ChannelLink,
 ) -> Result<(), Refusal> {
-    for _ in 0..plan.puts.min(MOST_ROUNDS) {
+    for _ in 0..plan.puts.min(ROUNDS_MAX) {
         plan.gate.pass(rt, Step::Round);
         pass_over(sync(rt, alloc, node, plan, link, pass))?;
     }

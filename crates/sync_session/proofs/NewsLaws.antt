@@ -349,13 +349,13 @@ read_fault m n text refusals.NotCanonical fault = fault
 read_fault m n text e fault = fault
 
 -- the news of a leaf's text that is due
-pub leaf_told : (w : Walk) (t : TakenText) (result : Result News Refusal) → IsDue w t → t.node.depth ≡ tree_depth w.own.format → ReadsNews w.own t.node t.text result → Tells w t result
-leaf_told w t (Ok news) due deep told = (due, inr (deep, (told.0, told.1, told.2)))
-leaf_told w t (Err refusals.NotCanonical) due deep told = (
+pub leaf_shown : (w : Walk) (t : TakenText) (result : Result News Refusal) → IsDue w t → t.node.depth ≡ tree_depth w.own.format → ReadsNews w.own t.node t.text result → Tells w t result
+leaf_shown w t (Ok news) due deep shown = (due, inr (deep, (shown.0, shown.1, shown.2)))
+leaf_shown w t (Err refusals.NotCanonical) due deep shown = (
   due,
   λ can. elim can [
     | inl inner ↦ omega (arith, inner.0, deep)
-    | inr leaf ↦ told leaf.1.0 leaf.1.1
+    | inr leaf ↦ shown leaf.1.0 leaf.1.1
   ],
 )
-leaf_told w t (Err e) due deep told = subst (IsTakeFault w t) (sym told) (due, λ less. absurd (omega (arith, less, deep)))
+leaf_shown w t (Err e) due deep shown = subst (IsTakeFault w t) (sym shown) (due, λ less. absurd (omega (arith, less, deep)))

@@ -70,13 +70,13 @@ fn expect_counts(
     asked: u64,
     (new_to_a, new_to_b): (u64, u64),
 ) -> Result<(), Fail> {
-    let told = reconcile_both(alloc, a, b)?;
+    let report = reconcile_both(alloc, a, b)?;
     expect(
-        told.asked_a == asked && told.asked_b == asked,
+        report.asked_a == asked && report.asked_b == asked,
         "the nodes that differ are asked each way",
     )?;
     expect(
-        told.accepted_a == new_to_a && told.accepted_b == new_to_b,
+        report.accepted_a == new_to_a && report.accepted_b == new_to_b,
         "each accepts what it lacks",
     )
 }

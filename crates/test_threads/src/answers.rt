@@ -161,6 +161,6 @@ fn answer_all<L: Ledger>(_rt: &impl Abort, alloc: Global, blank: Blank) -> Resul
 }
 
 #[test]
-fn a_pass_is_told_of_true_texts_alone(rt: HostRuntime) -> Result<(), Fail> {
+fn a_pass_has_receipts_of_true_texts_alone(rt: HostRuntime) -> Result<(), Fail> {
     answer_all::<Brand>(&rt, rt.alloc(), Blank::new(2))
 }

@@ -5,7 +5,7 @@ use std::sync::atomic::{AtomicU64, Ordering};
 use std::thread;
 
 /// The maximum number of times that a thread checks if it may go on.
-const MOST_LOOKS: u64 = 10_000_000;
+const LOOKS_MAX: u64 = 10_000_000;
 
 /// A barrier that holds a thread until it is opened. As a gate it holds a worker at one step.
 #[derive(Drop)]
@@ -50,7 +50,7 @@ impl Barrier {
 
     /// Waits until the word is set, or gives up.
     fn wait_for(&self, word: &AtomicU64) {
-        for _ in 0..MOST_LOOKS {
+        for _ in 0..LOOKS_MAX {
             if word.load(Ordering::SeqCst) > 0 {
                 return;
             }

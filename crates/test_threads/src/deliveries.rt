@@ -48,7 +48,7 @@ struct OneHint {
     /// The counts of the report, or `None` if the owner is refused as a stranger.
     counts: Option<(u64, u64, u64)>,
     /// The number of receipts of the delivery.
-    told: usize,
+    receipts: usize,
     /// The first pending hint of the owner afterwards.
     pending: Option<u32>,
 }
@@ -81,7 +81,7 @@ impl NodeTest for OneHint {
         let ended = node.deliver(rt, alloc, self.owner);
         self.expect_result(&ended)?;
         expect(
-            node.receipts() == before.saturating_add(self.told),
+            node.receipts() == before.saturating_add(self.receipts),
             "the pass gets a receipt if the owner takes the hint",
         )?;
         expect(
@@ -97,7 +97,7 @@ fn a_hint_is_delivered_to_its_owner(rt: HostRuntime) -> Result<(), Fail> {
         owner: 1,
         full: false,
         counts: Some((1, 0, 0)),
-        told: 1,
+        receipts: 1,
         pending: None,
     };
     run_node(&rt, rt.alloc(), 1, &test)
@@ -109,7 +109,7 @@ fn a_hint_that_its_owner_refuses_is_kept(rt: HostRuntime) -> Result<(), Fail> {
         owner: 1,
         full: true,
         counts: Some((0, 0, 1)),
-        told: 0,
+        receipts: 0,
         pending: Some(1),
     };
     run_node(&rt, rt.alloc(), 1, &test)
@@ -161,7 +161,7 @@ fn a_hint_of_another_node_is_a_strangers(rt: HostRuntime) -> Result<(), Fail> {
         owner: 2,
         full: false,
         counts: None,
-        told: 0,
+        receipts: 0,
         pending: Some(1),
     };
     run_node(&rt, rt.alloc(), 1, &test)

@@ -8,11 +8,11 @@ use std::sync::atomic::{AtomicU64, Ordering};
 use std::test::Fail;
 use std::thread;
 use std::thread::Threads;
-use storm::{MOST_PUTS, Tallies, run_storm};
+use storm::{PUTS_MAX, Tallies, run_storm};
 use test_values::checks::expect;
 
 /// The maximum number of times that a thread checks if it may go on.
-const MOST_LOOKS: u64 = 10_000_000;
+const LOOKS_MAX: u64 = 10_000_000;
 
 /// The minimum number of puts of each writer before it is held.
 const EARLY_PUTS: u64 = 1_000;
@@ -28,7 +28,7 @@ fn expect_settled<R: Threads + Wait + Sync, G: Gate + Sync>(
     gate: &G,
     tallies: &Tallies,
 ) -> Result<(), Fail>
-    requires { puts ≤ MOST_PUTS }
+    requires { puts ≤ PUTS_MAX }
 {
     let end = run_storm(rt, alloc, puts, gate, tallies)?;
     expect(end.puts == 2 * puts, "each put is counted")?;
@@ -55,7 +55,7 @@ struct Overlap {
 impl Overlap {
     /// Waits until the word is set, or gives up.
     fn wait_for(&self, word: &AtomicU64) {
-        for _ in 0..MOST_LOOKS {
+        for _ in 0..LOOKS_MAX {
             if word.load(Ordering::SeqCst) > 0 {
                 return;
             }
@@ -131,7 +131,7 @@ impl<'a> Meeting<'a> {
 
     /// Waits until the word is at least that number, or gives up.
     fn wait_for(&self, word: &AtomicU64, least: u64) {
-        for _ in 0..MOST_LOOKS {
+        for _ in 0..LOOKS_MAX {
             if word.load(Ordering::SeqCst) >= least {
                 return;
             }
@@ -143,7 +143,7 @@ impl<'a> Meeting<'a> {
     /// Holds a writer until both nodes have finished a session, or gives up.
     fn hold_writer<R: Wait>(&self, rt: &R) {
         self.held.fetch_add(1, Ordering::SeqCst);
-        for _ in 0..MOST_LOOKS {
+        for _ in 0..LOOKS_MAX {
             if self.is_synced(rt) {
                 return;
             }
@@ -154,7 +154,7 @@ impl<'a> Meeting<'a> {
 
     /// Holds a sync worker until both rehash workers have ended, or gives up.
     fn hold_syncer<R: Wait>(&self, rt: &R) {
-        for _ in 0..MOST_LOOKS {
+        for _ in 0..LOOKS_MAX {
             if self.is_rehashed(rt) {
                 return;
             }

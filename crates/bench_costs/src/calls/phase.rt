@@ -1,7 +1,8 @@
 //! Calls that are made for all keys, one after another.
 use crate::calls::pace::Pace;
+use crate::calls::plan::CallPlan;
 use crate::calls::round::Round;
-use crate::entries::{key, value};
+use crate::entries::Shape;
 use crate::fault::Fault;
 use crate::ranges::accept_copy;
 use range_state::RangeState;
@@ -25,35 +26,40 @@ pub(crate) enum Phase {
 }
 
 impl Phase {
-    /// Makes the calls on a range with this number of keys, and returns their pace.
+    /// Makes the calls of a plan on a range, and returns their pace.
     pub(crate) fn time(
         self,
         rt: &impl Clock,
         alloc: Global,
         range: &mut RangeState,
-        keys: u64,
+        plan: CallPlan,
     ) -> Result<Pace, Fault> {
         let from = Instant::now(rt)?;
-        self.run(alloc, range, keys)?;
-        Ok(Pace::new(keys, from.elapsed(rt)?))
+        self.run(alloc, range, plan)?;
+        Ok(Pace::new(plan.keys, from.elapsed(rt)?))
     }
 
-    /// Makes the calls on a range with this number of keys.
-    fn run(self, alloc: Global, range: &mut RangeState, keys: u64) -> Result<(), Fault> {
+    /// Makes the calls of a plan on a range.
+    fn run(self, alloc: Global, range: &mut RangeState, plan: CallPlan) -> Result<(), Fault> {
         match self {
-            Phase::Puts(round) => put_all(alloc, range, round, keys)?,
-            Phase::Gets => get_all(alloc, range, keys)?,
-            Phase::Accepts(round) => accept_all(alloc, range, round, keys)?,
+            Phase::Puts(round) => put_all(alloc, range, round, plan)?,
+            Phase::Gets => get_all(alloc, range, plan)?,
+            Phase::Accepts(round) => accept_all(alloc, range, round, plan)?,
         }
         Ok(())
     }
 }
 
 /// Puts all keys. Refused as [`RangeState::put`] is.
-fn put_all(alloc: Global, range: &mut RangeState, round: Round, keys: u64) -> Result<(), Refusal> {
-    for number in 0..keys {
-        let value_number = round.value_number(number, keys);
-        put(alloc, range, round, number, value_number)?;
+fn put_all(
+    alloc: Global,
+    range: &mut RangeState,
+    round: Round,
+    plan: CallPlan,
+) -> Result<(), Refusal> {
+    for number in 0..plan.keys {
+        let value_number = round.value_number(number, plan.keys);
+        put(alloc, range, plan.shape, round, number, value_number)?;
     }
     Ok(())
 }
@@ -62,21 +68,22 @@ fn put_all(alloc: Global, range: &mut RangeState, round: Round, keys: u64) -> Re
 pub(crate) fn put(
     alloc: Global,
     range: &mut RangeState,
+    shape: Shape,
     round: Round,
     number: u64,
     value_number: u64,
 ) -> Result<(), Refusal> {
-    let (key, value) = (key(alloc, number)?, value(alloc, value_number)?);
+    let (key, value) = (shape.key(alloc, number)?, shape.value(alloc, value_number)?);
     let context = round.context(alloc)?;
-    range.put(alloc, 0, NODE, key.as_bytes(), &context, Kind::Live, value)?;
+    range.put(alloc, 0, NODE, key.as_slice(), &context, Kind::Live, value)?;
     Ok(())
 }
 
 /// Gets all keys.
-fn get_all(alloc: Global, range: &RangeState, keys: u64) -> Result<(), Fault> {
-    for number in 0..keys {
-        let key = key(alloc, number)?;
-        if range.get(alloc, key.as_bytes())?.len() != 1 {
+fn get_all(alloc: Global, range: &RangeState, plan: CallPlan) -> Result<(), Fault> {
+    for number in 0..plan.keys {
+        let key = plan.shape.key(alloc, number)?;
+        if range.get(alloc, key.as_slice())?.len() != 1 {
             return Err(Fault::NotHeld);
         }
     }
@@ -88,16 +95,18 @@ fn accept_all(
     alloc: Global,
     range: &mut RangeState,
     round: Round,
-    keys: u64,
+    plan: CallPlan,
 ) -> Result<(), Refusal> {
-    for number in 0..keys {
-        let key = key(alloc, number)?;
+    for number in 0..plan.keys {
+        let key = plan.shape.key(alloc, number)?;
         let version = Version {
             clock: round.clock(alloc)?,
             kind: Kind::Live,
-            value: value(alloc, round.value_number(number, keys))?,
+            value: plan
+                .shape
+                .value(alloc, round.value_number(number, plan.keys))?,
         };
-        accept_copy(alloc, range, &key, version)?;
+        accept_copy(alloc, range, key.as_slice(), version)?;
     }
     Ok(())
 }

@@ -4,6 +4,7 @@ use crate::calls::phase::put;
 use crate::calls::plan::{CallPlan, TURNS};
 use crate::calls::round::Round;
 use crate::calls::walk::{Walk, sync};
+use crate::entries::Shape;
 use crate::fault::Fault;
 use crate::ranges::{rehash, snapshot};
 use range_state::RangeState;
@@ -12,13 +13,6 @@ use std::alloc::Global;
 use std::sync::Arc;
 use std::thread::Threads;
 use std::time::{Clock, Instant};
-
-/// The result of a sync of one key: it asks for the root, a node below it and a leaf.
-const ONE_KEY: Walk = Walk {
-    asked: 3,
-    accepted: 1,
-    finished: true,
-};
 
 /// Runs all turns on two replicas that hold equal versions and have clean trees.
 pub(crate) fn run_turns(
@@ -33,8 +27,8 @@ pub(crate) fn run_turns(
     for turn in 0..TURNS {
         // (after the numbers of all keys, and of all values)
         let number = plan.keys.wrapping_mul(2).wrapping_add(turn);
-        offer_key(rt, alloc, first, number, &mut latest, paces)?;
-        take_key(rt, alloc, second, &latest, paces)?;
+        offer_key(rt, alloc, first, plan.shape, number, &mut latest, paces)?;
+        take_key(rt, alloc, second, plan.shape, &latest, paces)?;
     }
     Ok(())
 }
@@ -45,12 +39,13 @@ fn offer_key(
     rt: &(impl Threads + Clock + Sync),
     alloc: Global,
     range: &mut RangeState,
+    shape: Shape,
     number: u64,
     latest: &mut Arc<Snapshot, Global>,
     paces: &mut Paces,
 ) -> Result<(), Fault> {
     let from = Instant::now(rt)?;
-    put(alloc, range, Round::First, number, number)?;
+    put(alloc, range, shape, Round::First, number, number)?;
     paces.puts_after_snapshot.add(from.elapsed(rt)?);
     let from = Instant::now(rt)?;
     rehash(rt, alloc, range)?;
@@ -67,13 +62,14 @@ fn take_key(
     rt: &(impl Threads + Clock + Sync),
     alloc: Global,
     range: &mut RangeState,
+    shape: Shape,
     latest: &Snapshot,
     paces: &mut Paces,
 ) -> Result<(), Fault> {
     let from = Instant::now(rt)?;
     let walk = sync(alloc, range, latest)?;
     paces.syncs.add(from.elapsed(rt)?);
-    if walk != ONE_KEY {
+    if walk != Walk::of_one_key(shape.format) {
         return Err(Fault::NotOneKey);
     }
     rehash(rt, alloc, range)?;

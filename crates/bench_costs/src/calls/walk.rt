@@ -3,8 +3,8 @@ use range_state::{AnswerTaken, RangeState};
 use snapshot::Snapshot;
 use std::alloc::Global;
 use sync_session::SessionState;
-use tree_nodes::{NodeAt, Text, hash};
-use vclock::Refusal;
+use tree_nodes::{NodeAt, Text, hash, tree_depth};
+use vclock::{Format, Refusal};
 use walk_messages::{Answer, Ask, Message, decode, encode};
 
 /// The node that offers.
@@ -13,8 +13,8 @@ const PARTNER: u16 = 1;
 /// The number of its offer.
 const OFFER: u32 = 1;
 
-/// The number of nodes of a tree of format 1. No node is asked for twice.
-const NODES: u64 = 273;
+/// The number of nodes of a tree of format 2, the larger one. No node is asked for twice.
+const NODES: u64 = 4_369;
 
 /// The result of a sync.
 #[derive(Clone, Copy, Default, PartialEq, Eq)]
@@ -28,6 +28,15 @@ pub(crate) struct Walk {
 }
 
 impl Walk {
+    /// Returns the result of a sync of one key: it asks for a node at each depth, from the root to a leaf.
+    pub(crate) fn of_one_key(format: Format) -> Walk {
+        Walk {
+            asked: u64::from(tree_depth(format)) + 1,
+            accepted: 1,
+            finished: true,
+        }
+    }
+
     /// Counts an answer that was taken.
     fn count(&mut self, taken: &AnswerTaken) {
         self.asked = self.asked.saturating_add(1);

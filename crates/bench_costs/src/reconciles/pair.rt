@@ -3,7 +3,7 @@ use crate::ranges::{accept, new_range, rehash};
 use range_state::{RangeState, Reconciled, reconcile};
 use std::alloc::Global;
 use std::thread::Threads;
-use vclock::Refusal;
+use vclock::{Format, Refusal};
 
 /// The depth of the leaves in format 1.
 const LEAF_DEPTH: u8 = 2;
@@ -18,7 +18,8 @@ pub(crate) struct Pair {
 impl Pair {
     /// Returns two ranges with the same keys, of this number.
     pub(crate) fn new(alloc: Global, keys: u64) -> Result<Pair, Refusal> {
-        let (mut a, mut b) = (new_range(alloc)?, new_range(alloc)?);
+        let mut a = new_range(alloc, Format::One)?;
+        let mut b = new_range(alloc, Format::One)?;
         for number in 0..keys {
             accept(alloc, &mut a, number)?;
             accept(alloc, &mut b, number)?;

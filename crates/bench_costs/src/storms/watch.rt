@@ -9,7 +9,7 @@ use std::time::{Clock, Duration, Instant};
 use storm::Tallies;
 
 /// The maximum number of times that a worker checks whether both writers have ended, once a millisecond.
-const MOST_LOOKS: u64 = 60_000;
+const LOOKS_MAX: u64 = 60_000;
 
 /// A gate that notes how long each put of a storm takes, with the making of its key and value: from the time when its
 /// writer has passed the gate to the time when it reaches the gate again. If the workers are to run after the writers
@@ -59,7 +59,7 @@ impl<'a, R: Clock> Watch<'a, R> {
 
     /// Holds a worker until both writers have ended.
     fn hold_worker<W: Wait>(&self, rt: &W) {
-        for _ in 0..MOST_LOOKS {
+        for _ in 0..LOOKS_MAX {
             if self.have_written(rt) {
                 return;
             }

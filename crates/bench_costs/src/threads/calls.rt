@@ -1,5 +1,4 @@
 //! The calls of a thread.
-use crate::entries::{key, value};
 use crate::fault::Fault;
 use crate::threads::plan::Part;
 use crate::threads::spans::{Span, Spans};
@@ -68,8 +67,11 @@ fn put_all<L: Ledger, R: Wait>(
 ) -> Result<(), Refusal> {
     let context = VersionClock::from_pairs(alloc, &[])?;
     for number in part.from..part.to {
-        let (key, value) = (key(alloc, number)?, value(alloc, number)?);
-        range.put(rt, alloc, pass, key.as_bytes(), &context, Kind::Live, value)?;
+        let (key, value) = (
+            part.shape.key(alloc, number)?,
+            part.shape.value(alloc, number)?,
+        );
+        range.put(rt, alloc, pass, key.as_slice(), &context, Kind::Live, value)?;
     }
     Ok(())
 }
@@ -83,8 +85,8 @@ fn get_all<L: Ledger, R: Wait>(
     part: Part,
 ) -> Result<(), Refusal> {
     for number in part.from..part.to {
-        let key = key(alloc, number)?;
-        if let Err(unread) = range.get(rt, alloc, pass, key.as_bytes()) {
+        let key = part.shape.key(alloc, number)?;
+        if let Err(unread) = range.get(rt, alloc, pass, key.as_slice()) {
             return Err(unread.into_refusal());
         }
     }

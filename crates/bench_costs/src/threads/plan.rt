@@ -1,10 +1,11 @@
 //! The plan of the threads.
 ghost use Rattle.std.specs.Prelude.{◌≤◌};
 
-use crate::ranges::MOST_ENTRIES;
+use crate::entries::Shape;
+use vclock::limits::ENTRIES_MAX;
 
 /// The maximum number of threads.
-const MOST_THREADS: u16 = 8;
+const THREADS_MAX: u16 = 8;
 
 /// The ranges that the threads write.
 #[derive(Clone, Copy)]
@@ -15,21 +16,23 @@ pub(crate) enum Sharing {
     Each,
 }
 
-/// The number of keys that are written, the number of threads, and the ranges.
+/// The number of keys that are written, their shape, the number of threads, and the ranges.
 #[derive(Clone, Copy)]
 pub(crate) struct ThreadPlan {
     pub(crate) keys: u64,
+    pub(crate) shape: Shape,
     pub(crate) threads: u16,
     pub(crate) sharing: Sharing,
     ghost some: { 1 ≤ threads },
     ghost few: { threads ≤ 8 },
 }
 
-/// The numbers of the keys of a thread: from one on, and below another.
+/// The keys of a thread: those of the numbers from one on, and below another.
 #[derive(Clone, Copy)]
 pub(crate) struct Part {
     pub(crate) from: u64,
     pub(crate) to: u64,
+    pub(crate) shape: Shape,
 }
 
 impl Sharing {
@@ -44,24 +47,26 @@ impl Sharing {
 }
 
 impl ThreadPlan {
-    /// Returns the plan of these words, or `None` if they are wrong: the number of keys, the number of threads, and
-    /// `one` or `each`.
+    /// Returns the plan of these words, or `None` if they are wrong: the number of keys, the number of threads, `one`
+    /// or `each`, and the words of the shape.
     pub(crate) fn of_words(words: &[String]) -> Option<ThreadPlan> {
-        let [keys, threads, sharing] = words else {
+        let [keys, threads, sharing, shape @ ..] = words else {
             return None;
         };
         ThreadPlan::new(
             keys.parse::<u64>().ok()?,
+            Shape::of_words(shape)?,
             threads.parse::<u16>().ok()?,
             Sharing::of_word(sharing)?,
         )
     }
 
     /// Returns a plan if it has 1 to 1,000,000 keys, the maximum number of entries of a journal, and 1 to 8 threads.
-    fn new(keys: u64, threads: u16, sharing: Sharing) -> Option<ThreadPlan> {
-        if 1 <= keys && keys <= MOST_ENTRIES && 1 <= threads && threads <= MOST_THREADS {
+    fn new(keys: u64, shape: Shape, threads: u16, sharing: Sharing) -> Option<ThreadPlan> {
+        if 1 <= keys && keys <= ENTRIES_MAX && 1 <= threads && threads <= THREADS_MAX {
             Some(ThreadPlan {
                 keys,
+                shape,
                 threads,
                 sharing,
             })
@@ -83,6 +88,7 @@ impl ThreadPlan {
         Part {
             from: self.of_first(number),
             to: self.of_first(number.saturating_add(1)),
+            shape: self.shape,
         }
     }
 

@@ -16,7 +16,7 @@ use std::sync::ledger::{Blank, Ledger};
 use std::thread;
 use std::thread::Threads;
 use std::time::{Clock, Instant};
-use vclock::Refusal;
+use vclock::{Format, Refusal};
 
 /// The times of the calls, the time when the ranges were closed, and whether they were closed: the passes and the
 /// journals agreed.
@@ -71,7 +71,7 @@ fn run_on_one<L: Ledger + Send + Sync, R: Threads + Wait + Clock + Sync>(
 ) -> Result<Done, Fault>
     requires { (blank.name ≡ L.name) × (blank.parts ≡ L.parts) × (L.parts ≡ plan.now.threads) }
 {
-    let (range, passes) = open_range::<L>(alloc, blank, plan.threads)?;
+    let (range, passes) = open_range::<L>(alloc, blank, plan.shape.format, plan.threads)?;
     let (passes, spans) = run_passes(rt, alloc, plan, &range, passes)?;
     end(rt, alloc, range, passes, spans)
 }
@@ -182,22 +182,23 @@ fn run_on_own<L: Ledger, R: Wait + Clock>(
 ) -> Result<Done, Fault>
     requires { (blank.name ≡ L.name) × (blank.parts ≡ L.parts) × (L.parts ≡ 1) }
 {
-    let (range, mut passes) = open_range::<L>(alloc, blank, 1)?;
+    let (range, mut passes) = open_range::<L>(alloc, blank, plan.shape.format, 1)?;
     let pass = passes.first_mut().ok_or(Fault::TooFewPasses)?;
     let spans = put_and_get(rt, alloc, &range, pass, starts, plan.part(number))?;
     end(rt, alloc, range, passes, spans)
 }
 
-/// Opens a range of format 1 with all keys at node 1, and the passes of its seats, 1 to 64. Refused: NoMemory.
+/// Opens a range with all keys at node 1, and the passes of its seats, 1 to 64. Refused: NoMemory.
 fn open_range<L: Ledger>(
     alloc: Global,
     blank: Blank,
+    format: Format,
     seats: u16,
 ) -> Result<(SharedRange<L>, Vec<Pass<L>>), Refusal>
     requires ledger { (blank.name ≡ L.name) × (blank.parts ≡ L.parts) × (L.parts ≡ seats) }
     requires few { (1 ≤ seats) × (seats ≤ 64) }
 {
-    let state = RangeState::new(alloc, config()?)?;
+    let state = RangeState::new(alloc, config(format)?)?;
     let (book, passes) = open_passes::<L>(blank, alloc, seats)?;
     Ok((SharedRange::new(1, state, book), passes))
 }

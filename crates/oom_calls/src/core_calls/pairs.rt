@@ -70,7 +70,7 @@ impl Pair {
 fn reconcile_pair(rt: &(impl Threads + Sync), alloc: Global) -> Result<u64, Refusal> {
     let mut pair = Pair::new(rt, alloc)?;
     match pair.reconcile(alloc) {
-        Ok(told) => Ok(digits(&told)),
+        Ok(report) => Ok(digits(&report)),
         Err(refusal) => Err(unchanged(refusal, has_stopped(rt, alloc, &pair))),
     }
 }
@@ -100,9 +100,14 @@ fn reconcile_both(
 }
 
 /// Returns a report's four counts as the digits of a number.
-fn digits(told: &Reconciled) -> u64 {
+fn digits(report: &Reconciled) -> u64 {
     let mut number = 0u64;
-    for count in [told.asked_a, told.asked_b, told.accepted_a, told.accepted_b] {
+    for count in [
+        report.asked_a,
+        report.asked_b,
+        report.accepted_a,
+        report.accepted_b,
+    ] {
         number = number.saturating_mul(10).saturating_add(count);
     }
     number

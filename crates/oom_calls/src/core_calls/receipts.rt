@@ -45,23 +45,23 @@ pub(crate) fn show_all<R: Print + AllocGlobal + Threads + Sync>(
 }
 
 /// Returns true if a list has the receipts of all entries of a range, and no other.
-fn has_told(told: &[Receipt], state: &RangeState) -> bool {
+fn has_receipts(list: &[Receipt], state: &RangeState) -> bool {
     let entries = state.journal().entries();
-    begins(told, entries) && begins(entries, told)
+    begins(list, entries) && begins(entries, list)
 }
 
 /// Puts `x` under `a`, with the context of one node.
 fn put_at(
     alloc: Global,
     state: &mut RangeState,
-    told: &mut Vec<Receipt>,
+    list: &mut Vec<Receipt>,
     node: u64,
 ) -> Result<Receipt, Refusal> {
     let (context, value) = put_parts(alloc, node)?;
     let key = HashedKey::new(b"a");
     state.put_into(
         alloc,
-        told,
+        list,
         ContextTest::Fresh,
         0,
         1,
@@ -75,14 +75,14 @@ fn put_at(
 /// Puts until the journal, the set and the list have had to grow.
 fn put(alloc: Global) -> Result<u64, Refusal> {
     let mut state = range(alloc)?;
-    let mut told = Vec::new(alloc);
+    let mut list = Vec::new(alloc);
     for node in 2..8u64 {
-        if let Err(refusal) = put_at(alloc, &mut state, &mut told, node) {
-            let is_same = has_told(&told, &state);
+        if let Err(refusal) = put_at(alloc, &mut state, &mut list, node) {
+            let is_same = has_receipts(&list, &state);
             return Err(unchanged(refusal, all(is_same, is_before(alloc, &state, node))));
         }
     }
-    Ok(told.len() as u64)
+    Ok(list.len() as u64)
 }
 
 /// Returns true if both hold.
@@ -93,37 +93,37 @@ fn all(first: bool, second: Result<bool, Refusal>) -> Result<bool, Refusal> {
 /// Accepts versions of other keys, the last of them twice.
 fn accept(alloc: Global) -> Result<u64, Refusal> {
     let mut state = range(alloc)?;
-    let mut told = Vec::new(alloc);
+    let mut list = Vec::new(alloc);
     for (at, key) in KEYS.iter().enumerate() {
-        if let Err(refusal) = accept_of(alloc, &mut state, &mut told, *key) {
-            let is_same = has_told(&told, &state);
+        if let Err(refusal) = accept_of(alloc, &mut state, &mut list, *key) {
+            let is_same = has_receipts(&list, &state);
             return Err(unchanged(refusal, all(is_same, is_before_key(alloc, &state, at))));
         }
     }
-    Ok(told.len() as u64)
+    Ok(list.len() as u64)
 }
 
 /// Loads a row with two versions, which was read before.
 fn load(alloc: Global) -> Result<u64, Refusal> {
     let mut state = range(alloc)?;
-    let mut told = Vec::new(alloc);
+    let mut list = Vec::new(alloc);
     let rows = LeafRows::read(alloc, state.store().config(), TWO_VERSIONS)?;
-    if let Err(refusal) = state.load_into(alloc, &mut told, 0, &rows) {
-        let is_same = has_told(&told, &state);
+    if let Err(refusal) = state.load_into(alloc, &mut list, 0, &rows) {
+        let is_same = has_receipts(&list, &state);
         return Err(unchanged(refusal, all(is_same, is_before(alloc, &state, 2))));
     }
-    Ok(told.len() as u64)
+    Ok(list.len() as u64)
 }
 
 /// Accepts a copy of a key.
 fn accept_of(
     alloc: Global,
     state: &mut RangeState,
-    told: &mut Vec<Receipt>,
+    list: &mut Vec<Receipt>,
     key: u8,
 ) -> Result<Accepted, Refusal> {
     let copy = version(alloc, 2)?;
-    state.accept_into(alloc, told, 0, Source::Copy, &HashedKey::new(&[key]), copy)
+    state.accept_into(alloc, list, 0, Source::Copy, &HashedKey::new(&[key]), copy)
 }
 
 /// Answers a session of a range until it is finished, and returns the number of its receipts.
@@ -133,15 +133,15 @@ fn take_answer(
     partner: &Snapshot,
 ) -> Result<u64, Refusal> {
     let mut state = clean_range(rt, alloc)?;
-    let mut told = Vec::new(alloc);
+    let mut list = Vec::new(alloc);
     state.open_session(alloc, 2, partner.offer(1))?;
     for answers in 0..ASKED {
         let (node, text) = first_text_of(alloc, &state, partner)?;
-        if let Err(refusal) = state.take_answer_into(alloc, &mut told, 1, 0, node, text) {
-            let is_same = has_told(&told, &state);
+        if let Err(refusal) = state.take_answer_into(alloc, &mut list, 1, 0, node, text) {
+            let is_same = has_receipts(&list, &state);
             let is_after = is_after(rt, alloc, &state, partner, answers);
             return Err(unchanged(refusal, all(is_same, is_after)));
         }
     }
-    Ok(told.len() as u64)
+    Ok(list.len() as u64)
 }

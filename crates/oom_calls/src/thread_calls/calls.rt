@@ -3,9 +3,8 @@
 /// A call on a locked range. The byte is the key.
 #[derive(Clone, Copy)]
 pub(crate) enum LockedCall {
-    /// `take_job` of the tree and `install`, until all nodes are clean.
+    /// `take_job` and `install`, until all nodes are clean.
     Hash,
-    /// A snapshot of the tree.
     Snapshot,
     OpenSession,
     TakeAnswer,
@@ -139,8 +138,8 @@ impl Call {
 impl LockedCall {
     fn name(self) -> &'static str {
         match self {
-            LockedCall::Hash => "Tree::take_job and LockedRange::install",
-            LockedCall::Snapshot => "Tree::snapshot of a LockedRange",
+            LockedCall::Hash => "LockedRange::take_job and install",
+            LockedCall::Snapshot => "LockedRange::snapshot",
             LockedCall::OpenSession => "LockedRange::open_session",
             LockedCall::TakeAnswer => "LockedRange::take_answer and LockedRange::take_answer_next",
             LockedCall::Put(_) => "LockedRange::put and LockedRange::put_hashed",

@@ -1,6 +1,6 @@
 //! The states and passes after the ranges are closed.
 use crate::states::{clean_nodes, is_between};
-use crate::thread_calls::told::Told;
+use crate::thread_calls::pass_copy::PassCopy;
 use caller_pass::Closed;
 use hint_store::Hint;
 use range_journal::Source;
@@ -12,20 +12,20 @@ use vclock::Refusal;
 /// The state of a range that was closed, and its passes.
 pub(crate) struct Left {
     state: RangeState,
-    passes: Vec<Told>,
+    passes: Vec<PassCopy>,
 }
 
 impl Left {
     /// Returns the state of a closed range and its passes. Refused: NoMemory.
     pub(crate) fn of<L: Ledger>(alloc: Global, closed: Closed<L>) -> Result<Left, Refusal> {
         let Closed { state, passes } = closed;
-        let mut told = Vec::new(alloc);
+        let mut copies = Vec::new(alloc);
         for pass in &passes {
-            told.push(Told::of(alloc, pass)?)?;
+            copies.push(PassCopy::of(alloc, pass)?)?;
         }
         Ok(Left {
             state,
-            passes: told,
+            passes: copies,
         })
     }
 
@@ -39,7 +39,7 @@ impl Left {
         let places = before.passes.iter().zip(&after.passes);
         let mut passes = self.passes.iter().zip(places);
         self.passes.len() == before.passes.len()
-            && passes.all(|(told, (first, last))| told.is_between(first, last))
+            && passes.all(|(pass, (first, last))| pass.is_between(first, last))
             && is_between(&self.state, &before.state, &after.state)
     }
 

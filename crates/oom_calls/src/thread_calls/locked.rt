@@ -59,10 +59,7 @@ impl<L: Ledger> Locked<L> {
     ) -> Result<u64, Refusal> {
         match call {
             LockedCall::Hash => self.hash(alloc),
-            LockedCall::Snapshot => {
-                let snapshot = self.range.store().tree().snapshot(alloc)?;
-                Ok(u64::from(snapshot.format().number()))
-            }
+            LockedCall::Snapshot => Ok(u64::from(self.range.snapshot(alloc)?.format().number())),
             LockedCall::OpenSession => {
                 let offer = partner.snapshot.offer(1);
                 self.range.open_session(alloc, 2, offer)
@@ -85,7 +82,7 @@ impl<L: Ledger> Locked<L> {
     fn hash(&mut self, alloc: Global) -> Result<u64, Refusal> {
         let mut count = 0u64;
         for _ in 0..TURNS {
-            let Some(job) = self.range.store().tree().take_job(alloc, 0)? else {
+            let Some(job) = self.range.take_job(alloc, 0)? else {
                 break;
             };
             let node = job.node();

@@ -36,15 +36,15 @@ impl RangeState {
         ensures { TakesAnswer self.old seat id
             (record { node = node; text = text }) result self.new }
     {
-        let mut told = Vec::new(alloc);
-        self.take_answer_beside(alloc, &mut told, seat, id, node, text)
+        let mut list = Vec::new(alloc);
+        self.take_answer_beside(alloc, &mut list, seat, id, node, text)
     }
 
     /// Takes a text as `take_answer` does, and makes room for the receipts in a list that isn't empty.
     pub(super) fn take_answer_beside(
         &mut self,
         alloc: Global,
-        told: &mut Vec<Receipt>,
+        list: &mut Vec<Receipt>,
         seat: u16,
         id: u64,
         node: NodeAt,
@@ -52,15 +52,15 @@ impl RangeState {
     ) -> Result<AnswerTaken, Refusal>
         ensures answers { TakesAnswer self.old seat id
             (record { node = node; text = text }) result self.new }
-        ensures same { told.new.items ≡ told.old.items }
-        ensures room { IfOk result (λ taken. (told.new.items ≡ [])
-            ⊎ (vec_len told.new + vec_len taken.receipts ≤ vec_capacity told.new)) }
+        ensures same { list.new.items ≡ list.old.items }
+        ensures room { IfOk result (λ taken. (list.new.items ≡ [])
+            ⊎ (vec_len list.new + vec_len taken.receipts ≤ vec_capacity list.new)) }
     {
         let kept = self.record(id)?;
         match self.news_of(alloc, kept, node, &text) {
             Ok(news) => {
                 if node.depth == tree_depth(self.store.config().format()) {
-                    self.take_leaf(alloc, told, seat, id, node, text, &news)
+                    self.take_leaf(alloc, list, seat, id, node, text, &news)
                 } else {
                     self.take_inner(alloc, id, node, text)
                 }
@@ -101,7 +101,7 @@ impl RangeState {
     fn take_leaf(
         &mut self,
         alloc: Global,
-        told: &mut Vec<Receipt>,
+        list: &mut Vec<Receipt>,
         seat: u16,
         id: u64,
         node: NodeAt,
@@ -112,9 +112,9 @@ impl RangeState {
             (λ r. IsNewsRead self.old r (record { node = node; text = text }) news.now) }
         ensures answers { TakesAnswer self.old seat id
             (record { node = node; text = text }) result self.new }
-        ensures same { told.new.items ≡ told.old.items }
-        ensures room { IfOk result (λ taken. (told.new.items ≡ [])
-            ⊎ (vec_len told.new + vec_len taken.receipts ≤ vec_capacity told.new)) }
+        ensures same { list.new.items ≡ list.old.items }
+        ensures room { IfOk result (λ taken. (list.new.items ≡ [])
+            ⊎ (vec_len list.new + vec_len taken.receipts ≤ vec_capacity list.new)) }
     {
         // Called for its clause alone: the digest is that of the text.
         let _bytes = text.text();
@@ -122,7 +122,7 @@ impl RangeState {
         let batch = self
             .store
             .prepare(alloc, seat, Source::Partner, leaf, &news.rows)?;
-        let receipts = receipts_beside(alloc, told, batch.entries())?;
+        let receipts = receipts_beside(alloc, list, batch.entries())?;
         let loaded = self.store.accept_batch(alloc, leaf, batch)?;
         let session = &mut self.records[id as usize].session;
         session.take_leaf(node, text);

@@ -37,7 +37,7 @@ impl RangeState {
     ) -> Result<Loaded, Refusal>
         requires { rows.now.config ≡ self.old.store.config }
         ensures loads { DoesOrNoMemory result self.old self.new (load self.old seat rows.now.rows) }
-        ensures told { receipts.new.items ≡ receipts.old.items ++ drop (length self.old.store.entries) self.new.store.entries }
+        ensures appended { receipts.new.items ≡ receipts.old.items ++ drop (length self.old.store.entries) self.new.store.entries }
     {
         let done = self.store.load_into(alloc, receipts, seat, rows);
         // Called for its clause alone: the store is sound.

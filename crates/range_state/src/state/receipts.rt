@@ -2,9 +2,9 @@
 ghost use Rattle.std.specs.Prelude.{◌≡◌, ◌≤◌, None, IfErr, IsTrue};
 ghost use Rattle.vclock.specs.Outcome.{Does, DoesOrNoMemory};
 ghost use Rattle.range_store.specs.Store.{is_sent, ask_fault};
-ghost use Rattle.range_store.specs.Told.{with_put, with_sent};
+ghost use Rattle.range_store.specs.Receipts.{with_put, with_sent};
 ghost use Rattle.range_state.specs.State.{put_by, accept};
-ghost use Rattle.range_state.specs.Told.{CountsAnswer};
+ghost use Rattle.range_state.specs.Receipts.{CountsAnswer};
 
 use crate::event::{AnswerCounted, AnswerTaken};
 use crate::state::RangeState;
@@ -36,7 +36,7 @@ impl RangeState {
             (put_by test self.old seat at key.now context.now kind value) }
         ensures early { IfErr result (λ e. e ≡ Refusal.NoMemory
             → ask_fault self.old.store.config at key.now context.now kind value ≡ None) }
-        ensures told { receipts.new.items ≡ with_put receipts.old.items result }
+        ensures appended { receipts.new.items ≡ with_put receipts.old.items result }
     {
         let done = self
             .store
@@ -59,7 +59,7 @@ impl RangeState {
     ) -> Result<Accepted, Refusal>
         requires { IsTrue (is_sent source) }
         ensures accepts { Does result self.old self.new (accept self.old seat source key.now version) }
-        ensures told { receipts.new.items ≡ with_sent receipts.old.items result }
+        ensures appended { receipts.new.items ≡ with_sent receipts.old.items result }
     {
         let done = self
             .store
@@ -83,12 +83,12 @@ impl RangeState {
         ensures { CountsAnswer self.old seat id (record { node = node; text = text }) result self.new receipts.old.items receipts.new.items }
     {
         let AnswerTaken {
-            receipts: told,
+            receipts: added,
             known,
             state,
         } = self.take_answer_beside(alloc, receipts, seat, id, node, text)?;
-        let count = told.len() as u64;
-        move_to(receipts, told);
+        let count = added.len() as u64;
+        move_to(receipts, added);
         Ok(AnswerCounted {
             receipts: count,
             known,

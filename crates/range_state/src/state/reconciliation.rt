@@ -54,7 +54,7 @@ pub fn reconcile(
 ) -> Result<Reconciled, Refusal>
     requires { IsOfRange a.old.store.config (rows_now b.old.store) }
     ensures sessions { Reconciles a.old at_a b.old at_b seat result a.new b.new }
-    ensures asked { IfOk result (λ told. HaveAskedAlike a.old b.old a.new b.new told.asked_a told.asked_b) }
+    ensures asked { IfOk result (λ report. HaveAskedAlike a.old b.old a.new b.new report.asked_a report.asked_b) }
     ensures union { OnOk result (NoTwoShareADigest (rows_now a.old.store) (rows_now b.old.store) []
         → HoldBoth a.old b.old a.new b.new) }
     ensures roots { OnOk result (NoTwoShareADigest (rows_now a.old.store) (rows_now b.old.store) []
@@ -113,7 +113,7 @@ impl RangeState {
         requires range { IsOfRange self.old.store.config other.now }
         requires free { first_fault (crowd_fault (standings self.old.records)) (dirty_fault self.old.store) ≡ None }
         ensures { MatchResult result
-            (λ told. HasCaughtUp self.old seat partner other.now told.asked told.accepted self.new)
+            (λ report. HasCaughtUp self.old seat partner other.now report.asked report.accepted self.new)
             (λ e. HasStopped self.old seat partner other.now e self.new) }
     {
         let id = self.records.len() as u64;

@@ -53,13 +53,13 @@ impl RangeStore {
     ) -> Result<Loaded, Refusal>
         requires { rows.now.config ≡ self.old.config }
         ensures loads { DoesOrNoMemory result self.old self.new (load self.old seat rows.now.rows) }
-        ensures told { receipts.new.items ≡ receipts.old.items ++ drop (length self.old.entries) self.new.entries }
+        ensures appended { receipts.new.items ≡ receipts.old.items ++ drop (length self.old.entries) self.new.entries }
     {
         let leaf = rows.leaf();
         let batch = self.prepare_load(alloc, seat, rows)?;
-        let told = receipts_beside(alloc, receipts, batch.entries())?;
+        let added = receipts_beside(alloc, receipts, batch.entries())?;
         let loaded = self.accept_batch(alloc, leaf, batch)?;
-        move_to(receipts, told);
+        move_to(receipts, added);
         Ok(loaded)
     }
 

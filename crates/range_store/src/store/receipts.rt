@@ -6,7 +6,7 @@ ghost use Rattle.vclock.specs.Outcome.{Does, DoesOrNoMemory};
 ghost use Rattle.range_store.specs.ContextTests.{put_by};
 ghost use Rattle.range_store.specs.Store.{is_sent, ask_fault, entry_of, admit, accept};
 ghost use Rattle.range_store.specs.Fitting.{IsFitting};
-ghost use Rattle.range_store.specs.Told.{with_put, with_sent};
+ghost use Rattle.range_store.specs.Receipts.{with_put, with_sent};
 
 use crate::context_test::ContextTest;
 use crate::receipt::{Accepted, Receipt};
@@ -37,7 +37,7 @@ impl RangeStore {
             (put_by test self.old seat at key.now context.now kind value) }
         ensures early { IfErr result (λ e. e ≡ Refusal.NoMemory
             → ask_fault self.old.config at key.now context.now kind value ≡ None) }
-        ensures told { receipts.new.items ≡ with_put receipts.old.items result }
+        ensures appended { receipts.new.items ≡ with_put receipts.old.items result }
     {
         let (home, version) = self.make_put(alloc, test, at, key, context, kind, value)?;
         let key = key.bytes();
@@ -66,7 +66,7 @@ impl RangeStore {
     ) -> Result<Accepted, Refusal>
         requires { IsTrue (is_sent source) }
         ensures accepts { Does result self.old self.new (accept self.old seat source key.now version) }
-        ensures told { receipts.new.items ≡ with_sent receipts.old.items result }
+        ensures appended { receipts.new.items ≡ with_sent receipts.old.items result }
     {
         let Some(home) = self.home_of_news(key, &version)? else {
             return Ok(Accepted::Known);
@@ -80,16 +80,16 @@ impl RangeStore {
 /// Copies entries as receipts, and makes room for them in a list that isn't empty. Refused: NoMemory.
 pub fn receipts_beside(
     alloc: Global,
-    told: &mut Vec<Receipt>,
+    list: &mut Vec<Receipt>,
     entries: &[Entry],
 ) -> Result<Vec<Receipt>, Refusal>
     ensures copies { Answers result None (λ receipts. receipts.items ≡ entries.now) }
-    ensures same { told.new.items ≡ told.old.items }
-    ensures room { IfOk result (λ receipts. (told.new.items ≡ [])
-        ⊎ (vec_len told.new + vec_len receipts ≤ vec_capacity told.new)) }
+    ensures same { list.new.items ≡ list.old.items }
+    ensures room { IfOk result (λ receipts. (list.new.items ≡ [])
+        ⊎ (vec_len list.new + vec_len receipts ≤ vec_capacity list.new)) }
 {
-    if !told.is_empty() {
-        told.reserve(entries.len())?;
+    if !list.is_empty() {
+        list.reserve(entries.len())?;
     }
     copy_entries(alloc, entries)
 }

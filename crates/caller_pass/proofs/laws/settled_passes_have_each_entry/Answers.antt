@@ -1,5 +1,5 @@
-use Rattle.caller_pass.proofs.CallerLaws.{each_entry_told}
+use Rattle.caller_pass.proofs.CallerLaws.{each_entry_kept}
 use Rattle.caller_pass.proofs.laws.settled_passes_have_each_entry.Goals as goal
 
 pub returns : goal.returns
-returns c = each_entry_told
+returns c = each_entry_kept

@@ -1,7 +1,7 @@
 use Rattle.std.proofs.Common.{◌≡◌, [], ◌∷◌, ◌++◌, ap, ap₂, ◌∙◌}
 use Rattle.json.specs.Print.{print}
 use Rattle.outage_script.specs.Answers.{answer_data}
-use Rattle.outage_script.specs.Told.{tokens_of}
+use Rattle.outage_script.specs.Parts.{tokens_of}
 use Rattle.outage_script.proofs.AnswerLemmas.{printed}
 use Rattle.outage_script.proofs.answer.answer_line.Goals as goal
 

@@ -3,6 +3,6 @@ use Rattle.range_store.proofs.laws.no_load_lowers_a_counter.Goals as goal
 
 pub returns : goal.returns
 returns c = record {
-  load = λ s t seat rows told key node given. load_top s t seat rows told key node given;
+  load = λ s t seat rows report key node given. load_top s t seat rows report key node given;
   renewal = λ s seat limit key node. renewed_top s seat limit key node;
 }

@@ -17,7 +17,7 @@ pub returns-in-Err-RowBroken : goal.returns-in-Err-RowBroken
 returns-in-Err-RowBroken c =
     λ rows is.
     let body = spelled_body c.args.own.now c.args.node c.args.text.now rows c.format-format.result c.leaf_byte.result c.in-Some.body.now is c.format-format.ensures.format c.leaf_byte.ensures c.in-Some.ensures in
-    let told = rw c.in-Err-RowBroken.field-0-is at (c.in-Err-RowBroken.ensures.only rows body.0 body.1) in
+    let shown = rw c.in-Err-RowBroken.field-0-is at (c.in-Err-RowBroken.ensures.only rows body.0 body.1) in
     absurd (cc)
 
 pub returns-then-are_here : goal.returns-then-are_here

@@ -85,9 +85,9 @@ into_box_spec 𝓤 𝓛 𝓜 𝓡 wired T A L LA g d dT dA allocator glueT glueA
     await ! tt $ pick ! (λ r. split ! $ move ! (1 ∷ []) $ pick ! (λ _. split3 ! $ drop ! $ heard ! (r.value ≡ v.value) (λ same. drop ! $ split ! $ move ! (1 ∷ []) $
     box_out E ! r (u ∷ []) (λ b o h' at us fits'. box_in E ! r b o r.value at refl $ rewrite ! 0 (λ (xs : List Val). ‵ ((box.B E).own_val r xs)) (sym us) refl $
     let good : Good (layout (box.B E)) u = subst (Good (layout (box.B E))) (sym (ap only us)) (box.box_typed E h' b o fits') in let v₁ : Val = live 0 (vcons u vnil) in
-    let told : (v.held ≡ true) × (r.value ≡ v.value) = (held, same) in
+    let outcome : (v.held ≡ true) × (r.value ≡ v.value) = (held, same) in
     lands_last ! refl good $ exec ! 𝓣.C 𝓣.Λ Ev (after 7 fn.body) (at_ret Ev Post) $ sets ! (of_opd ! (get ! refl)) refl good $
     sets ! (agg ! (and_then ! (lit ! tt) (and_then ! (get ! refl) (no_more !)))) refl (and_tt _ good.0, (record { fits = lit< tt }, (good.1, tt))) $
     use1 𝓛 (‵ (Out.own_val (Ok r) (v₁ ∷ []))) (ok_of 𝓛 (box.B E) Z r u) $
-    use0 𝓛 (raw (fact 𝓤 ((v.held ≡ true) × (r.value ≡ v.value)))) (fact_i 𝓤 ((v.held ≡ true) × (r.value ≡ v.value)) (emp 𝓤) told) $ nothing ! $ nothing ! $ fjoin ! $
+    use0 𝓛 (raw (fact 𝓤 ((v.held ≡ true) × (r.value ≡ v.value)))) (fact_i 𝓤 ((v.held ≡ true) × (r.value ≡ v.value)) (emp 𝓤) outcome) $ nothing ! $ nothing ! $ fjoin ! $
     returns ! (look_at ! 0 refl) $ free_all ! refl $ keep ! (3 ∷ 0 ∷ 2 ∷ 1 ∷ []) $ by ! (leaves 𝓛 En stayed c y v₁ (Ok r) ((tt, (tt, (tt, tt))), tt) (tt, tt)))))))))))

@@ -5,7 +5,7 @@ use Rattle.range_journal.specs.declared.journal.Entry.{Entry}
 use Rattle.range_store.specs.declared.receipt.Accepted.TheVariants.{Taken, Known}
 use Rattle.range_state.specs.State.{State, with_store, accept}
 use Rattle.range_store.specs.Store.{Store, entry_of}
-use Rattle.range_store.specs.Told.{with_sent}
+use Rattle.range_store.specs.Receipts.{with_sent}
 use Rattle.caller_pass.specs.Indexes.{IsIndex}
 use Rattle.caller_pass.specs.Locks.{Locked, IsLocked}
 use Rattle.caller_pass.specs.Passes.{PassView}
@@ -27,18 +27,18 @@ invariant_of-self-in-Known g c =
 
 pub note-requires-clause-index : goal.note-requires-clause-index
 note-requires-clause-index g c =
-    let told : c.accept_into.new.receipts.items ≡ with_sent c.pass.inside.receipts.items (Ok (Taken c.in-Taken.receipt)) = cc (c.in_ok-accept_into.ensures.told, c.in-Taken.is) in
-    grown c.pass.inside.receipts.items (c.in-Taken.receipt ∷ []) c.deref.result.now c.pass.inside.by_key c.pass.invariant.2 (c.deref.ensures.value ∙ told)
+    let shown : c.accept_into.new.receipts.items ≡ with_sent c.pass.inside.receipts.items (Ok (Taken c.in-Taken.receipt)) = cc (c.in_ok-accept_into.ensures.appended, c.in-Taken.is) in
+    grown c.pass.inside.receipts.items (c.in-Taken.receipt ∷ []) c.deref.result.now c.pass.inside.by_key c.pass.invariant.2 (c.deref.ensures.value ∙ shown)
 
 pub note-requires-clause-last : goal.note-requires-clause-last
 note-requires-clause-last g c =
     let l : Locked = record { state = c.self.inside.state; book = c.self.inside.book } in
     let seat = c.pass.inside.seat in
-    let told : c.accept_into.new.receipts.items ≡ with_sent c.pass.inside.receipts.items (Ok (Taken c.in-Taken.receipt)) = cc (c.in_ok-accept_into.ensures.told, c.in-Taken.is) in
+    let shown : c.accept_into.new.receipts.items ≡ with_sent c.pass.inside.receipts.items (Ok (Taken c.in-Taken.receipt)) = cc (c.in_ok-accept_into.ensures.appended, c.in-Taken.is) in
     let taken : accept l.state seat c.args.source c.args.key.now c.args.version ≡ gives (Taken c.in-Taken.receipt) c.accept_into.new.self = cc (c.in_ok-accept_into.ensures.accepts, c.in-Taken.is) in
     let part = of_store l.state _ (Taken c.in-Taken.receipt) c.accept_into.new.self taken in
     let came = accept_gives l.state.store seat c.args.source c.args.key.now c.args.version (Taken c.in-Taken.receipt) c.accept_into.new.self.store part.0 in
-    last_front c.pass.inside.receipts.items c.deref.result.now c.in-Taken.receipt c.args.key.now c.front.result (c.deref.ensures.value ∙ told) (ap (λ (e : Entry). e.key) came.0) c.front.ensures
+    last_front c.pass.inside.receipts.items c.deref.result.now c.in-Taken.receipt c.args.key.now c.front.result (c.deref.ensures.value ∙ shown) (ap (λ (e : Entry). e.key) came.0) c.front.ensures
 
 pub invariant_of-self-2 : goal.invariant_of-self-2
 invariant_of-self-2 g c =
@@ -55,5 +55,5 @@ invariant_of-self-2 g c =
 pub invariant_of-pass-2 : goal.invariant_of-pass-2
 invariant_of-pass-2 g c =
     let p : PassView = record { seat = c.pass.inside.seat; seen = c.pass.inside.seen; share = c.pass.inside.share.amount; receipts = c.pass.inside.receipts.items; readings = c.pass.inside.readings.items } in
-    let told : c.accept_into.new.receipts.items ≡ with_sent p.receipts (Ok (Taken c.in-Taken.receipt)) = cc (c.in_ok-accept_into.ensures.told, c.in-Taken.is) in
-    (c.count.ensures.parts ∙ c.pass.invariant.0, pass_after g.L.Ledger.parts p (length c.journal.result.now.entries) c.count.new.seen c.count.new.share.amount c.accept_into.new.receipts.items (c.in-Taken.receipt ∷ []) c.pass.invariant.1 c.count.ensures.seen c.count.ensures.amount told, subst (λ (es : List Entry). IsIndex es c.note.new.self) c.deref.ensures.value c.note.ensures)
+    let shown : c.accept_into.new.receipts.items ≡ with_sent p.receipts (Ok (Taken c.in-Taken.receipt)) = cc (c.in_ok-accept_into.ensures.appended, c.in-Taken.is) in
+    (c.count.ensures.parts ∙ c.pass.invariant.0, pass_after g.L.Ledger.parts p (length c.journal.result.now.entries) c.count.new.seen c.count.new.share.amount c.accept_into.new.receipts.items (c.in-Taken.receipt ∷ []) c.pass.invariant.1 c.count.ensures.seen c.count.ensures.amount shown, subst (λ (es : List Entry). IsIndex es c.note.new.self) c.deref.ensures.value c.note.ensures)

@@ -26,7 +26,7 @@ invariant_of-pass-2 g c =
     let journal = length c.journal-journal.result.now.entries in
     let seen : c.count.new.seen ≡ seen_after p.seen journal (length es) = c.count.ensures.seen ∙ ap (seen_after p.seen journal) count in
     let share : c.count.new.share.amount ≡ p.share + length es = c.count.ensures.amount ∙ ap (λ (n : ℕ). p.share + n) count in
-    (c.count.ensures.parts ∙ c.pass.invariant.0, pass_after g.L.Ledger.parts p journal c.count.new.seen c.count.new.share.amount c.load_into.new.receipts.items es c.pass.invariant.1 seen share c.in_ok-loaded.ensures.told, grown p.receipts es c.load_into.new.receipts.items c.pass.inside.by_key c.pass.invariant.2 c.in_ok-loaded.ensures.told)
+    (c.count.ensures.parts ∙ c.pass.invariant.0, pass_after g.L.Ledger.parts p journal c.count.new.seen c.count.new.share.amount c.load_into.new.receipts.items es c.pass.invariant.1 seen share c.in_ok-loaded.ensures.appended, grown p.receipts es c.load_into.new.receipts.items c.pass.inside.by_key c.pass.invariant.2 c.in_ok-loaded.ensures.appended)
 
 pub returns : goal.returns
 returns g c =
@@ -41,7 +41,7 @@ returns g c =
     let seen : c.count.new.seen ≡ seen_after p.seen (length new.store.entries) (length es) = c.count.ensures.seen ∙ (λ i. seen_after p.seen (journal i) (count i)) in
     let share : c.count.new.share.amount ≡ p.share + length es = c.count.ensures.amount ∙ ap (λ (n : ℕ). p.share + n) count in
     let both : after_load l p new ≡ (record { state = new; book = c.count.new.self }, q) =
-    λ i. (record { state = new; book = (sym book) i }, record p { seen = (sym seen) i; share = (sym share) i; receipts = (sym c.in_ok-loaded.ensures.told) i }) in
+    λ i. (record { state = new; book = (sym book) i }, record p { seen = (sym seen) i; share = (sym share) i; receipts = (sym c.in_ok-loaded.ensures.appended) i }) in
     let done : load_in l p c.args.rows.now.rows ≡ gives c.in_ok-loaded.loaded (record { state = new; book = c.count.new.self }, q) =
     rw c.in_ok-loaded.ensures.loads (ap (λ (x : Locked × PassView). gives c.in_ok-loaded.loaded x) both) in
     subst (λ (x : Locked). load_in x c.args.pass.now c.args.rows.now.rows ≡ gives c.in_ok-loaded.loaded (record { state = new; book = c.count.new.self }, q)) c.self.view_is

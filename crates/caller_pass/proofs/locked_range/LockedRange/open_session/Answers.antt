@@ -1,5 +1,4 @@
-use Rattle.std.proofs.Common.{◌≡◌, length, ap, subst, sym, ◌∙◌}
-use Rattle.std.specs.List.{AllByRecursion}
+use Rattle.std.proofs.Common.{length, ap, subst, sym, ◌∙◌}
 use Rattle.range_store.specs.Store.{Store}
 use Rattle.caller_pass.proofs.LockLaws.{opened_beside}
 use Rattle.caller_pass.proofs.GrowthLaws.{AreSeated}

@@ -1,7 +1,7 @@
 use Rattle.std.proofs.Common.{◌≡◌, ℕ, ◌+◌, length, ap, subst, ◌∙◌}
 use Rattle.sync_session.specs.Walks.{TakenText}
 use Rattle.range_state.specs.declared.event.AnswerCounted.{AnswerCounted}
-use Rattle.caller_pass.specs.Locks.{Locked, IsToldOf}
+use Rattle.caller_pass.specs.Locks.{Locked, IsRecorded}
 use Rattle.caller_pass.specs.Passes.{PassView, counted, seen_after}
 use Rattle.caller_pass.proofs.GrowthLaws.{grown_by_text}
 use Rattle.caller_pass.proofs.LockLaws.{locked_grown}
@@ -26,7 +26,7 @@ invariant_of-pass-2 g c =
     let journal = length c.journal-journal.result.now.entries in
     let seen : c.count.new.seen ≡ seen_after p.seen journal (length is.taken.receipts.items) = c.count.ensures.seen ∙ ap (seen_after p.seen journal) count in
     let share : c.count.new.share.amount ≡ p.share + length is.taken.receipts.items = c.count.ensures.amount ∙ ap (λ (n : ℕ). p.share + n) count in
-    (c.count.ensures.parts ∙ c.pass.invariant.0, pass_after g.L.Ledger.parts p journal c.count.new.seen c.count.new.share.amount c.take_answer_into-answered.new.receipts.items is.taken.receipts.items c.pass.invariant.1 seen share is.told, grown p.receipts is.taken.receipts.items c.take_answer_into-answered.new.receipts.items c.pass.inside.by_key c.pass.invariant.2 is.told)
+    (c.count.ensures.parts ∙ c.pass.invariant.0, pass_after g.L.Ledger.parts p journal c.count.new.seen c.count.new.share.amount c.take_answer_into-answered.new.receipts.items is.taken.receipts.items c.pass.invariant.1 seen share is.appended, grown p.receipts is.taken.receipts.items c.take_answer_into-answered.new.receipts.items c.pass.inside.by_key c.pass.invariant.2 is.appended)
 
 pub returns : goal.returns
 returns g c =
@@ -43,12 +43,12 @@ returns g c =
     let book : c.count.new.self ≡ counted l.book (length es) = c.count.ensures.book ∙ ap (counted l.book) count in
     let seen : c.count.new.seen ≡ seen_after p.seen (length new.store.entries) (length es) = c.count.ensures.seen ∙ (λ i. seen_after p.seen (journal i) (count i)) in
     let share : c.count.new.share.amount ≡ p.share + length es = c.count.ensures.amount ∙ ap (λ (n : ℕ). p.share + n) count in
-    let told : IsToldOf l p c.args.id t c.in_ok-taken.taken m q = record {
+    let shown : IsRecorded l p c.args.id t c.in_ok-taken.taken m q = record {
       taken = is.taken;
       takes = is.takes;
       count = is.count;
       range = λ i. record { state = new; book = book i };
-      pass = λ i. record p { seen = seen i; share = share i; receipts = is.told i };
+      pass = λ i. record p { seen = seen i; share = share i; receipts = is.appended i };
     } in
-    subst (λ (x : Locked). IsToldOf x c.args.pass.now c.args.id t c.in_ok-taken.taken m q) c.self.view_is
-    (subst (λ (x : PassView). IsToldOf l x c.args.id t c.in_ok-taken.taken m q) c.pass.view_is told)
+    subst (λ (x : Locked). IsRecorded x c.args.pass.now c.args.id t c.in_ok-taken.taken m q) c.self.view_is
+    (subst (λ (x : PassView). IsRecorded l x c.args.id t c.in_ok-taken.taken m q) c.pass.view_is shown)

@@ -63,6 +63,6 @@ returns c =
     let down : c.deref.result.now ≡ s.down = search rules in
     let made : put_into s.down p (replicas_of s p.key) ≡ gives (receipt, c.in_ok-sent.sent.copied) new = ap (λ d. put_into d p (replicas_of s p.key)) (sym down) ∙ ap (put_into c.deref.result.now p) (sym at) ∙ c.in_ok-sent.ensures.puts in
     let own : owners ≡ owners_of (gets_hint s.down p.node p.lose) (replicas_of s p.key) = c.deref-2.ensures.value ∙ c.in_ok-sent.ensures.owners ∙ ap (λ d. owners_of (gets_hint d p.node p.lose) reps) down ∙ ap (owners_of (gets_hint s.down p.node p.lose)) at in
-    let told : (c.in_ok-hinted.hinted, after) ≡ hinted receipt owners (record s { replicas = slice_set s.replicas i new }) (carrier_of s r) = rw (← c.self.view_is) c.in_ok-hinted.ensures.1 in
+    let said : (c.in_ok-hinted.hinted, after) ≡ hinted receipt owners (record s { replicas = slice_set s.replicas i new }) (carrier_of s r) = rw (← c.self.view_is) c.in_ok-hinted.ensures.1 in
     let same : hinted receipt owners (record s { replicas = slice_set s.replicas i new }) (carrier_of s r) ≡ hinted receipt owners (with_replicas s p.key new) (carrier_of s (range_at s.ring.bits p.key)) = ap (λ j. hinted receipt owners (record s { replicas = slice_set s.replicas j new }) (carrier_of s r)) index ∙ ap (λ j. hinted receipt owners (with_replicas s p.key new) (carrier_of s j)) place in
-    put_result p s receipt c.in_ok-sent.sent.copied c.in_ok-hinted.hinted owners new after c.in_ok-context.ensures.0 made own (told ∙ same)
+    put_result p s receipt c.in_ok-sent.sent.copied c.in_ok-hinted.hinted owners new after c.in_ok-context.ensures.0 made own (said ∙ same)

@@ -2,7 +2,7 @@ use Rattle.std.proofs.Common.{rules, ◌+◌, length, sym, ap, ◌∙◌, inr, a
 use Rattle.std.specs.Prelude.{Result, Ok, Err, OnErr}
 use Rattle.range_state.specs.State.{State}
 use Rattle.range_state.specs.Sessions.{unknown_fault}
-use Rattle.range_state.proofs.SyncLaws.{IsNext, IsDone, open_ok, begun, known_session, next_is, done_is, is_told, shallow, fewer_left, answered, stopped, finished, refused_at, all_asked, all_asked_at, stopped_before, stopped_after}
+use Rattle.range_state.proofs.SyncLaws.{IsNext, IsDone, open_ok, begun, known_session, next_is, done_is, is_shown, shallow, fewer_left, answered, stopped, finished, refused_at, all_asked, all_asked_at, stopped_before, stopped_after}
 use Rattle.range_state.proofs.state.RangeState.sync_with.Goals as goal
 use Rattle.range_state.proofs.state.RangeState.sync_with.Goals.{In-Some, In_default}
 
@@ -64,7 +64,7 @@ returns-in-Err c =
     let stop = stopped at (search rules) c.in-Err.ensures in
     record {
       answers = (search rules, tt);
-      ok = refused_at at stop (is_told c.loop-node.invariant.before c.synced.ensures.accepted c.synced.ensures.known c.synced.ensures.asked c.synced.ensures.fault);
+      ok = refused_at at stop (is_shown c.loop-node.invariant.before c.synced.ensures.accepted c.synced.ensures.known c.synced.ensures.asked c.synced.ensures.fault);
       session = all_asked_at at stop c.loop-node.invariant.partner;
       err = tt;
       late = tt;
@@ -74,7 +74,7 @@ pub synced-requires-2-clause-id : goal.synced-requires-2-clause-id
 synced-requires-2-clause-id c = known_session c.loop-node.invariant.under c.loop-node.invariant.at
 
 pub returns-clause-ok : goal.returns-clause-ok
-returns-clause-ok c = finished (done (goal.at.returns-clause-ok c).In_default) (is_told c.loop-node.invariant.before c.synced-2.ensures.accepted c.synced-2.ensures.known c.synced-2.ensures.asked c.synced-2.ensures.fault)
+returns-clause-ok c = finished (done (goal.at.returns-clause-ok c).In_default) (is_shown c.loop-node.invariant.before c.synced-2.ensures.accepted c.synced-2.ensures.known c.synced-2.ensures.asked c.synced-2.ensures.fault)
 
 pub returns-clause-session : goal.returns-clause-session
 returns-clause-session c = all_asked (done (goal.at.returns-clause-session c).In_default) c.loop-node.invariant.partner

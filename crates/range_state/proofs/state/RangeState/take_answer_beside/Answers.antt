@@ -44,8 +44,8 @@ take_inner-requires c =
 pub fail_session-requires : goal.fail_session-requires
 fail_session-requires c =
     let at = (goal.at.fail_session-requires c).In_ok-kept in
-    let told = rw c.in-Err-NotCanonical.field-0-is at c.in-Err-NotCanonical.ensures 0 in
-    at_number at (λ x. (u : TakenText) × IsDue x.session u × (IsCanonical x.session.own u.node u.text → ⊥)) (text at, told.0, told.1)
+    let shown = rw c.in-Err-NotCanonical.field-0-is at c.in-Err-NotCanonical.ensures 0 in
+    at_number at (λ x. (u : TakenText) × IsDue x.session u × (IsCanonical x.session.own u.node u.text → ⊥)) (text at, shown.0, shown.1)
 
 pub returns-in-Err-NotCanonical-clause-answers : goal.returns-in-Err-NotCanonical-clause-answers
 returns-in-Err-NotCanonical-clause-answers c =

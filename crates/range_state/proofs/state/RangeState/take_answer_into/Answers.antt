@@ -5,12 +5,12 @@ use Rattle.range_state.proofs.state.RangeState.take_answer_into.Goals as goal
 
 pub returns : goal.returns
 returns c =
-    let taken = c.in_ok-told.field-0 in
-    let count : c.len-count.result ≡ length taken.receipts.items = omega (arith, c.len-count.ensures, c.in_ok-told.told.ok) in
+    let taken = c.in_ok-added.field-0 in
+    let count : c.len-count.result ≡ length taken.receipts.items = omega (arith, c.len-count.ensures, c.in_ok-added.added.ok) in
     let a : ℕ → AnswerCounted = λ n. record { receipts = n; known = taken.known; state = taken.state } in
     record {
       taken = taken;
-      takes = c.in_ok-told.ensures.answers;
+      takes = c.in_ok-added.ensures.answers;
       count = ap a count;
-      told = c.move_to.ensures ∙ ap (λ (xs : List Entry). xs ++ taken.receipts.items) c.in_ok-told.ensures.same;
+      appended = c.move_to.ensures ∙ ap (λ (xs : List Entry). xs ++ taken.receipts.items) c.in_ok-added.ensures.same;
     }

@@ -25,8 +25,8 @@ awaits : (c : After-self) (r : Record) → r ≡ get_or c.self.inside.records.it
 awaits c r was = inner_at (state c) c.args.id r (text c) c.self.invariant was (subst (λ (u : State). MatchOption (slice_get u.records c.args.id) ⊥ (λ x. IsInnerRead u x (text c))) (sym c.self.view_is) c.requires)
 
 -- what is said of the state before is said of what it shows
-told : (c : After-self) (seat : ℕ) (result : Result AnswerTaken Refusal) (new : State) → TakesFor (state c) seat c.args.id (slice_get (state c).records c.args.id) (text c) result new → TakesFor c.args.self.now seat c.args.id (slice_get c.args.self.now.records c.args.id) (text c) result new
-told c seat result new is = subst (λ (u : State). TakesFor u seat c.args.id (slice_get u.records c.args.id) (text c) result new) c.self.view_is is
+shown : (c : After-self) (seat : ℕ) (result : Result AnswerTaken Refusal) (new : State) → TakesFor (state c) seat c.args.id (slice_get (state c).records c.args.id) (text c) result new → TakesFor c.args.self.now seat c.args.id (slice_get c.args.self.now.records c.args.id) (text c) result new
+shown c seat result new is = subst (λ (u : State). TakesFor u seat c.args.id (slice_get u.records c.args.id) (text c) result new) c.self.view_is is
 
 pub take_inner-requires-clause-inner : goal.take_inner-requires-clause-inner
 take_inner-requires-clause-inner c = (awaits (goal.at.take_inner-requires-clause-inner c).After-self c.index_mut.result.now c.index_mut.ensures.value).inner
@@ -48,7 +48,7 @@ returns-in_err-take_inner-clause-answers c = λ seat.
     let p = err_from_is_err_and c.from_residual.result c.from_residual.ensures.1 in
     let same = stayed (state start) c.args.id r c.take_inner.new.self c.index_mut.ensures.value c.in_err-take_inner.ensures.0 in
     let refused = inner_refused (state start) seat c.args.id r (text start) e (awaits start r c.index_mut.ensures.value) (only_memory c.in_err-take_inner.ensures.1) in
-    rw (p.1, p.2) (told start seat (Err e) _ (subst (λ (u : State). TakesFor (state start) seat c.args.id (slice_get (state start).records c.args.id) (text start) (Err e) u) same refused))
+    rw (p.1, p.2) (shown start seat (Err e) _ (subst (λ (u : State). TakesFor (state start) seat c.args.id (slice_get (state start).records c.args.id) (text start) (Err e) u) same refused))
 
 pub invariant_of-self-2 : goal.invariant_of-self-2
 invariant_of-self-2 c =
@@ -63,4 +63,4 @@ returns-clause-answers c = λ seat.
     let r : Record = c.index_mut.result.now in
     let a : AnswerTaken = record { receipts = c.new.result; known = 0; state = c.state.result } in
     let at = awaits start r c.index_mut.ensures.value in
-    told start seat (Ok a) _ (inner_taken (state start) seat c.args.id r (text start) a c.take_inner.new.self at.here at.read c.new.ensures.items refl c.state.ensures (given_state c.in_ok-take_inner.ensures))
+    shown start seat (Ok a) _ (inner_taken (state start) seat c.args.id r (text start) a c.take_inner.new.self at.here at.read c.new.ensures.items refl c.state.ensures (given_state c.in_ok-take_inner.ensures))

@@ -106,9 +106,9 @@ returns-in_err-loaded-clause-answers c =
     let did = c.in_err-loaded.ensures c.args.seat Partner (offers start) can in
     let p = err_from_is_err_and c.from_residual-in_err-loaded.result c.from_residual-in_err-loaded.ensures.1 in
     let e = c.in_err-loaded.field-0.0 in
-    let told = not_accepted c.args.seat read (offers start) (same start).taken (same start).crowded can.fits did.1 in
+    let shown = not_accepted c.args.seat read (offers start) (same start).taken (same start).crowded can.fits did.1 in
     rw (p.1, p.2) (subst (λ (u : Store). TakesFor c.args.self.now c.args.seat c.args.id (slice_get c.args.self.now.records c.args.id) (text start) (Err e) (record { store = u; records = c.self.inside.records.items })) (sym did.0)
-    (subst (λ (u : State). TakesFor u c.args.seat c.args.id (slice_get u.records c.args.id) (text start) (Err e) (state start)) c.self.view_is told))
+    (subst (λ (u : State). TakesFor u c.args.seat c.args.id (slice_get u.records c.args.id) (text start) (Err e) (state start)) c.self.view_is shown))
 
 pub index_mut-requires : goal.index_mut-requires
 index_mut-requires c = omega (arith, (seen (goal.at.index_mut-requires c).After-self).within, c.self.inside.records.ok)

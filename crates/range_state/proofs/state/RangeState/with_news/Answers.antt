@@ -18,9 +18,9 @@ returns-in_ok-sum-in-Ok c =
 pub returns-in-Err-Crowded : goal.returns-in-Err-Crowded
 returns-in-Err-Crowded c =
     λ seat others counted apart.
-    let told = rw c.in-Err-Crowded.field-0-is at c.in-Err-Crowded.ensures seat in (
+    let shown = rw c.in-Err-Crowded.field-0-is at c.in-Err-Crowded.ensures seat in (
       refl,
-      elim told [
+      elim shown [
         | inl memory ↦ absurd (let clash : Crowded ≡ NoMemory = memory in cc)
         | inr full ↦ counted_crowds c.args.self.now.store seat others c.args.row.now c.in-Some.count (rw c.in-Some.is at counted) apart full
       ],

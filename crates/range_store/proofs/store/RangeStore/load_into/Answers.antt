@@ -41,9 +41,9 @@ returns-clause-loads c =
     let at = (goal.at.returns-clause-loads c).In_ok-batch in
     loads at ∙ c.in_ok-loaded.ensures c.args.seat Copy (offers_of c.args.rows.now.rows) (acceptable at)
 
-pub returns-clause-told : goal.returns-clause-told
-returns-clause-told c =
-    let can = acceptable (goal.at.returns-clause-told c).In_ok-batch in
+pub returns-clause-appended : goal.returns-clause-appended
+returns-clause-appended c =
+    let can = acceptable (goal.at.returns-clause-appended c).In_ok-batch in
     let offers = offers_of c.args.rows.now.rows in
     let tells = load_tells c.args.self.now c.accept_batch.new.self c.args.seat Copy c.leaf-leaf.result offers c.in_ok-batch.batch c.in_ok-loaded.loaded can (c.in_ok-loaded.ensures c.args.seat Copy offers can) in
-    c.move_to.ensures ∙ (λ i. c.in_ok-told.ensures.same i ++ (c.in_ok-told.ensures.copies.1 ∙ c.entries.ensures ∙ sym tells) i)
+    c.move_to.ensures ∙ (λ i. c.in_ok-added.ensures.same i ++ (c.in_ok-added.ensures.copies.1 ∙ c.entries.ensures ∙ sym tells) i)

@@ -32,9 +32,9 @@ returns-in_err-prepare_row c =
     let all : offers_of rows ≡ (offers_of (take i rows) ++ offers_in r) ++ offers_of (drop (i + 1) rows) =
     offers_split rows (i + 1) ∙ ap (λ (os : Offers). os ++ offers_of (drop (i + 1) rows)) (offers_next rows i r c.loop-row-test.true c.row-item.is) in
     let p = err_from_is_err_and c.from_residual-in_err-prepare_row.result c.from_residual-in_err-prepare_row.ensures.1 in
-    let told = going_err s c.args.seat c.args.source c.args.leaf (offers_of (take i rows)) (offers_in r) (offers_of (drop (i + 1) rows)) (offers_of rows) a c.loop-row.batch c.in_err-prepare_row.field-0.0 c.loop-row.invariant all c.in_err-prepare_row.ensures.answers in
+    let shown = going_err s c.args.seat c.args.source c.args.leaf (offers_of (take i rows)) (offers_in r) (offers_of (drop (i + 1) rows)) (offers_of rows) a c.loop-row.batch c.in_err-prepare_row.field-0.0 c.loop-row.invariant all c.in_err-prepare_row.ensures.answers in
     let e = c.in_err-prepare_row.field-0.0 in
-    rw (p.1, p.2) (rw (from_none s c.args.seat c.args.source (offers_of rows) a c.new.ensures.items) at told)
+    rw (p.1, p.2) (rw (from_none s c.args.seat c.args.source (offers_of rows) a c.new.ensures.items) at shown)
 
 pub loop-row-preserved : goal.loop-row-preserved
 loop-row-preserved c =

@@ -17,7 +17,7 @@ pub record IsCounted (s : State) (seat id : ℕ) (t : TakenText) (a : AnswerCoun
   pub taken : AnswerTaken
   pub takes : TakesAnswer s seat id t (Ok taken) new
   pub count : a ≡ count_of taken
-  pub told : now ≡ before ++ taken.receipts.items
+  pub appended : now ≡ before ++ taken.receipts.items
 
 -- the result of a text whose receipts go to a list, and state and list afterwards
 abbrev pub CountsAnswer : State → ℕ → ℕ → TakenText → Result AnswerCounted Refusal → State → List Entry → List Entry → Type 0

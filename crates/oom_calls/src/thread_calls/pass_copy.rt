@@ -1,26 +1,24 @@
 //! Copies of passes' receipts and readings.
 use crate::states::begins;
 use caller_pass::{Pass, Reading};
+use range_journal::copy_entries;
 use range_state::Receipt;
 use std::alloc::Global;
 use std::sync::ledger::Ledger;
 use vclock::Refusal;
 
 /// The receipts and the readings of a pass.
-pub(crate) struct Told {
+pub(crate) struct PassCopy {
     seat: u16,
     seen: u64,
     receipts: Vec<Receipt>,
     readings: Vec<Reading>,
 }
 
-impl Told {
+impl PassCopy {
     /// Copies the receipts and the readings of a pass. Refused: NoMemory.
-    pub(crate) fn of<L: Ledger>(alloc: Global, pass: &Pass<L>) -> Result<Told, Refusal> {
-        let mut receipts = Vec::new(alloc);
-        for receipt in pass.receipts() {
-            receipts.push(copy_of_receipt(receipt)?)?;
-        }
+    pub(crate) fn of<L: Ledger>(alloc: Global, pass: &Pass<L>) -> Result<PassCopy, Refusal> {
+        let receipts = copy_entries(alloc, pass.receipts())?;
         let mut readings = Vec::new(alloc);
         for reading in pass.readings() {
             readings.push(Reading {
@@ -29,7 +27,7 @@ impl Told {
                 versions: reading.versions.try_clone(alloc)?,
             })?;
         }
-        Ok(Told {
+        Ok(PassCopy {
             seat: pass.seat(),
             seen: pass.seen(),
             receipts,
@@ -39,7 +37,7 @@ impl Told {
 
     /// Returns true if a pass recorded everything before and the first few receipts of after. If `before` and `after`
     /// are equal, its records equal theirs.
-    pub(crate) fn is_between(&self, before: &Told, after: &Told) -> bool {
+    pub(crate) fn is_between(&self, before: &PassCopy, after: &PassCopy) -> bool {
         self.seat == before.seat
             && before.seen <= self.seen
             && self.seen <= after.seen
@@ -47,17 +45,6 @@ impl Told {
             && begins(&after.receipts, &self.receipts)
             && are_same_readings(&self.readings, &before.readings)
     }
-}
-
-/// Returns an equal receipt. Refused: NoMemory.
-fn copy_of_receipt(receipt: &Receipt) -> Result<Receipt, Refusal> {
-    Ok(Receipt {
-        number: receipt.number,
-        seat: receipt.seat,
-        source: receipt.source,
-        key: receipt.key.try_clone()?,
-        version: receipt.version.try_clone()?,
-    })
 }
 
 fn are_same_readings(readings: &[Reading], others: &[Reading]) -> bool {
@@ -74,10 +61,10 @@ fn is_same_reading(reading: &Reading, other: &Reading) -> bool {
         && reading.versions.same(&other.versions)
 }
 
-impl Drop for Told {
+impl Drop for PassCopy {
     /// Keeps the fields out of the proofs of callers that drop the value.
     fn drop(self) {
-        let Told {
+        let PassCopy {
             seat: _seat,
             seen: _seen,
             receipts: _receipts,
