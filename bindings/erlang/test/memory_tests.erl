@@ -71,9 +71,9 @@ long_clocks_test_() ->
     end).
 
 %% Makes calls again and again, in processes that end. If `Bytes` were lost each time, that would be 64 MiB. Half
-%% as many calls before are for what the allocators keep.
+%% as many calls before are for what the allocators keep. In a busy gate it takes minutes.
 freed(Bytes, Call) ->
-    {timeout, 120, fun() ->
+    {timeout, 600, fun() ->
         Count = 64 * ?MIB div Bytes,
         [run(Call) || _ <- lists:seq(1, Count div 2)],
         Resident = resident(),
