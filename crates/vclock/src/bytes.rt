@@ -12,9 +12,8 @@ use std::sync::Arc;
 /// The maximum number of bytes stored inline. Most keys fit, so a search among rows reads no other memory.
 const SHORT_LEN: usize = 14;
 
-/// The number of bytes stored in a shared block itself. With them the block takes 64 bytes of memory, and many values
-/// fit.
-const BLOCK_LEN: usize = 32;
+/// The number of bytes stored in a shared block itself: the text of a UUID fits, and so do many values.
+const BLOCK_LEN: usize = 40;
 
 /// A list of bytes that never changes: a key or a value. Up to 14 bytes are stored inline. More bytes are stored in a
 /// block that all clones share, across threads: a value held by a row, a journal and a snapshot is in memory once.
