@@ -21,12 +21,12 @@ fn snapshot_of(alloc: Global, key: &[u8]) -> Result<Arc<Snapshot, Global>, Fail>
         .kind
         .check_value(Format::One, version.value.as_slice())?;
     let home = place(Format::One, 0, key);
-    let (held, near) = tree.search(home.leaf, key);
+    let held = tree.find(home.leaf, key);
     if held.crowds(&version) {
         return Err(Fail::from("the set of a key has no room"));
     }
     let key = Bytes::copy_of(alloc, key)?;
-    tree.offer(alloc, home.leaf, near, &key, version)?;
+    tree.offer(alloc, home.leaf, &key, version)?;
     let hashed = tree.rehash_here(alloc)?;
     let snapshot = tree.snapshot(alloc)?;
     expect(

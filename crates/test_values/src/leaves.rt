@@ -5,7 +5,7 @@ ghost use Rattle.hash_tree.specs.Leaves.{versions_in};
 
 use crate::checks::expect;
 use crate::versions::version;
-use hash_tree::{SharedLeaf, Spot};
+use hash_tree::SharedLeaf;
 use std::alloc::Global;
 use std::test::Fail;
 use tree_nodes::{Text, hash};
@@ -38,7 +38,7 @@ fn offer(alloc: Global, leaf: &mut SharedLeaf, key: &[u8]) -> Result<(), Fail> {
         return Err(Fail::from("the set of a key has no room"));
     }
     let key = Bytes::copy_of(alloc, key)?;
-    leaf.offer(alloc, Spot::default(), &key, version)?;
+    leaf.offer(alloc, &key, version)?;
     Ok(())
 }
 

@@ -26,4 +26,6 @@ mod rows;
 mod sets;
 #[cfg(test)]
 mod slots;
+#[cfg(test)]
+mod tables;
 pub mod versions;

@@ -1,0 +1,335 @@
+-- Where a table finds its rows.
+use Rattle.std.proofs.Common.{◌≡◌, ◌≢◌, ℕ, zero, suc, ◌+◌, ◌<◌, ◌≤◌, Bool, true, false, cond, List, [], ◌∷◌, ◌++◌, length, Option, Some, None, refl, sym, ap, subst, arith, ◌∙◌, inl, inr, slice_get, slice_set, eq-eqb, eqb-true, true≢false, add-one}
+use Rattle.std.specs.Prelude.{bytes_eq, nat_eq, unwrap_or, option_map}
+use Rattle.std.specs.List.{AllByRecursion, list_any}
+use Rattle.std.specs.HashMap.{HashMap, get}
+use Rattle.std.proofs.lemmas.Bool.{cases_lt, cases_Bool}
+use Rattle.std.proofs.lemmas.List.{length-append}
+use Rattle.std.proofs.lemmas.Option.{slice_get_within}
+use Rattle.std.proofs.lemmas.Slice.Eq.{bytes_eq-Decides}
+use Rattle.row_table.specs.declared.seed.Seed.{Seed}
+use Rattle.row_table.specs.declared.table.TableRow.{TableRow}
+use Rattle.row_table.specs.Hashes.{key_hash}
+use Rattle.version_set.specs.declared.version.Version.{Version}
+use Rattle.row_table.specs.Tables.{Table, is_with, last_with, before, is_of, hashes_to, at_place, place_of, set_at, set_in, put_in, with_put, with_all, IsIndex}
+
+-- ---- places of a list
+
+got_left : {X : Type 0} → (xs ys : List X) (i : ℕ) → i < length xs → slice_get (xs ++ ys) i ≡ slice_get xs i
+got_left [] ys i below = absurd (omega arith)
+got_left (x ∷ xs) ys zero below = refl
+got_left (x ∷ xs) ys (suc i) below = got_left xs ys i (omega arith)
+
+got_last : {X : Type 0} → (xs : List X) (y : X) → slice_get (xs ++ y ∷ []) (length xs) ≡ Some y
+got_last [] y = refl
+got_last (x ∷ xs) y = got_last xs y
+
+-- ---- the last row with a property
+
+last_of_more : (test : TableRow → Bool) (rs ts : List TableRow) (n : ℕ) → n ≤ length rs → last_with test (rs ++ ts) n ≡ last_with test rs n
+last_of_more test rs ts zero within = refl
+last_of_more test rs ts (suc n) within =
+    let same = got_left rs ts n (omega arith) in
+    let rest = last_of_more test rs ts n (omega arith) in
+    λ i. cond (is_with test (same i)) (suc n) (rest i)
+
+pub last_within : (test : TableRow → Bool) (rs : List TableRow) (n : ℕ) → last_with test rs n ≤ n
+last_within test rs zero = omega arith
+last_within test rs (suc n) =
+    let rest = last_within test rs n in
+    elim (is_with test (slice_get rs n)) as (λ b. cond b (suc n) (last_with test rs n) ≤ suc n) [ true ↦ omega arith | false ↦ omega arith ]
+
+-- the last row, if there is one, has the property, and is among the first n
+last_has : (test : TableRow → Bool) (rs : List TableRow) (n i : ℕ) → last_with test rs n ≡ suc i → (i < n) × (is_with test (slice_get rs i) ≡ true)
+last_has test rs zero i h = absurd (let no : 0 ≡ suc i = h in omega arith)
+last_has test rs (suc n) i h = by_test (last_has test rs n i) (is_with test (slice_get rs n)) refl h
+  where
+    by_test : (last_with test rs n ≡ suc i → (i < n) × (is_with test (slice_get rs i) ≡ true)) → (b : Bool) → is_with test (slice_get rs n) ≡ b → cond b (suc n) (last_with test rs n) ≡ suc i
+        → (i < suc n) × (is_with test (slice_get rs i) ≡ true)
+    by_test rest true is e = let same : n ≡ i = omega arith in (omega arith, subst (λ j. is_with test (slice_get rs j) ≡ true) same is)
+    by_test rest false is e = let known = rest e in (omega (arith, known.0), known.1)
+
+-- a row of the key has the hash of the key
+of_hash : (seed : Seed) (key : List ℕ) (o : Option TableRow) → is_with (hashes_to seed (key_hash seed key)) o ≡ false → is_with (is_of key) o ≡ false
+of_hash seed key None apart = refl
+of_hash seed key (Some r) apart = elim (cases_Bool (bytes_eq r.key key)) [
+  | inl same ↦ absurd (true≢false (sym (eq-eqb (key_hash seed r.key) (key_hash seed key) (ap (key_hash seed) ((bytes_eq-Decides r.key key).0 same))) ∙ apart))
+  | inr differ ↦ differ
+]
+
+-- the last row of a key among the first n is the last one up to the last row of its hash among them
+by_hash : (seed : Seed) (key : List ℕ) (rs : List TableRow) (n : ℕ) → last_with (is_of key) rs (last_with (hashes_to seed (key_hash seed key)) rs n) ≡ last_with (is_of key) rs n
+by_hash seed key rs zero = refl
+by_hash seed key rs (suc n) = by_test (by_hash seed key rs n) (is_with (hashes_to seed (key_hash seed key)) (slice_get rs n)) refl
+  where
+    by_test : last_with (is_of key) rs (last_with (hashes_to seed (key_hash seed key)) rs n) ≡ last_with (is_of key) rs n → (b : Bool) → is_with (hashes_to seed (key_hash seed key)) (slice_get rs n) ≡ b
+        → last_with (is_of key) rs (cond b (suc n) (last_with (hashes_to seed (key_hash seed key)) rs n)) ≡ cond (is_with (is_of key) (slice_get rs n)) (suc n) (last_with (is_of key) rs n)
+    by_test rest true is = refl
+    by_test rest false is = rest ∙ ap (λ b. cond b (suc n) (last_with (is_of key) rs n)) (sym (of_hash seed key (slice_get rs n) is))
+
+-- ---- a search back through the rows of a hash
+
+-- The next row to be looked at, or 0: the last row of the hash among the first `from`, which have the key's last row.
+pub record IsSearched (seed : Seed) (rs : List TableRow) (key : List ℕ) (next : ℕ) : Type 0 where
+  pub from : ℕ
+  pub within : from ≤ length rs
+  pub next_is : next ≡ last_with (hashes_to seed (key_hash seed key)) rs from
+  pub among : last_with (is_of key) rs (length rs) ≡ last_with (is_of key) rs from
+
+pub search_begins : {S : Type 0} (seed : Seed) (rs : List TableRow) (earlier : List ℕ) (last : HashMap ℕ ℕ S) (key : List ℕ) (hash next : ℕ) → IsIndex seed rs earlier last → hash ≡ key_hash seed key
+    → next ≡ unwrap_or (get nat_eq last hash) 0 → IsSearched seed rs key next
+search_begins seed rs earlier last key hash next is hashed first = record {
+  from = length rs;
+  within = omega arith;
+  next_is = first ∙ is.last_is hash ∙ ap (λ h. last_with (hashes_to seed h) rs (length rs)) hashed;
+  among = refl;
+}
+
+-- the next row is among the rows
+pub search_within : (seed : Seed) (rs : List TableRow) (key : List ℕ) (next : ℕ) → IsSearched seed rs key next → next ≤ length rs
+search_within seed rs key next s = omega (arith, s.next_is, s.within, last_within (hashes_to seed (key_hash seed key)) rs s.from)
+
+-- the last row of the key is the last one up to the next row
+up_to_next : (seed : Seed) (rs : List TableRow) (key : List ℕ) (next : ℕ) → IsSearched seed rs key next → last_with (is_of key) rs (length rs) ≡ last_with (is_of key) rs next
+up_to_next seed rs key next s = s.among ∙ sym (by_hash seed key rs s.from) ∙ ap (last_with (is_of key) rs) (sym s.next_is)
+
+-- no row is left
+pub search_ends : (seed : Seed) (rs : List TableRow) (key : List ℕ) (next : ℕ) → IsSearched seed rs key next → next ≡ 0 → place_of rs key ≡ None
+search_ends seed rs key next s none = ap before (up_to_next seed rs key next s ∙ ap (last_with (is_of key) rs) none)
+
+-- the next row is of the key
+pub search_finds : (seed : Seed) (rs : List TableRow) (key : List ℕ) (next place : ℕ) (r : TableRow) → IsSearched seed rs key next → next ≡ suc place → slice_get rs place ≡ Some r → bytes_eq r.key key ≡ true
+    → place_of rs key ≡ Some place
+search_finds seed rs key next place r s one at same = ap before (
+    up_to_next seed rs key next s ∙ ap (last_with (is_of key) rs) one ∙ ap (λ b. cond b (suc place) (last_with (is_of key) rs place)) (ap (is_with (is_of key)) at ∙ same)
+    )
+
+-- the next row is of another key
+pub search_goes_on : {S : Type 0} (seed : Seed) (rs : List TableRow) (earlier : List ℕ) (last : HashMap ℕ ℕ S) (key : List ℕ) (next place : ℕ) (r : TableRow) (new : ℕ) → IsIndex seed rs earlier last → IsSearched seed rs key next
+    → next ≡ suc place → slice_get rs place ≡ Some r → bytes_eq r.key key ≡ false → slice_get earlier place ≡ Some new → IsSearched seed rs key new × (new < next)
+search_goes_on seed rs earlier last key next place r new is s one at differ linked =
+    let hash = key_hash seed key in
+    let here = last_has (hashes_to seed hash) rs s.from place (sym s.next_is ∙ one) in
+    let of_hash : key_hash seed r.key ≡ hash = eqb-true (key_hash seed r.key) hash (ap (is_with (hashes_to seed hash)) (sym at) ∙ here.1) in
+    let known : Some new ≡ Some (last_with (hashes_to seed (key_hash seed r.key)) rs place) = sym linked ∙ is.earlier_is place r at in
+    let same : new ≡ last_with (hashes_to seed (key_hash seed r.key)) rs place = cc in
+    let next_is : new ≡ last_with (hashes_to seed hash) rs place = same ∙ ap (λ h. last_with (hashes_to seed h) rs place) of_hash in (
+      record {
+        from = place;
+        within = omega (arith, slice_get_within rs place r at);
+        next_is = next_is;
+        among = up_to_next seed rs key next s ∙ ap (last_with (is_of key) rs) one ∙ ap (λ b. cond b (suc place) (last_with (is_of key) rs place)) (ap (is_with (is_of key)) at ∙ differ);
+      },
+      omega (arith, next_is, one, last_within (hashes_to seed hash) rs place),
+    )
+
+-- ---- one more row
+
+pub inserted : {S T : Type 0} (seed : Seed) (rs : List TableRow) (r : TableRow) (earlier : List ℕ) (last : HashMap ℕ ℕ S) (hash : ℕ) (now : List TableRow) (then : List ℕ) (new : HashMap ℕ ℕ T) → IsIndex seed rs earlier last
+    → hash ≡ key_hash seed r.key → now ≡ rs ++ r ∷ [] → then ≡ earlier ++ unwrap_or (get nat_eq last hash) 0 ∷ []
+    → ((h : ℕ) → unwrap_or (get nat_eq new h) 0 ≡ cond (nat_eq hash h) (length rs + 1) (unwrap_or (get nat_eq last h) 0)) → IsIndex seed now then new
+inserted {T = T} seed rs r earlier last hash now then new is hashed rows links puts = subst (λ (xs : List TableRow). IsIndex seed xs then new) (sym rows) (subst (λ (ns : List ℕ). IsIndex seed (rs ++ r ∷ []) ns new) (sym links) (record {
+  last_is = λ h.
+      puts h
+      ∙ (λ i. cond (nat_eq (hashed i) h) (add-one (length rs) i) (is.last_is h i))
+      ∙ (λ i. cond (is_with (hashes_to seed h) (sym (got_last rs r) i)) (suc (length rs)) (sym (last_of_more (hashes_to seed h) rs (r ∷ []) (length rs) (omega arith)) i))
+      ∙ ap (last_with (hashes_to seed h) (rs ++ r ∷ [])) (let long = length-append rs (r ∷ []) in let same : suc (length rs) ≡ length (rs ++ r ∷ []) = omega (arith, long) in same);
+  earlier_is = λ i x at. elim (cases_lt i (length rs)) [
+    | inl lt ↦
+        got_left earlier _ i (omega (arith, is.all))
+        ∙ is.earlier_is i x (sym (got_left rs (r ∷ []) i lt) ∙ at)
+        ∙ ap Some (sym (last_of_more (hashes_to seed (key_hash seed x.key)) rs (r ∷ []) i (omega arith)))
+    | inr ge ↦
+        let within = slice_get_within (rs ++ r ∷ []) i x at in
+        let end : i ≡ length rs = omega (arith, within, length-append rs (r ∷ [])) in
+        let own : Some r ≡ Some x = sym (got_last rs r) ∙ ap (slice_get (rs ++ r ∷ [])) (sym end) ∙ at in
+        let one : r ≡ x = cc in
+        ap (slice_get (earlier ++ unwrap_or (get nat_eq last hash) 0 ∷ [])) (end ∙ sym is.all)
+        ∙ got_last earlier (unwrap_or (get nat_eq last hash) 0)
+        ∙ ap Some (is.last_is hash)
+        ∙ ap Some (sym (last_of_more (hashes_to seed hash) rs (r ∷ []) (length rs) (omega arith)))
+        ∙ (λ j. Some (last_with (hashes_to seed ((hashed ∙ ap (λ (y : TableRow). key_hash seed y.key) one) j)) (rs ++ r ∷ []) (sym end j)))
+  ];
+  all = omega (arith, is.all, length-append rs (r ∷ []), length-append earlier (unwrap_or (get nat_eq last hash) 0 ∷ []));
+}))
+
+-- ---- other versions in a row
+
+-- a row of the same key in its place
+kept : (test : TableRow → Bool) (rs : List TableRow) (place : ℕ) (r new : TableRow) → slice_get rs place ≡ Some r → test new ≡ test r → (n : ℕ) → is_with test (slice_get (slice_set rs place new) n) ≡ is_with test (slice_get rs n)
+kept test [] place r new at same n = refl
+kept test (x ∷ rs) zero r new at same zero = let one : x ≡ r = cc in same ∙ ap test (sym one)
+kept test (x ∷ rs) zero r new at same (suc n) = refl
+kept test (x ∷ rs) (suc place) r new at same zero = refl
+kept test (x ∷ rs) (suc place) r new at same (suc n) = kept test rs place r new at same n
+
+last_kept : (test : TableRow → Bool) (rs : List TableRow) (place : ℕ) (r new : TableRow) → slice_get rs place ≡ Some r → test new ≡ test r → (n : ℕ) → last_with test (slice_set rs place new) n ≡ last_with test rs n
+last_kept test rs place r new at same zero = refl
+last_kept test rs place r new at same (suc n) =
+    let here = kept test rs place r new at same n in
+    let rest = last_kept test rs place r new at same n in
+    λ i. cond (here i) (suc n) (rest i)
+
+was : (rs : List TableRow) (place : ℕ) (r new : TableRow) (i : ℕ) (x : TableRow) → slice_get rs place ≡ Some r → new.key ≡ r.key → slice_get (slice_set rs place new) i ≡ Some x
+    → (y : TableRow) × (slice_get rs i ≡ Some y) × (x.key ≡ y.key)
+was [] place r new i x at same there = absurd (let no : None ≡ Some r = at in cc)
+was (z ∷ rs) zero r new zero x at same there = let one : new ≡ x = cc in (r, at, ap (λ (y : TableRow). y.key) (sym one) ∙ same)
+was (z ∷ rs) zero r new (suc i) x at same there = (x, there, refl)
+was (z ∷ rs) (suc place) r new zero x at same there = (x, there, refl)
+was (z ∷ rs) (suc place) r new (suc i) x at same there = was rs place r new i x at same there
+
+pub same_length : (rs : List TableRow) (place : ℕ) (new : TableRow) → length (slice_set rs place new) ≡ length rs
+same_length [] place new = refl
+same_length (x ∷ rs) zero new = refl
+same_length (x ∷ rs) (suc place) new = ap suc (same_length rs place new)
+
+pub replaced : {S : Type 0} (seed : Seed) (rs : List TableRow) (earlier : List ℕ) (last : HashMap ℕ ℕ S) (place : ℕ) (r new : TableRow) → IsIndex seed rs earlier last → slice_get rs place ≡ Some r → new.key ≡ r.key
+    → IsIndex seed (slice_set rs place new) earlier last
+replaced seed rs earlier last place r new is at same =
+    let tests : (h : ℕ) → hashes_to seed h new ≡ hashes_to seed h r = λ h. ap (λ k. nat_eq (key_hash seed k) h) same in
+    record {
+      last_is = λ h. is.last_is h ∙ sym (last_kept (hashes_to seed h) rs place r new at (tests h) (length rs)) ∙ ap (last_with (hashes_to seed h) (slice_set rs place new)) (sym (same_length rs place new));
+      earlier_is = λ i x there.
+          let old = was rs place r new i x at same there in
+          is.earlier_is i old.0 old.1
+          ∙ ap (λ k. Some (last_with (hashes_to seed (key_hash seed k)) rs i)) (sym old.2)
+          ∙ ap Some (sym (last_kept (hashes_to seed (key_hash seed x.key)) rs place r new at (tests (key_hash seed x.key)) i));
+      all = is.all ∙ sym (same_length rs place new);
+    }
+
+-- ---- the last row of a key
+
+-- a row that is found is of the key
+pub record IsFound (rs : List TableRow) (key : List ℕ) (place : ℕ) : Type 0 where
+  pub row : TableRow
+  pub at : slice_get rs place ≡ Some row
+  pub key_is : row.key ≡ key
+
+some_row : (key : List ℕ) (rs : List TableRow) (place : ℕ) (o : Option TableRow) → slice_get rs place ≡ o → is_with (is_of key) o ≡ true → IsFound rs key place
+some_row key rs place None at is = absurd (true≢false (sym is))
+some_row key rs place (Some r) at is = record { row = r; at = at; key_is = (bytes_eq-Decides r.key key).0 is }
+
+pub found : (rs : List TableRow) (key : List ℕ) (place : ℕ) → place_of rs key ≡ Some place → IsFound rs key place
+found rs key place is = some_row key rs place (slice_get rs place) refl (last_has (is_of key) rs (length rs) place (at_before (last_with (is_of key) rs (length rs)) is)).1
+  where
+    at_before : (n : ℕ) → before n ≡ Some place → n ≡ suc place
+    at_before zero h = absurd (let no : None ≡ Some place = h in cc)
+    at_before (suc n) h = let same : n ≡ place = cc in ap suc same
+
+-- a row that is found is the one at its place
+pub found_is : (rs : List TableRow) (key : List ℕ) (place : ℕ) (r : TableRow) → place_of rs key ≡ Some place → slice_get rs place ≡ Some r → r.key ≡ key
+found_is rs key place r is at =
+    let f = found rs key place is in
+    let own : Some f.row ≡ Some r = sym f.at ∙ at in
+    let same : f.row ≡ r = cc in
+    sym (ap (λ (x : TableRow). x.key) same) ∙ f.key_is
+
+-- ---- a row in the place of the last row of its key
+
+at_more : (rs ts : List TableRow) (n : ℕ) → n ≤ length rs → at_place (rs ++ ts) (before n) ≡ at_place rs (before n)
+at_more rs ts zero h = refl
+at_more rs ts (suc n) h = got_left rs ts n (omega arith)
+
+-- what a row at the end changes
+row_set : (rs : List TableRow) (r : TableRow) (key : List ℕ) → set_in (rs ++ r ∷ []) key ≡ cond (bytes_eq r.key key) r.set (set_in rs key)
+row_set rs r key =
+    let long = length-append rs (r ∷ []) in
+    let size : length (rs ++ r ∷ []) ≡ suc (length rs) = omega (arith, long) in
+    let place : last_with (is_of key) (rs ++ r ∷ []) (length (rs ++ r ∷ [])) ≡ cond (bytes_eq r.key key) (suc (length rs)) (last_with (is_of key) rs (length rs)) =
+    ap (last_with (is_of key) (rs ++ r ∷ [])) size
+    ∙ (λ i. cond (is_with (is_of key) (got_last rs r i)) (suc (length rs)) (last_of_more (is_of key) rs (r ∷ []) (length rs) (omega arith) i)) in
+    ap (λ n. set_at (rs ++ r ∷ []) (before n)) place ∙ by_key (bytes_eq r.key key)
+  where
+    by_key : (b : Bool) → set_at (rs ++ r ∷ []) (before (cond b (suc (length rs)) (last_with (is_of key) rs (length rs)))) ≡ cond b r.set (set_in rs key)
+    by_key true = ap (λ (o : Option TableRow). unwrap_or (option_map (λ (x : TableRow). x.set) o) []) (got_last rs r)
+    by_key false = ap (λ (o : Option TableRow). unwrap_or (option_map (λ (x : TableRow). x.set) o) []) (at_more rs (r ∷ []) (last_with (is_of key) rs (length rs)) (last_within (is_of key) rs (length rs)))
+
+got_set : {X : Type 0} → (xs : List X) (i : ℕ) (x new : X) → slice_get xs i ≡ Some x → slice_get (slice_set xs i new) i ≡ Some new
+got_set [] i x new at = absurd (let no : None ≡ Some x = at in cc)
+got_set (y ∷ xs) zero x new at = refl
+got_set (y ∷ xs) (suc i) x new at = got_set xs i x new at
+
+got_other : {X : Type 0} → (xs : List X) (i j : ℕ) (new : X) → i ≢ j → slice_get (slice_set xs i new) j ≡ slice_get xs j
+got_other [] i j new apart = refl
+got_other (y ∷ xs) zero zero new apart = absurd (apart refl)
+got_other (y ∷ xs) zero (suc j) new apart = refl
+got_other (y ∷ xs) (suc i) zero new apart = refl
+got_other (y ∷ xs) (suc i) (suc j) new apart = got_other xs i j new (λ same. apart (ap suc same))
+
+-- the row of another key is at another place
+other_place : (rs : List TableRow) (place q : ℕ) (x y : TableRow) (key : List ℕ) → slice_get rs place ≡ Some x → slice_get rs q ≡ Some y → y.key ≡ key → bytes_eq x.key key ≡ false → place ≢ q
+other_place rs place q x y key at there same apart = λ one.
+    let own : Some x ≡ Some y = sym at ∙ ap (slice_get rs) one ∙ there in
+    let row : x ≡ y = cc in
+    true≢false (sym ((bytes_eq-Decides x.key key).1 (ap (λ (z : TableRow). z.key) row ∙ same)) ∙ apart)
+
+-- what a row in the place of another of its key changes
+set_set : (rs : List TableRow) (place : ℕ) (r : TableRow) (key : List ℕ) → place_of rs r.key ≡ Some place → set_in (slice_set rs place r) key ≡ cond (bytes_eq r.key key) r.set (set_in rs key)
+set_set rs place r key is =
+    let f = found rs r.key place is in
+    let tests : is_of key r ≡ is_of key f.row = ap (λ k. bytes_eq k key) (sym f.key_is) in
+    let same : place_of (slice_set rs place r) key ≡ place_of rs key = ap before (ap (last_with (is_of key) (slice_set rs place r)) (same_length rs place r) ∙ last_kept (is_of key) rs place f.row r f.at tests (length rs)) in
+    ap (set_at (slice_set rs place r)) same ∙ by_key f (bytes_eq r.key key) refl
+  where
+    at_other : IsFound rs r.key place → bytes_eq r.key key ≡ false → (o : Option ℕ) → place_of rs key ≡ o → set_at (slice_set rs place r) o ≡ set_at rs o
+    at_other f apart None at = refl
+    at_other f apart (Some q) at =
+        let g = found rs key q at in
+        ap (λ (o : Option TableRow). unwrap_or (option_map (λ (x : TableRow). x.set) o) []) (got_other rs place q r (other_place rs place q f.row g.row key f.at g.at g.key_is (ap (λ k. bytes_eq k key) f.key_is ∙ apart)))
+
+    by_key : IsFound rs r.key place → (b : Bool) → bytes_eq r.key key ≡ b → set_at (slice_set rs place r) (place_of rs key) ≡ cond b r.set (set_in rs key)
+    by_key f true eq =
+        let one : place_of rs key ≡ Some place = ap (place_of rs) (sym ((bytes_eq-Decides r.key key).0 eq)) ∙ is in
+        ap (set_at (slice_set rs place r)) one ∙ ap (λ (o : Option TableRow). unwrap_or (option_map (λ (x : TableRow). x.set) o) []) (got_set rs place f.row r f.at)
+    by_key f false eq = at_other f eq (place_of rs key) refl
+
+-- A put changes what the table has for its key alone.
+pub put_set : (t : Table) (r : TableRow) (key : List ℕ) → set_in (with_put t r).rows key ≡ cond (bytes_eq r.key key) r.set (set_in t.rows key)
+put_set t r key = by_place (place_of t.rows r.key) refl
+  where
+    by_place : (o : Option ℕ) → place_of t.rows r.key ≡ o → set_in (put_in t o r).rows key ≡ cond (bytes_eq r.key key) r.set (set_in t.rows key)
+    by_place None is = row_set t.rows r key
+    by_place (Some place) is = set_set t.rows place r key is
+
+-- what holds of each row, and of the row that is put, holds of each row then
+all_end : (P : TableRow → Type 0) (rs : List TableRow) (r : TableRow) → AllByRecursion P rs → P r → AllByRecursion P (rs ++ r ∷ [])
+all_end P [] r all p = (p, tt)
+all_end P (x ∷ rs) r all p = (all.0, all_end P rs r all.1 p)
+
+all_set : (P : TableRow → Type 0) (rs : List TableRow) (i : ℕ) (r : TableRow) → AllByRecursion P rs → P r → AllByRecursion P (slice_set rs i r)
+all_set P [] i r all p = tt
+all_set P (x ∷ rs) zero r all p = (p, all.1)
+all_set P (x ∷ rs) (suc i) r all p = (all.0, all_set P rs i r all.1 p)
+
+pub put_each : (P : TableRow → Type 0) (t : Table) (r : TableRow) → AllByRecursion P t.rows → P r → AllByRecursion P (with_put t r).rows
+put_each P t r all p = by_place (place_of t.rows r.key)
+  where
+    by_place : (o : Option ℕ) → AllByRecursion P (put_in t o r).rows
+    by_place None = all_end P t.rows r all p
+    by_place (Some place) = all_set P t.rows place r all p
+
+-- the room that a put leaves
+pub put_room : (t : Table) (o : Option ℕ) (r : TableRow) → t.room ≤ (put_in t o r).room + 1
+put_room t None r = omega arith
+put_room t (Some place) r = omega arith
+
+-- ---- many rows
+
+-- the last row is put first
+pub all_push : (t : Table) (rows : List TableRow) (r : TableRow) → with_all t (rows ++ r ∷ []) ≡ with_all (with_put t r) rows
+all_push t [] r = refl
+all_push t (x ∷ rows) r = ap (λ (u : Table). with_put u x) (all_push t rows r)
+
+-- rows that have the right versions are put: each key has its right versions then, if each other key had them before
+pub all_sets : (right : List ℕ → List Version) (t : Table) (rows : List TableRow) (key : List ℕ) → AllByRecursion (λ (r : TableRow). r.set ≡ right r.key) rows → (list_any (is_of key) rows ≡ false → set_in t.rows key ≡ right key) → set_in (with_all t rows).rows key ≡ right key
+all_sets right t [] key each others = others refl
+all_sets right t (r ∷ rows) key each others = put_set (with_all t rows) r key ∙ by_key (bytes_eq r.key key) refl (all_sets right t rows key each.1)
+  where
+    by_key : (b : Bool) → bytes_eq r.key key ≡ b → ((list_any (is_of key) rows ≡ false → set_in t.rows key ≡ right key) → set_in (with_all t rows).rows key ≡ right key) → cond b r.set (set_in (with_all t rows).rows key) ≡ right key
+    by_key true eq rest = each.0 ∙ ap right ((bytes_eq-Decides r.key key).0 eq)
+    by_key false eq rest = rest (λ none. others (rw eq none))
+
+-- what holds of each row before, and of the rows that are put, holds of each row then
+pub all_each : (P : TableRow → Type 0) (t : Table) (rows : List TableRow) → AllByRecursion P t.rows → AllByRecursion P rows → AllByRecursion P (with_all t rows).rows
+all_each P t [] before new = before
+all_each P t (r ∷ rows) before new = put_each P (with_all t rows) r (all_each P t rows before new.1) new.0
