@@ -7,3 +7,4 @@ pub mod RowSetLaws
 pub mod RowLaws
 pub mod Heads
 pub mod ManyRowLaws
+pub mod StripLaws

@@ -1,3 +1,4 @@
 pub mod Rows
 pub mod Reading
 pub mod Outcome
+pub mod Strips

@@ -6,7 +6,7 @@ ghost use Rattle.row_bytes.specs.Rows.{row_text, FitsText};
 
 use crate::row::Row;
 use vclock::Format;
-use version_set::Version;
+use version_set::{Version, VersionSet};
 
 /// Returns the length in bytes of a version without its kind, in both formats: at most 65,861.
 #[tactic(auto, using(crate::proofs::TextLengthLaws::text_lengths))]
@@ -34,14 +34,23 @@ pub fn version_len(format: Format, version: &Version) -> u64
 
 /// Returns the length in bytes of the text of a row: at most 4,215,427. Takes time in proportion to the versions of the
 /// row, and doesn't allocate.
-#[tactic(auto, using(crate::proofs::LimitLaws::key_short))]
 pub fn row_len(format: Format, row: &Row) -> u64
     requires { FitsText format row.now }
     ensures exact { result ≡ length (row_text format row.now) }
     ensures short { result ≤ 4215427 }
 {
-    let mut len = 2 + row.key.as_slice().len() as u64 + 2;
-    for version in row.versions.as_slice() {
+    held_len(format, row.key.as_slice(), &row.versions)
+}
+
+/// Returns the length in bytes of the text of the row of a key with a set.
+#[tactic(auto, using(crate::proofs::LimitLaws::key_short))]
+pub(crate) fn held_len(format: Format, key: &[u8], set: &VersionSet) -> u64
+    requires { FitsText format (record { key = key.now; versions = set.now }) }
+    ensures exact { result ≡ length (row_text format (record { key = key.now; versions = set.now })) }
+    ensures short { result ≤ 4215427 }
+{
+    let mut len = 2 + key.len() as u64 + 2;
+    for version in set.as_slice() {
         len += version_len(format, version);
     }
     len

@@ -1,9 +1,10 @@
-//! The texts of rows, which replicas must agree on byte for byte: reading, writing and measuring them. Use it to read
-//! and write rows by this project's profile.
+//! The texts of rows, which replicas must agree on byte for byte: reading, writing, comparing and measuring them. Use
+//! it to read and write rows by this project's profile.
 //!
 //! - [`row`]: a row, and a list of rows.
 //! - [`reader`]: reading rows from texts.
 //! - [`writer`]: writing texts of rows.
+//! - [`comparison`]: comparing a text with that of a row in place.
 //! - [`lengths`]: the lengths of texts.
 //!
 //! ```
@@ -14,6 +15,7 @@
 //! ```
 #![tactic(auto)]
 
+pub mod comparison;
 mod fault;
 mod fields;
 pub mod lengths;
@@ -21,7 +23,8 @@ pub mod reader;
 pub mod row;
 pub mod writer;
 
+pub use comparison::{strip, strip_row, strip_rows};
 pub use lengths::{row_len, version_len};
 pub use reader::{a_held_set_is_a_row, a_row_has_one_text, key_at, read_row, read_rows};
 pub use row::{Row, RowList};
-pub use writer::{put_row, write_row};
+pub use writer::{put_row, write_held, write_row};

@@ -8,11 +8,11 @@ ghost use Rattle.version_set.specs.Kind.{value_fault};
 ghost use Rattle.version_set.specs.Version.{pair_text, plain_text, version_text};
 ghost use Rattle.row_bytes.specs.Rows.{row_text, FitsText};
 
-use crate::lengths::row_len;
+use crate::lengths::held_len;
 use crate::row::Row;
 use std::alloc::{AllocError, Global};
 use vclock::{Format, Refusal};
-use version_set::Version;
+use version_set::{Version, VersionSet};
 
 /// Appends a pair of a clock: the node in two bytes, then its counter in eight. This call and the others below that
 /// append fail only if memory is needed beyond the room of `out`.
@@ -88,7 +88,6 @@ fn put_versions(out: &mut Vec<u8>, format: Format, versions: &[Version]) -> Resu
 
 /// Appends the text of a row (this project's profile). Fails only if memory is needed beyond the room of `out`, which
 /// is then unchanged.
-#[tactic(auto, unfolding(crate::specs::Rows::row_text), using(crate::proofs::LimitLaws::key_short))]
 pub fn put_row(out: &mut Vec<u8>, format: Format, row: &Row) -> Result<(), AllocError>
     requires { FitsText format row.now }
     ensures ok { OnOk result (out.new.items ≡ out.old.items ++ row_text format row.now) }
@@ -96,11 +95,27 @@ pub fn put_row(out: &mut Vec<u8>, format: Format, row: &Row) -> Result<(), Alloc
     ensures grows { vec_capacity out.old ≤ vec_capacity out.new }
     ensures err { OnErr result (out.new.items ≡ out.old.items) }
 {
-    out.reserve(row_len(format, row) as usize)?;
-    let key = row.key.as_slice();
+    put_held(out, format, row.key.as_slice(), &row.versions)
+}
+
+/// Appends the text of the row of a key with a set, as `put_row` does.
+#[tactic(auto, unfolding(crate::specs::Rows::row_text), using(crate::proofs::LimitLaws::key_short))]
+fn put_held(
+    out: &mut Vec<u8>,
+    format: Format,
+    key: &[u8],
+    set: &VersionSet,
+) -> Result<(), AllocError>
+    requires { FitsText format (record { key = key.now; versions = set.now }) }
+    ensures ok { OnOk result (out.new.items ≡ out.old.items ++ row_text format (record { key = key.now; versions = set.now })) }
+    ensures room { OnErr result (vec_capacity out.old < length out.old.items + length (row_text format (record { key = key.now; versions = set.now }))) }
+    ensures grows { vec_capacity out.old ≤ vec_capacity out.new }
+    ensures err { OnErr result (out.new.items ≡ out.old.items) }
+{
+    out.reserve(held_len(format, key, set) as usize)?;
     out.extend_from_slice(&(key.len() as u16).to_be_bytes())?;
     out.extend_from_slice(key)?;
-    put_versions(out, format, row.versions.as_slice())
+    put_versions(out, format, set.as_slice())
 }
 
 /// Returns the text of a row (this project's profile). Refused: NoMemory.
@@ -108,7 +123,20 @@ pub fn write_row(alloc: Global, format: Format, row: &Row) -> Result<Vec<u8>, Re
     requires { FitsText format row.now }
     ensures { Answers result None (λ text. text.items ≡ row_text format row.now) }
 {
+    write_held(alloc, format, row.key.as_slice(), &row.versions)
+}
+
+/// Returns the text of the row of a key with a set, neither of which is copied. Refused: NoMemory.
+pub fn write_held(
+    alloc: Global,
+    format: Format,
+    key: &[u8],
+    set: &VersionSet,
+) -> Result<Vec<u8>, Refusal>
+    requires { FitsText format (record { key = key.now; versions = set.now }) }
+    ensures { Answers result None (λ text. text.items ≡ row_text format (record { key = key.now; versions = set.now })) }
+{
     let mut text = Vec::new(alloc);
-    put_row(&mut text, format, row)?;
+    put_held(&mut text, format, key, set)?;
     Ok(text)
 }

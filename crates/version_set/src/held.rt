@@ -36,6 +36,13 @@ impl<'a> Held<'a> {
         Held { set }
     }
 
+    /// Returns the set, if there is one. Doesn't allocate.
+    pub fn set(&self) -> Option<&'a VersionSet>
+        ensures { unwrap_or (option_map (λ s. s.now) result) [] ≡ self.now }
+    {
+        self.set
+    }
+
     /// Returns the versions, in ascending order of their texts. Doesn't allocate.
     pub fn as_slice(&self) -> &'a [Version]
         ensures { result.now ≡ self.now }
