@@ -1,26 +1,23 @@
 -- The row of a key, or the place for one, is that of its chunk among all rows.
-use Rattle.std.proofs.Common.{◌≡◌, inl, inr, ℕ, zero, suc, ◌+◌, ◌-◌, ◌<◌, ◌≤◌, Bool, true, false, Ok, Err, None, List, [], ◌∷◌, ◌++◌, length, get_or, slice_get, Some, set, take, drop, refl, sym, ap, subst, ◌∙◌, append_assoc, arith}
-use Rattle.std.specs.List.{AllByRecursion, Contains, insert}
+use Rattle.std.proofs.Common.{◌≡◌, ℕ, zero, suc, ◌+◌, ◌-◌, ◌<◌, ◌≤◌, true, false, Ok, Err, None, List, [], ◌∷◌, ◌++◌, length, get_or, set, take, drop, refl, sym, ap, subst, ◌∙◌, append_assoc, arith}
+use Rattle.std.specs.List.{AllByRecursion, insert}
 use Rattle.std.specs.List.Sorted.{IsPartitionedBy, IsPartitionPoint}
 use Rattle.std.specs.Ordering.{is_le}
 use Rattle.std.specs.declared.cmp.Ordering.TheVariants.{Less, Equal, Greater}
 use Rattle.std.proofs.lemmas.List.{length-append, take-append-drop, drop_more, set-append_left, set-append_right, get_or_append_left, get_or-append-add}
-use Rattle.std.proofs.lemmas.Option.{slice_get_within, get_or_from_slice_get}
 use Rattle.std.proofs.lemmas.List.Edits.{insert-append_left, insert-append_right}
-use Rattle.std.proofs.lemmas.List.Elements.{Contains-get_or}
 use Rattle.vclock.specs.declared.format.Format.{Format}
 use Rattle.version_set.specs.declared.version.Version.{Version}
 use Rattle.version_set.specs.Order.{place_by}
 use Rattle.version_set.specs.Version.{offered}
 use Rattle.version_set.proofs.ListLaws.{all-append, all-rest}
 use Rattle.row_bytes.specs.declared.row.Row.{Row}
-use Rattle.hash_tree.specs.Leaves.{key_cmp, Bucket, IsBucket, AscendByKey, IsAt, IsBetween, IsRun, FindsRow, with_offer, versions_in}
-use Rattle.hash_tree.specs.Chunks.{all_rows, chunk_rows, begin_by, Follows, Precedes, place_in, IsSpot, IsRowSpot, row_versions, offered_at}
+use Rattle.hash_tree.specs.Leaves.{key_cmp, Bucket, IsBucket, AscendByKey, IsAt, IsBetween, IsRun, FindsRun, with_offer, versions_in}
+use Rattle.hash_tree.specs.Chunks.{all_rows, chunk_rows, begin_by, place_in, IsSpot, IsRowSpot, row_versions, offered_at}
 use Rattle.hash_tree.specs.declared.chunks.Spot.{Spot}
 use Rattle.hash_tree.proofs.KeyLaws.{key_exact, turned, less_trans}
 use Rattle.hash_tree.proofs.LeafLaws.{offer_first, in_first, no_row, some_each}
 use Rattle.hash_tree.proofs.ChunkLaws.{versions_at-get, offered_at-set}
-use Rattle.hash_tree.proofs.SearchLaws.{here, between_neighbours}
 use Rattle.hash_tree.proofs.ChunkPlaces.{three_parts, rows_read}
 
 -- ---- rows in order, in parts
@@ -42,9 +39,6 @@ pub ascend_middle : (front rows back : List Row) → AscendByKey (front ++ rows 
 ascend_middle front rows back a = ascend_back front rows (ascend_front (front ++ rows) back a)
 
 -- ---- the chunk of a key
-
-not_both : (b : Bool) → b ≡ true → b ≡ false → ⊥
-not_both b t f = cc
 
 -- what is less than a key that is at most k is less than k
 less_through : (x y k : List ℕ) → key_cmp x y ≡ Less → is_le (key_cmp y k) ≡ true → key_cmp k x ≡ Greater
@@ -243,20 +237,9 @@ spot_is chunks s c r spot is row = row ∙ ap (λ (rs : List Row). get_or rs s.a
 pub spot_within : (k : List ℕ) (chunks : List Bucket) (s : Spot) (c : Bucket) → IsSpot k chunks (Ok s) → c ≡ get_or chunks s.chunk c → s.at < length c.rows
 spot_within k chunks s c at is = subst (λ (rs : List Row). s.at < length rs) (sym (rows_read chunks s.chunk c at.0.chunk is)) at.0.within
 
--- the row there has the key
-pub spot_key : (k : List ℕ) (chunks : List Bucket) (s : Spot) (c : Bucket) (r : Row) → IsSpot k chunks (Ok s) → c ≡ get_or chunks s.chunk c → r ≡ get_or c.rows s.at r → r.key ≡ k
-spot_key k chunks s c r at is row = ap (λ (x : Row). x.key) (spot_is chunks s c r at.0 is row) ∙ at.1.key r
-
--- it has the versions of the key
+-- the row there has the versions of the key
 pub spot_versions : (k : List ℕ) (chunks : List Bucket) (s : Spot) (c : Bucket) (r : Row) → IsSpot k chunks (Ok s) → c ≡ get_or chunks s.chunk c → r ≡ get_or c.rows s.at r → r.versions ≡ versions_in k (all_rows chunks)
 spot_versions k chunks s c r at is row = ap (λ (x : Row). x.versions) (spot_is chunks s c r at.0 is row) ∙ sym (at.1.holds r)
-
--- it is one of all rows
-pub spot_row : (k : List ℕ) (chunks : List Bucket) (s : Spot) (c : Bucket) (r : Row) → IsSpot k chunks (Ok s) → c ≡ get_or chunks s.chunk c → r ≡ get_or c.rows s.at r → Contains (all_rows chunks) (record { key = k; versions = r.versions })
-spot_row k chunks s c r at is row =
-    let whole = spot_is chunks s c r at.0 is row in
-    let same : get_or (all_rows chunks) (place_in chunks s) r ≡ record { key = k; versions = r.versions } = λ j. record { key = at.1.key r j; versions = (sym whole j).versions } in
-    subst (Contains (all_rows chunks)) same (Contains-get_or (all_rows chunks) (place_in chunks s) r at.1.within)
 
 -- the rows of the chunk from the spot on are a run
 pub spot_run : (k : List ℕ) (chunks : List Bucket) (s : Spot) (c : Bucket) → IsSpot k chunks (Ok s) → c ≡ get_or chunks s.chunk c → IsRun (all_rows chunks) k (drop s.at c.rows)
@@ -282,61 +265,8 @@ spot_run k chunks s c at is =
     }
 
 -- a key with a gap has no row
-pub gap_no_row : (format : Format) (k : List ℕ) (chunks : List Bucket) (s : Spot) → IsBucket (record { format = format; rows = all_rows chunks }) → IsSpot k chunks (Err s) → FindsRow (all_rows chunks) k None
+pub gap_no_row : (format : Format) (k : List ℕ) (chunks : List Bucket) (s : Spot) → IsBucket (record { format = format; rows = all_rows chunks }) → IsSpot k chunks (Err s) → FindsRun (all_rows chunks) k None
 gap_no_row format k chunks s b at = no_row k (all_rows chunks) b.ascending (some_each format (all_rows chunks) b.each) at.1.holds
-
--- ---- a spot that may be right
-
--- the rows of all chunks are those before the spot's, those of the spot's, and the others
-all_count : (chunks : List Bucket) (i : ℕ) → i < length chunks → length (all_rows chunks) ≡ length (all_rows (take i chunks)) + length (chunk_rows chunks i) + length (all_rows (drop (i + 1) chunks))
-all_count chunks i h =
-    let front = all_rows (take i chunks) in
-    omega (arith, ap (λ (rs : List Row). length rs) (three_parts chunks i h), length-append front (chunk_rows chunks i), length-append (front ++ chunk_rows chunks i) (all_rows (drop (i + 1) chunks)))
-
--- the row there has the key
-pub row_there : (k : List ℕ) (chunks : List Bucket) (s : Spot) (c : Bucket) (r : Row) → AscendByKey (all_rows chunks) → slice_get chunks s.chunk ≡ Some c → slice_get c.rows s.at ≡ Some r → r.key ≡ k → IsSpot k chunks (Ok s)
-row_there k chunks s c r a chunk row key =
-    let h = slice_get_within chunks s.chunk c chunk in
-    let rows : c.rows ≡ chunk_rows chunks s.chunk = rows_read chunks s.chunk c h (sym (get_or_from_slice_get chunks s.chunk c c chunk)) in
-    let there : slice_get (chunk_rows chunks s.chunk) s.at ≡ Some r = ap (λ (rs : List Row). slice_get rs s.at) (sym rows) ∙ row in
-    let within = slice_get_within (chunk_rows chunks s.chunk) s.at r there in
-    let spot : IsRowSpot chunks s = record { chunk = h; within = within } in
-    (spot, here (all_rows chunks) k (place_in chunks s) a (omega (arith, within, all_count chunks s.chunk h)) (λ d. ap (λ (x : Row). x.key) (row_at_spot chunks s d spot ∙ get_or_from_slice_get (chunk_rows chunks s.chunk) s.at r d there) ∙ key))
-
--- the rows beside it are less and greater
-pub gap_there : (k : List ℕ) (chunks : List Bucket) (s : Spot) (c : Bucket) → AscendByKey (all_rows chunks) → slice_get chunks s.chunk ≡ Some c → Follows k c.rows s → Precedes k c.rows (length chunks) s → IsSpot k chunks (Err s)
-gap_there k chunks s c a chunk less greater =
-    let h = slice_get_within chunks s.chunk c chunk in
-    let read : c.rows ≡ chunk_rows chunks s.chunk = rows_read chunks s.chunk c h (sym (get_or_from_slice_get chunks s.chunk c c chunk)) in
-    let follows = subst (λ (rs : List Row). Follows k rs s) read less in
-    let precedes = subst (λ (rs : List Row). Precedes k rs (length chunks) s) read greater in
-    let front = all_rows (take s.chunk chunks) in
-    let rows = chunk_rows chunks s.chunk in
-    let within : s.at ≤ length rows = elim precedes [ inl last ↦ omega (arith, last.1) | inr next ↦ omega (arith, next.0) ] in
-    let count = all_count chunks s.chunk h in
-    let before : 1 ≤ place_in chunks s → (d : Row) → key_cmp (get_or (all_rows chunks) (place_in chunks s - 1) d).key k ≡ Less =
-    λ some d. elim follows [
-      | inl first ↦ absurd (omega (arith, some, first.1, none_before chunks s.chunk first.0))
-      | inr last ↦
-          let t : Spot = record { chunk = s.chunk; at = s.at - 1 } in
-          let place : place_in chunks s - 1 ≡ place_in chunks t = omega (arith, last.0) in
-          rw place (ap (λ (r : Row). key_cmp r.key k) (row_at_spot chunks t d (record { chunk = h; within = omega (arith, last.0, within) })) ∙ last.2 d)
-    ] in
-    let after : place_in chunks s < length (all_rows chunks) → (d : Row) → key_cmp (get_or (all_rows chunks) (place_in chunks s) d).key k ≡ Greater =
-    λ more d. elim precedes [
-      | inl last ↦ absurd (omega (arith, more, count, last.1, none_after chunks (s.chunk + 1) last.0))
-      | inr next ↦ ap (λ (r : Row). key_cmp r.key k) (row_at_spot chunks s d (record { chunk = h; within = next.0 })) ∙ next.1 d
-    ] in
-    (λ some. record { chunk = h; within = within }, between_neighbours (all_rows chunks) k (place_in chunks s) a (omega (arith, count, within)) before after)
-  where
-    none_before : (cs : List Bucket) (i : ℕ) → i ≡ 0 → length (all_rows (take i cs)) ≡ 0
-    none_before cs i none = rw none refl
-
-    none_after : (cs : List Bucket) (i : ℕ) → i ≡ length cs → length (all_rows (drop i cs)) ≡ 0
-    none_after [] zero end = refl
-    none_after [] (suc i) end = refl
-    none_after (c ∷ cs) zero end = absurd (omega (arith, end))
-    none_after (c ∷ cs) (suc i) end = none_after cs i (omega (arith, end))
 
 -- ---- an offer to the row of a key is one to its place
 

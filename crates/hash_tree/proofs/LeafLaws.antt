@@ -11,7 +11,7 @@ use Rattle.version_set.proofs.ListLaws.{all-filter}
 use Rattle.vclock.specs.declared.format.Format.{Format}
 use Rattle.row_bytes.specs.declared.row.Row.{Row}
 use Rattle.row_bytes.specs.Rows.{FitsText}
-use Rattle.hash_tree.specs.Leaves.{key_cmp, AscendByKey, FindsRow, rows_in_leaf, with_offer, versions_in}
+use Rattle.hash_tree.specs.Leaves.{key_cmp, AscendByKey, FindsRun, rows_in_leaf, with_offer, versions_in}
 use Rattle.hash_tree.proofs.KeyLaws.{key_exact, turned, same_key, all_get, less_rows}
 
 pub offer_first : (k : List ℕ) (v : Version) (rows : List Row) → AllByRecursion (λ (y : Row). key_cmp k y.key ≡ Less) rows → with_offer k v rows ≡ record { key = k; versions = offered v [] } ∷ rows
@@ -57,7 +57,7 @@ some_each format [] all = tt
 some_each format (r ∷ rows) all = (all.0.some, some_each format rows all.1)
 
 -- A key for which the rows have no versions has no row, as each row has one at least.
-pub no_row : (k : List ℕ) (rows : List Row) → AscendByKey rows → AllByRecursion (λ (r : Row). 1 ≤ length r.versions) rows → versions_in k rows ≡ [] → FindsRow rows k None
+pub no_row : (k : List ℕ) (rows : List Row) → AscendByKey rows → AllByRecursion (λ (r : Row). 1 ≤ length r.versions) rows → versions_in k rows ≡ [] → FindsRun rows k None
 no_row k rows a each none r has same =
     let some : 1 ≤ length r.versions = subst (λ (y : Row). 1 ≤ length y.versions) has.2 (all_get (λ (y : Row). 1 ≤ length y.versions) rows has.0 r each has.1) in
     omega (arith, some, ap length (sym (held_by_row rows r a has) ∙ ap (λ (key : List ℕ). versions_in key rows) same ∙ none))

@@ -6,6 +6,5 @@ pub mod ChunkLaws
 pub mod ChunkPlaces
 pub mod KeySpotLaws
 pub mod RowLengthLaws
-pub mod StripLaws
 pub mod TextLaws
 pub mod DigestLaws

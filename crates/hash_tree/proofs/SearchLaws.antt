@@ -1,5 +1,5 @@
 -- Where a binary search finds the row of a key, or the place for it.
-use Rattle.std.proofs.Common.{◌≡◌, inl, inr, ℕ, zero, suc, ◌+◌, ◌-◌, ◌<◌, ◌≤◌, set, List, [], ◌∷◌, ◌++◌, length, take, drop, get_or, refl, ap, subst, ◌∙◌, arith, Result, Ok, Err}
+use Rattle.std.proofs.Common.{◌≡◌, inl, inr, ℕ, zero, suc, ◌+◌, ◌<◌, ◌≤◌, set, List, [], ◌∷◌, ◌++◌, length, take, drop, get_or, refl, ap, subst, arith, Result, Ok, Err}
 use Rattle.std.specs.List.{AllWithin}
 use Rattle.std.specs.List.Sorted.{IsBinarySearchResult, IsSearchInRange, IsNonDecreasingBy}
 use Rattle.std.specs.declared.cmp.Ordering.{Ordering}
@@ -9,8 +9,8 @@ use Rattle.std.proofs.lemmas.Bool.{cases_eq}
 use Rattle.version_set.specs.declared.version.Version.{Version}
 use Rattle.version_set.specs.Version.{offered}
 use Rattle.row_bytes.specs.declared.row.Row.{Row}
-use Rattle.hash_tree.specs.Leaves.{key_cmp, AscendByKey, with_offer, versions_in, IsAt, IsBetween, IsPlace}
-use Rattle.hash_tree.proofs.KeyLaws.{key_exact, same_key, turned, less_trans, all_get, ascend_pair}
+use Rattle.hash_tree.specs.Leaves.{key_cmp, AscendByKey, with_offer, versions_in, IsPlace}
+use Rattle.hash_tree.proofs.KeyLaws.{key_exact, turned, less_trans, all_get, ascend_pair}
 
 abbrev row_cmp : List ℕ → Row → Ordering
 row_cmp k r = key_cmp r.key k
@@ -83,27 +83,3 @@ found rows k (Err i) a within at =
       offers = λ v. between_offers rows i k v within parted.0 parted.1;
       holds = between_holds rows i k within parted.0 parted.1;
     }
-
--- a row with the key is at its place
-pub here : (rows : List Row) (k : List ℕ) (i : ℕ) → AscendByKey rows → i < length rows → ((d : Row) → (get_or rows i d).key ≡ k) → IsAt k rows i
-here rows k i a within key = found rows k (Ok i) a within (λ d. ap (λ (x : List ℕ). key_cmp x k) (key d) ∙ same_key k)
-
--- the place between a row with a lesser key and one with a greater key
-pub between_neighbours : (rows : List Row) (k : List ℕ) (i : ℕ) → AscendByKey rows → i ≤ length rows → (1 ≤ i → (d : Row) → key_cmp (get_or rows (i - 1) d).key k ≡ Less) → (i < length rows → (d : Row) → key_cmp (get_or rows i d).key k ≡ Greater) → IsBetween k rows i
-between_neighbours rows k i a within before after = found rows k (Err i) a within (λ s. (low, high))
-  where
-    low : AllWithin (λ (r : Row). row_cmp k r ≡ Less) rows 0 i
-    low j d from below =
-        let last : row_cmp k (get_or rows (i - 1) d) ≡ Less = before (omega (arith, below)) d in
-        elim (cases_eq (j + 1) i) [
-          | inl e ↦ let at : i - 1 ≡ j = omega (arith, e) in subst (λ (n : ℕ). row_cmp k (get_or rows n d) ≡ Less) at last
-          | inr other ↦ less_trans (get_or rows j d).key (get_or rows (i - 1) d).key k (ascend_pair rows j (i - 1) d a (omega (arith, below, other)) (omega (arith, below, within))) last
-        ]
-
-    high : AllWithin (λ (r : Row). row_cmp k r ≡ Greater) rows i (length rows)
-    high j d from below =
-        let first : row_cmp k (get_or rows i d) ≡ Greater = after (omega (arith, from, below)) d in
-        elim (cases_eq i j) [
-          | inl e ↦ subst (λ (n : ℕ). row_cmp k (get_or rows n d) ≡ Greater) e first
-          | inr other ↦ turned k (get_or rows j d).key Less (less_trans k (get_or rows i d).key (get_or rows j d).key (turned (get_or rows i d).key k Greater first) (ascend_pair rows i j d a (omega (arith, from, other)) below))
-        ]

@@ -12,7 +12,7 @@ use Rattle.version_set.specs.declared.version.Version.{Version}
 use Rattle.row_bytes.specs.declared.row.Row.{Row}
 use Rattle.row_bytes.specs.Rows.{row_text, IsRow}
 use Rattle.row_bytes.proofs.RowLaws.{one_row}
-use Rattle.hash_tree.proofs.StripLaws.{flat_map-at}
+use Rattle.row_bytes.proofs.StripLaws.{flat_map-at}
 use Rattle.hash_tree.specs.Leaves.{AscendByKey, rows_in_leaf, with_offer}
 use Rattle.tree_nodes.specs.Nodes.{ancestor_of}
 use Rattle.hash_tree.specs.Texts.{leaf_text, inner_text, per_child, node_text, node_digest}

@@ -1,8 +1,7 @@
 -- The rows of a leaf in chunks, and the text of each chunk.
-use Rattle.std.specs.Prelude.{◌≡◌, ◌⊎◌, ℕ, zero, suc, ◌+◌, ◌-◌, ◌^◌, ◌<◌, ◌≤◌, Bool, false, List, [], ◌∷◌, ◌++◌, length, take, slice_index_or, slice_get, Some, Result, Ok, Err}
+use Rattle.std.specs.Prelude.{◌≡◌, ℕ, zero, suc, ◌+◌, ◌^◌, ◌<◌, ◌≤◌, Bool, false, List, [], ◌∷◌, ◌++◌, length, take, Result, Ok, Err}
 use Rattle.std.specs.List.{AllByRecursion, flat_map}
 use Rattle.std.specs.Ordering.{is_le}
-use Rattle.std.specs.declared.cmp.Ordering.TheVariants.{Less, Greater}
 use Rattle.vclock.specs.declared.format.Format.{Format}
 use Rattle.version_set.specs.declared.version.Version.{Version}
 use Rattle.version_set.specs.Version.{offered}
@@ -59,31 +58,6 @@ pub record IsRoomySpot (chunks : List Bucket) (s : Spot) : Type 0 where
 abbrev pub IsSpot : List ℕ → List Bucket → Result Spot Spot → Type 0
 IsSpot k chunks (Ok s) = IsRowSpot chunks s × IsAt k (all_rows chunks) (place_in chunks s)
 IsSpot k chunks (Err s) = (1 ≤ length chunks → IsGapSpot chunks s) × IsBetween k (all_rows chunks) (place_in chunks s)
-
--- the row of a key is at a spot
-pub record IsRowOf (k : List ℕ) (chunks : List Bucket) (s : Spot) : Type 0 where
-  pub chunk : Bucket
-  pub there : slice_get chunks s.chunk ≡ Some chunk
-  pub row : Row
-  pub row_is : slice_get chunk.rows s.at ≡ Some row
-  pub key : row.key ≡ k
-
--- the key is greater than that of the row before a gap, or the gap is before all rows
-abbrev pub Follows : List ℕ → List Row → Spot → Type 0
-Follows k rows gap = ((gap.chunk ≡ 0) × (gap.at ≡ 0))
-    ⊎ ((1 ≤ gap.at) × (gap.at ≤ length rows) × ((d : Row) → key_cmp (slice_index_or rows (gap.at - 1) d).key k ≡ Less))
-
--- the key is less than that of the row after a gap, or the gap is after all rows of so many chunks
-abbrev pub Precedes : List ℕ → List Row → ℕ → Spot → Type 0
-Precedes k rows count gap = ((gap.chunk + 1 ≡ count) × (gap.at ≡ length rows))
-    ⊎ ((gap.at < length rows) × ((d : Row) → key_cmp (slice_index_or rows gap.at d).key k ≡ Greater))
-
--- the row of a key would be inserted at a gap, which is not between two chunks
-pub record IsGapOf (k : List ℕ) (chunks : List Bucket) (gap : Spot) : Type 0 where
-  pub chunk : Bucket
-  pub there : slice_get chunks gap.chunk ≡ Some chunk
-  pub follows : Follows k chunk.rows gap
-  pub precedes : Precedes k chunk.rows (length chunks) gap
 
 -- the key of the first row, or no bytes
 abbrev pub first_key : List Row → List ℕ

@@ -39,11 +39,6 @@ abbrev pub versions_in : List ℕ → List Row → List Version
 versions_in k [] = []
 versions_in k (r ∷ rows) = place_by (key_cmp k r.key) [] r.versions (versions_in k rows)
 
--- the versions of the row of a key, if the rows have one
-abbrev pub FindsRow : List Row → List ℕ → Option (List Version) → Type 0
-FindsRow rows k (Some versions) = Contains rows (record { key = k; versions = versions })
-FindsRow rows k None = (r : Row) → Contains rows r → r.key ≢ k
-
 -- consecutive rows among others, and the first of them has the key
 pub record IsRun (rows : List Row) (k : List ℕ) (run : List Row) : Type 0 where
   pub front : List Row

@@ -1,6 +1,6 @@
 -- The texts of the nodes of a tree, and their digests: the paper of 2007, section 4.7; digests are those of FIPS 180-4.
 -- This project's profile defines the contents of texts. The parameter leaf gives the leaf of each key.
-use Rattle.std.specs.Prelude.{◌≡◌, ℕ, zero, suc, ◌+◌, ◌*◌, ◌^◌, ◌<◌, Option, Some, List, ◌∷◌, map, ◌++◌, None}
+use Rattle.std.specs.Prelude.{◌≡◌, ℕ, zero, suc, ◌+◌, ◌*◌, ◌^◌, ◌<◌, Option, Some, List, ◌∷◌, map}
 use Rattle.std.specs.List.{flat_map, range_with_len}
 use Rattle.sha2.specs.Sha256.{sha256}
 use Rattle.vclock.specs.declared.format.Format.{Format}
@@ -49,8 +49,3 @@ AreTrue format leaf rows digests = (depth height index : ℕ) (d : List ℕ) →
 pub record IsTreeFor (leaf : List ℕ → ℕ) (rows : List Row) (t : Tree) : Type 0 where
   pub tree : IsTree t
   pub digests : AreTrue t.format leaf rows t.digests
-
--- the rest after the front, or `None` if the text does not begin with the front
-abbrev pub Strips : {X : Type 0} → (X → List ℕ) → List ℕ → List ℕ → Option X → Type 0
-Strips view front text None = (rest : List ℕ) → text ≡ front ++ rest → ⊥
-Strips view front text (Some x) = text ≡ front ++ view x

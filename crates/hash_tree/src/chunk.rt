@@ -8,21 +8,26 @@ ghost use Rattle.version_set.specs.Version.{offer_fault};
 ghost use Rattle.row_bytes.specs.Rows.{FitsText};
 ghost use Rattle.hash_tree.specs.Chunks.{begin_by, row_versions, offered_at};
 
-use crate::written_rows::WrittenRows;
+use crate::measured_rows::MeasuredRows;
 use row_bytes::Row;
+use smallvec::SmallVec;
 use std::alloc::{AllocError, Global};
 use std::marker::Model;
 use std::ops::Deref;
 use std::sync::Arc;
-use vclock::{Bytes, Format, Refusal};
+use vclock::{Format, Refusal};
 use version_set::Version;
 
+/// The maximum length in bytes of a first key that is stored in the handle itself: the text of a UUID fits.
+const FIRST_LEN: usize = 40;
+
 /// A handle of some consecutive rows of a leaf, at least one. Copies of the leaf share them until one is changed. The
-/// handle has the first key as well, so that a search among chunks reads no row. On error a chunk is unchanged.
+/// handle has a copy of the first key, so that a search among chunks reads neither a row nor the block of a key. On
+/// error a chunk is unchanged.
 #[derive(Debug)]
 pub(crate) struct Chunk {
-    first: Bytes,
-    held: Arc<WrittenRows, Global>,
+    first: SmallVec<u8, FIRST_LEN>,
+    held: Arc<MeasuredRows, Global>,
 }
 
 impl Model for Chunk {
@@ -35,18 +40,18 @@ impl Model for Chunk {
 
     ghost view = { λ c. arc_value c.held };
 
-    ghost invariant = { λ c. (1 ≤ length (arc_value c.held).rows) × (c.first ≡ first_key (arc_value c.held).rows) };
+    ghost invariant = { λ c. (1 ≤ length (arc_value c.held).rows) × (c.first.items ≡ first_key (arc_value c.held).rows) };
 }
 
 impl Deref for Chunk {
-    type Target = WrittenRows;
+    type Target = MeasuredRows;
 
     ghost use Rattle.std.specs.Prelude.{◌≡◌};
 
     ghost deref_gives = { λ chunk rows. rows ≡ chunk };
 
-    /// Returns the rows with their texts.
-    fn deref(&self) -> &WrittenRows
+    /// Returns the rows with the length of their texts.
+    fn deref(&self) -> &MeasuredRows
         ensures { result.now ≡ self.now }
     {
         &self.held
@@ -60,11 +65,8 @@ impl Clone for Chunk {
 
     /// Adds an owner to the rows, and returns its handle. Fails only if memory is needed. Copies no row.
     fn clone(&self) -> Result<Chunk, AllocError> {
-        let Ok(first) = self.first.try_clone() else {
-            return Err(AllocError);
-        };
         Ok(Chunk {
-            first,
+            first: SmallVec::from_slice(*self.first.allocator(), self.first.as_slice())?,
             held: Arc::try_clone(&self.held)?,
         })
     }
@@ -76,8 +78,8 @@ impl Chunk {
         requires { FitsText format row }
         ensures { Answers result None (λ chunk. chunk ≡ record { format = format; rows = row ∷ [] }) }
     {
-        let first = row.key.try_clone()?;
-        let mut held = WrittenRows::none(alloc, format);
+        let first = SmallVec::from_slice(alloc, row.key.as_slice())?;
+        let mut held = MeasuredRows::none(alloc, format);
         held.insert(0, row)?;
         Ok(Chunk {
             first,
@@ -112,7 +114,7 @@ impl Chunk {
         ensures { Does result self.old self.new (gives tt (record self.old { rows = insert self.old.rows at row })) }
     {
         let first = if at == 0 {
-            Some(row.key.try_clone()?)
+            Some(SmallVec::from_slice(*self.first.allocator(), row.key.as_slice())?)
         } else {
             None
         };
@@ -130,10 +132,10 @@ impl Chunk {
         ensures { Does result self.old self.new
             (gives (record self.old { rows = drop at self.old.rows }) (record self.old { rows = take at self.old.rows })) }
     {
-        let first = self.held.rows()[at].key.try_clone()?;
-        let mut held = Arc::new(alloc, WrittenRows::none(alloc, self.held.format()))?;
+        let first = SmallVec::from_slice(alloc, self.held.rows()[at].key.as_slice())?;
+        let mut held = Arc::new(alloc, MeasuredRows::none(alloc, self.held.format()))?;
         let back = Arc::make_mut(&mut held)?;
-        *back = Arc::make_mut(&mut self.held)?.split(alloc, at)?;
+        *back = Arc::make_mut(&mut self.held)?.split(at)?;
         Ok(Chunk { first, held })
     }
 }

@@ -1,5 +1,5 @@
 //! The rows of a leaf in chunks: finding a row, and offering a version.
-ghost use Rattle.std.specs.Prelude.{◌≡◌, ◌↔◌, ◌+◌, ◌<◌, ◌≤◌, ◌^◌, [], None, length, take, drop, OnErr, IsTrue};
+ghost use Rattle.std.specs.Prelude.{◌≡◌, ◌+◌, ◌<◌, ◌≤◌, ◌^◌, [], None, length, take, drop, OnErr};
 ghost use Rattle.std.specs.List.{AllByRecursion, flat_map, insert};
 ghost use Rattle.std.specs.declared.cmp.Ordering.TheVariants.{Less, Greater};
 ghost use Rattle.vclock.specs.Answer.{Answers};
@@ -9,10 +9,10 @@ ghost use Rattle.version_set.specs.Kind.{value_fault};
 ghost use Rattle.version_set.specs.Version.{offer_fault, offered};
 ghost use Rattle.row_bytes.specs.Rows.{FitsText};
 ghost use Rattle.hash_tree.specs.Leaves.{Bucket, key_cmp, AscendByKey, IsPlace, versions_in, with_offer};
-ghost use Rattle.hash_tree.specs.Chunks.{all_rows, chunk_rows, chunk_text, AreChunks, IsRowOf, Follows, Precedes, IsGapOf, place_in, IsSpot, IsRowSpot, IsGapSpot, IsRoomySpot, IsSplit, row_versions, offered_at};
+ghost use Rattle.hash_tree.specs.Chunks.{all_rows, chunk_rows, chunk_text, AreChunks, place_in, IsSpot, IsRowSpot, IsGapSpot, IsRoomySpot, IsSplit, row_versions, offered_at};
 
 use crate::chunk::Chunk;
-use crate::written_rows::ROWS_MAX;
+use crate::measured_rows::ROWS_MAX;
 use row_bytes::Row;
 use std::alloc::Global;
 use vclock::{Bytes, Format, Refusal};
@@ -21,10 +21,9 @@ use version_set::{Version, VersionSet};
 /// The maximum number of chunks of a leaf: more than any memory holds, and few enough to count the bytes of its text.
 const CHUNKS_MAX: usize = 1 << 56;
 
-/// The place of a row in a leaf, or a place at which to insert one. A search returns it; an offer looks there first, and
-/// searches only if the leaf has changed since. The default is the first place.
-#[derive(Clone, Copy, Debug, Default)]
-pub struct Spot {
+/// The place of a row in a leaf, or a place at which to insert one.
+#[derive(Clone, Copy, Debug)]
+pub(crate) struct Spot {
     /// The index of the chunk.
     pub(crate) chunk: usize,
     /// The index among the rows of the chunk.
@@ -45,68 +44,6 @@ pub(crate) fn spot_of(chunks: &[Chunk], key: &[u8]) -> Result<Spot, Spot>
     match find_place(chunks[chunk].rows(), key) {
         Ok(at) => Ok(Spot { chunk, at }),
         Err(at) => Err(Spot { chunk, at }),
-    }
-}
-
-/// Returns the spot of a key as `spot_of` does. Looks first at a spot that may be right.
-fn spot_near(chunks: &[Chunk], near: Spot, key: &[u8]) -> Result<Spot, Spot>
-    requires each { AllByRecursion (λ (c : Bucket). 1 ≤ length c.rows) chunks.now }
-    requires ascending { AscendByKey (all_rows chunks.now) }
-    ensures { IsSpot key.now chunks.now result }
-{
-    if is_row_of(chunks, near, key) {
-        return Ok(near);
-    }
-    if is_gap_of(chunks, near, key) {
-        return Err(near);
-    }
-    spot_of(chunks, key)
-}
-
-/// Returns true if the row of a key is at a spot.
-fn is_row_of(chunks: &[Chunk], spot: Spot, key: &[u8]) -> bool
-    ensures { IsTrue result ↔ IsRowOf key.now chunks.now spot }
-{
-    let Some(chunk) = chunks.get(spot.chunk) else {
-        return false;
-    };
-    match chunk.rows().get(spot.at) {
-        Some(row) => row.key.as_slice() == key,
-        None => false,
-    }
-}
-
-/// Returns true if the row of a key would be inserted at a gap. Returns false for a gap between two chunks.
-fn is_gap_of(chunks: &[Chunk], gap: Spot, key: &[u8]) -> bool
-    ensures { IsTrue result ↔ IsGapOf key.now chunks.now gap }
-{
-    let Some(chunk) = chunks.get(gap.chunk) else {
-        return false;
-    };
-    follows(chunk.rows(), gap, key) && precedes(chunk.rows(), chunks.len(), gap, key)
-}
-
-/// Returns true if a key is greater than that of the row before a gap, or the gap is before all rows.
-fn follows(rows: &[Row], gap: Spot, key: &[u8]) -> bool
-    ensures { IsTrue result ↔ Follows key.now rows.now gap }
-{
-    if gap.at == 0 {
-        return gap.chunk == 0;
-    }
-    match rows.get(gap.at - 1) {
-        Some(row) => row.key.as_slice().cmp(key).is_lt(),
-        None => false,
-    }
-}
-
-/// Returns true if a key is less than that of the row after a gap, or the gap is after all rows of `count` chunks.
-fn precedes(rows: &[Row], count: usize, gap: Spot, key: &[u8]) -> bool
-    requires { gap.chunk < count }
-    ensures { IsTrue result ↔ Precedes key.now rows.now count gap }
-{
-    match rows.get(gap.at) {
-        Some(row) => row.key.as_slice().cmp(key).is_gt(),
-        None => gap.at == rows.len() && gap.chunk + 1 == count,
     }
 }
 
@@ -140,18 +77,17 @@ pub(crate) fn text_len(chunks: &[Chunk]) -> u128
 {
     let mut len = 1;
     for chunk in chunks {
-        len += chunk.text().len() as u128;
+        len += chunk.text_len() as u128;
     }
     len
 }
 
-/// Offers a version to the set of a key, which has room for it. If the key has no row, one is added. Looks for the row
-/// at a spot first. On error the rows are unchanged. Refused: NoMemory.
+/// Offers a version to the set of a key, which has room for it. If the key has no row, one is added. On error the rows
+/// are unchanged. Refused: NoMemory.
 pub(crate) fn offer_to_key(
     alloc: Global,
     format: Format,
     chunks: &mut Vec<Chunk>,
-    near: Spot,
     key: &Bytes,
     version: Version,
 ) -> Result<(), Refusal>
@@ -164,7 +100,7 @@ pub(crate) fn offer_to_key(
         (gives tt (with_offer key.now version (all_rows chunks.old.items))) }
     ensures chunks { AreChunks format chunks.new.items }
 {
-    match spot_near(chunks, near, key.as_slice()) {
+    match spot_of(chunks, key.as_slice()) {
         Ok(spot) => offer_at(chunks, spot, version),
         Err(gap) => {
             let row = row_of_one(alloc, key, version)?;

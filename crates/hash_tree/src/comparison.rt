@@ -1,11 +1,13 @@
 //! Comparing a text with the text of a node in place. Doesn't allocate.
 ghost use Rattle.std.specs.Prelude.{◌≡◌, ◌↔◌, ◌∷◌, IsTrue};
 ghost use Rattle.std.specs.List.{flat_map};
+ghost use Rattle.row_bytes.specs.Strips.{Strips};
 ghost use Rattle.hash_tree.specs.Chunks.{chunk_text};
-ghost use Rattle.hash_tree.specs.Texts.{Strips, leaf_byte, inner_text};
+ghost use Rattle.hash_tree.specs.Texts.{leaf_byte, inner_text};
 
 use crate::chunk::Chunk;
 use crate::texts::{inner_byte, leaf_byte};
+use row_bytes::strip;
 use tree_nodes::Digest;
 use vclock::Format;
 
@@ -43,7 +45,7 @@ fn strip_chunks<'a>(text: &'a [u8], chunks: &[Chunk]) -> Option<&'a [u8]>
 {
     let mut rest = text;
     for chunk in chunks {
-        rest = strip(rest, chunk.text())?;
+        rest = chunk.strip_texts(rest)?;
     }
     Some(rest)
 }
@@ -65,11 +67,4 @@ fn strip_all<'a>(text: &'a [u8], digests: &[Digest]) -> Option<&'a [u8]>
         rest = strip(rest, digest)?;
     }
     Some(rest)
-}
-
-/// Returns the bytes after `front`, or `None` if the text doesn't begin with it.
-fn strip<'a>(text: &'a [u8], front: &[u8]) -> Option<&'a [u8]>
-    ensures { Strips (λ x. x.now) front.now text.now result }
-{
-    text.strip_prefix(front)
 }

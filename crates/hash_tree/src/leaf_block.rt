@@ -8,7 +8,6 @@ ghost use Rattle.version_set.specs.Version.{offer_fault};
 ghost use Rattle.hash_tree.specs.Leaves.{Bucket, versions_in};
 ghost use Rattle.hash_tree.specs.Blocks.{nth_leaf, leaf_with_offer};
 
-use crate::chunks::Spot;
 use crate::shared_leaf::SharedLeaf;
 use std::alloc::{AllocError, Global};
 use std::marker::Model;
@@ -100,7 +99,6 @@ impl LeafBlock {
         &mut self,
         alloc: Global,
         at: usize,
-        near: Spot,
         key: &Bytes,
         version: Version,
     ) -> Result<(), Refusal>
@@ -112,7 +110,7 @@ impl LeafBlock {
             (gives tt (slice_set self.old at (leaf_with_offer key.now version (nth_leaf self.old at)))) }
         ensures valid { length self.new ≡ 64 }
     {
-        Arc::make_mut(&mut self.leaves)?[at].offer(alloc, near, key, version)
+        Arc::make_mut(&mut self.leaves)?[at].offer(alloc, key, version)
     }
 }
 

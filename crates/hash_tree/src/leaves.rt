@@ -9,7 +9,6 @@ ghost use Rattle.hash_tree.specs.Leaves.{Bucket, versions_in};
 ghost use Rattle.tree_nodes.specs.Nodes.{tree_depth};
 ghost use Rattle.hash_tree.specs.Blocks.{nth_leaf, leaf_with_offer};
 
-use crate::chunks::Spot;
 use crate::leaf_block::{BLOCK_LEN, LeafBlock};
 use crate::shared_leaf::SharedLeaf;
 use std::alloc::Global;
@@ -110,15 +109,13 @@ impl Leaves {
         })
     }
 
-    /// Offers a version to the set of a key in the leaf with an index, which has room for it. Looks for the row at the
-    /// spot `near` first. What has other owners is copied first, by handles; if nothing has, the leaf is changed in
-    /// place. Refused: NoMemory.
+    /// Offers a version to the set of a key in the leaf with an index, which has room for it. What has other owners is
+    /// copied first, by handles; if nothing has, the leaf is changed in place. Refused: NoMemory.
     #[tactic(auto, using(tree_nodes::proofs::BlockLaws::number_within))]
     pub fn offer(
         &mut self,
         alloc: Global,
         leaf: u16,
-        near: Spot,
         key: &Bytes,
         version: Version,
     ) -> Result<(), Refusal>
@@ -131,7 +128,7 @@ impl Leaves {
     {
         let leaf = leaf as usize;
         let blocks = Arc::make_mut(&mut self.blocks)?;
-        blocks[leaf / BLOCK_LEN].offer(alloc, leaf % BLOCK_LEN, near, key, version)
+        blocks[leaf / BLOCK_LEN].offer(alloc, leaf % BLOCK_LEN, key, version)
     }
 }
 

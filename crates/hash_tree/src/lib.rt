@@ -21,12 +21,11 @@ pub mod comparison;
 pub mod laws;
 mod leaf_block;
 pub mod leaves;
+mod measured_rows;
 pub mod row_runs;
 pub mod shared_leaf;
 pub mod texts;
-mod written_rows;
 
-pub use chunks::Spot;
 pub use comparison::is_inner_text;
 pub use leaves::Leaves;
 pub use row_runs::RowRuns;

@@ -1,19 +1,19 @@
 //! The rows of one leaf, with several owners: a range, and the jobs that read them.
 ghost use Rattle.std.specs.Prelude.{◌≡◌, ◌↔◌, ◌++◌, ◌+◌, ◌<◌, ◌≤◌, [], ⊤, None, IsTrue, length, unwrap_or, option_map, MatchOption, OnOk, OnErr};
-ghost use Rattle.std.specs.List.{flat_map};
+ghost use Rattle.std.specs.List.{AllByRecursion, flat_map};
 ghost use Rattle.std.specs.Vec.{vec_capacity};
 ghost use Rattle.vclock.specs.Answer.{Answers};
 ghost use Rattle.vclock.specs.Bytes.{key_fault};
 ghost use Rattle.vclock.specs.Outcome.{Does, gives};
 ghost use Rattle.version_set.specs.Kind.{value_fault};
 ghost use Rattle.version_set.specs.Version.{offer_fault};
-ghost use Rattle.row_bytes.specs.Rows.{row_text};
-ghost use Rattle.hash_tree.specs.Leaves.{IsBucket, FindsRow, FindsRun, versions_in, with_offer};
+ghost use Rattle.row_bytes.specs.Rows.{row_text, FitsText};
+ghost use Rattle.hash_tree.specs.Leaves.{IsBucket, FindsRun, versions_in, with_offer};
 ghost use Rattle.hash_tree.specs.Chunks.{all_rows, AreChunks};
 ghost use Rattle.hash_tree.specs.Texts.{leaf_text};
 
 use crate::chunk::Chunk;
-use crate::chunks::{Spot, offer_to_key, spot_of, text_len};
+use crate::chunks::{offer_to_key, spot_of, text_len};
 use crate::comparison::is_chunked_text;
 use crate::row_runs::RowRuns;
 use crate::texts::{leaf_byte, put_chunks};
@@ -100,14 +100,13 @@ impl SharedLeaf {
         Ok(self.clone()?)
     }
 
-    /// Appends the text of the leaf, copied from its chunks. Fails only if memory is needed beyond the room of `out`,
+    /// Appends the text of the leaf. Fails only if memory is needed beyond the room of `out`,
     /// which is then unchanged.
     pub fn put_text(&self, out: &mut Vec<u8>) -> Result<(), AllocError>
         ensures ok { OnOk result (out.new.items ≡ out.old.items ++ leaf_text self.now.format self.now.rows) }
         ensures room { OnErr result (vec_capacity out.old < length out.old.items + length (leaf_text self.now.format self.now.rows)) }
         ensures err { OnErr result (out.new.items ≡ out.old.items) }
     {
-        // Summing the lengths first touches every chunk in one pass, so their cache misses overlap.
         reserve(out, self.text_len())?;
         out.push(leaf_byte(self.format))?;
         put_chunks(out, self.chunks())
@@ -135,50 +134,25 @@ impl SharedLeaf {
         ensures found { unwrap_or (option_map (λ s. s.now) result) [] ≡ versions_in key.now self.now.rows }
         ensures valid { IsBucket self.now }
     {
-        let (versions, _) = self.search(key);
-        versions
-    }
-
-    /// Finds the versions of a key as `find` does. Returns also the place of the row, or where it would be inserted.
-    pub fn search(&self, key: &[u8]) -> (Option<&VersionSet>, Spot)
-        ensures found { unwrap_or (option_map (λ s. s.now) result.0) [] ≡ versions_in key.now self.now.rows }
-        ensures valid { IsBucket self.now }
-    {
         let chunks = self.chunks();
         match spot_of(chunks, key) {
-            Ok(spot) => (Some(&chunks[spot.chunk].row(spot.at).versions), spot),
-            Err(gap) => (None, gap),
+            Ok(spot) => Some(&chunks[spot.chunk].row(spot.at).versions),
+            Err(_gap) => None,
         }
     }
 
-    /// Returns the row of a key, if it has one: its versions and its text. Searches by a binary search. Doesn't
-    /// allocate.
-    pub fn find_row(&self, key: &[u8]) -> Option<(&VersionSet, &[u8])>
-        ensures found { FindsRow self.now.rows key.now (option_map (λ x. x.0.now) result) }
-        ensures text { MatchOption result ⊤ (λ x. x.1.now ≡ row_text self.now.format (record { key = key.now; versions = x.0.now })) }
+    /// Returns the row of a key, if it has one, and some rows that follow it. Searches by a binary search. Doesn't
+    /// allocate. The number of rows matters only for speed: the rows end with the chunk of the key.
+    pub fn find_run(&self, key: &[u8]) -> Option<&[Row]>
+        ensures found { FindsRun self.now.rows key.now (option_map (λ x. x.now) result) }
+        ensures fit { MatchOption result ⊤ (λ x. AllByRecursion (FitsText self.now.format) x.now) }
     {
         let chunks = self.chunks();
         let Ok(spot) = spot_of(chunks, key) else {
             return None;
         };
-        let chunk = &chunks[spot.chunk];
-        Some((&chunk.row(spot.at).versions, chunk.row_text(spot.at)))
-    }
-
-    /// Returns the row of a key, if it has one, and some rows that follow it, with their texts one after another.
-    /// Searches by a binary search. Doesn't allocate. The number of rows matters only for speed: the rows end with the
-    /// chunk of the key.
-    pub fn find_run(&self, key: &[u8]) -> Option<(&[Row], &[u8])>
-        ensures found { FindsRun self.now.rows key.now (option_map (λ x. x.0.now) result) }
-        ensures text { MatchOption result ⊤ (λ x. x.1.now ≡ flat_map (row_text self.now.format) x.0.now) }
-    {
-        let chunks = self.chunks();
-        let Ok(spot) = spot_of(chunks, key) else {
-            return None;
-        };
-        let chunk = &chunks[spot.chunk];
-        let (_, rows) = chunk.rows().split_at(spot.at);
-        Some((rows, chunk.texts_from(spot.at)))
+        let (_, rows) = chunks[spot.chunk].rows().split_at(spot.at);
+        Some(rows)
     }
 
     /// Returns all rows, to be read a run at a time. Doesn't allocate.
@@ -188,16 +162,9 @@ impl SharedLeaf {
         RowRuns::of(self.chunks())
     }
 
-    /// Offers a version to the set of a key, which has room for it. If the key has no row, one is added. Looks for the
-    /// row at the spot `near`, and searches if it isn't there. If the leaf has other owners, a copy of it is changed.
-    /// Refused: NoMemory.
-    pub fn offer(
-        &mut self,
-        alloc: Global,
-        near: Spot,
-        key: &Bytes,
-        version: Version,
-    ) -> Result<(), Refusal>
+    /// Offers a version to the set of a key, which has room for it. If the key has no row, one is added. If the leaf has
+    /// other owners, a copy of it is changed. Refused: NoMemory.
+    pub fn offer(&mut self, alloc: Global, key: &Bytes, version: Version) -> Result<(), Refusal>
         requires key { key_fault key.now ≡ None }
         requires value { value_fault self.old.format version.kind version.value ≡ None }
         requires room { offer_fault version (versions_in key.now self.old.rows) ≡ None }
@@ -207,11 +174,11 @@ impl SharedLeaf {
         match &mut self.chunks {
             Some(chunks) => {
                 let chunks = Arc::make_mut(chunks)?;
-                offer_to_key(alloc, self.format, chunks, near, key, version)
+                offer_to_key(alloc, self.format, chunks, key, version)
             }
             None => {
                 let mut chunks = Vec::new(alloc);
-                offer_to_key(alloc, self.format, &mut chunks, near, key, version)?;
+                offer_to_key(alloc, self.format, &mut chunks, key, version)?;
                 self.chunks = Some(Arc::new(alloc, chunks)?);
                 Ok(())
             }

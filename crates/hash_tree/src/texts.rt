@@ -3,7 +3,7 @@ ghost use Rattle.std.specs.Prelude.{◌≡◌, ◌++◌, ◌+◌, ◌<◌, ◌�
 ghost use Rattle.std.specs.List.{AllByRecursion, flat_map};
 ghost use Rattle.std.specs.Vec.{vec_capacity};
 ghost use Rattle.vclock.specs.Answer.{Answers};
-ghost use Rattle.row_bytes.specs.Rows.{FitsText};
+ghost use Rattle.row_bytes.specs.Rows.{row_text, FitsText};
 ghost use Rattle.hash_tree.specs.Chunks.{chunk_text};
 ghost use Rattle.hash_tree.specs.Texts.{leaf_byte, inner_byte, leaf_text, inner_text};
 
@@ -36,6 +36,20 @@ pub fn inner_byte(format: Format) -> u8
     }
 }
 
+/// Appends the texts of rows, one after another. Fails only if memory is needed beyond the room of `out`, and then some
+/// may be at the end.
+pub(crate) fn put_rows(out: &mut Vec<u8>, format: Format, rows: &[Row]) -> Result<(), AllocError>
+    requires { AllByRecursion (FitsText format) rows.now }
+    ensures ok { OnOk result (out.new.items ≡ out.old.items ++ flat_map (row_text format) rows.now) }
+    ensures room { OnErr result (vec_capacity out.old < length out.old.items + length (flat_map (row_text format) rows.now)) }
+    ensures grows { vec_capacity out.old ≤ vec_capacity out.new }
+{
+    for row in rows {
+        put_row(out, format, row)?;
+    }
+    Ok(())
+}
+
 /// Appends the texts of the rows of chunks. Fails only if memory is needed beyond the room of `out`, and then some may
 /// be at the end.
 pub(crate) fn put_chunks(out: &mut Vec<u8>, chunks: &[Chunk]) -> Result<(), AllocError>
@@ -43,7 +57,7 @@ pub(crate) fn put_chunks(out: &mut Vec<u8>, chunks: &[Chunk]) -> Result<(), Allo
     ensures room { OnErr result (vec_capacity out.old < length out.old.items + length (flat_map chunk_text chunks.now)) }
 {
     for chunk in chunks {
-        out.extend_from_slice(chunk.text())?;
+        chunk.put_texts(out)?;
     }
     Ok(())
 }
@@ -87,9 +101,7 @@ pub fn leaf_text(alloc: Global, format: Format, rows: &[Row]) -> Result<Vec<u8>,
 {
     let mut text = Vec::new(alloc);
     text.push(leaf_byte(format))?;
-    for row in rows {
-        put_row(&mut text, format, row)?;
-    }
+    put_rows(&mut text, format, rows)?;
     Ok(text)
 }
 

@@ -5,7 +5,7 @@ use Rattle.std.specs.List.{All, range_with_len}
 use Rattle.std.specs.Cmp.Lexicographic.{pointwise}
 use Rattle.std.proofs.lemmas.Bool.{cases_eq}
 use Rattle.std.proofs.lemmas.Cmp.{nat_list_eq_equiv}
-use Rattle.std.proofs.lemmas.List.{get_or-set_same, get_or-set_other, get_or_default, get_or-take, get_or-drop, get_or-map, length-set, length-take, length-drop, length-map, take-append-drop, drop-drop, map_more, take_all}
+use Rattle.std.proofs.lemmas.List.{get_or-set_same, get_or-set_other, get_or_default, get_or-take, get_or-drop, get_or-map, length-set, length-take, length-drop, length-map, take-append-drop, drop-drop, map_more}
 use Rattle.std.proofs.lemmas.List.Elements.{All-take, All-filter, All-get_or, All-from_get_or, Contains-append_left, Contains-push, Contains-push_cases}
 use Rattle.std.proofs.lemmas.Simd.{map-map}
 use Rattle.std.proofs.lemmas.List.FromFn.{fill_by_all, length-range_with_len, get_or-range_with_len}
@@ -103,14 +103,6 @@ clean-inside [] place clean = absurd (let no : false ≡ true = clean in cc)
 clean-inside (m ∷ ms) zero clean = omega arith
 clean-inside (m ∷ ms) (suc place) clean = omega (arith, clean-inside ms place clean)
 
--- At first no node was made clean.
-pub hashed_none : (s : RangeTree) → HasHashed [] s s
-hashed_none s = record {
-  same = record { map = refl; kept = λ place d h. h };
-  clean = λ place h. absurd (omega (arith, h.1));
-  others = λ place h. refl;
-}
-
 hashed_next : (places : List ℕ) (start s : RangeTree) (node : Node) (text : List ℕ) → HasHashed places start s → length s.marks ≡ length start.marks
     → place_of node < length start.marks → kept_digest start.marks (place_of node) ≡ None → HasHashed (places ++ place_of node ∷ []) start (installed s node text)
 hashed_next places start s node text was long within dirty =
@@ -128,10 +120,6 @@ hashed_next places start s node text was long within dirty =
       others = λ place h. get_or-set_other s.marks here place (Some (sha256 text)) None (λ e. h (subst (λ (p : ℕ). Contains (places ++ here ∷ []) p) (sym e) (Contains-push places here)))
           ∙ was.others place (λ old. h (Contains-append_left places (here ∷ []) place old));
     }
-
--- Once all nodes were made clean, their places are those of the list.
-pub cleaned : (start : RangeTree) (nodes : List Node) (texts : List (List ℕ)) (s : RangeTree) → IsCleaning start nodes texts (length nodes) s → HasHashed (map place_of nodes) start s
-cleaned start nodes texts s was = subst (λ (xs : List Node). HasHashed (map place_of xs) start s) (take_all (length nodes) nodes (omega arith)) was.hashed
 
 pub cleaning_next : (start : RangeTree) (nodes : List Node) (texts : List (List ℕ)) (done : ℕ) (s t : RangeTree) (node : Node) (text : List ℕ) → IsCleaning start nodes texts done s → done < length nodes → get_or nodes done node ≡ node
     → place_of node < length start.marks → kept_digest start.marks (place_of node) ≡ None → t ≡ installed s node text → IsCleaning start nodes texts (done + 1) t

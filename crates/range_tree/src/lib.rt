@@ -2,13 +2,13 @@
 //! nodes, each that of the node's text for the rows now. Use it to change rows and to hash nodes: a change makes the
 //! nodes above it dirty, and only the digest of a text that is still current is installed.
 //!
-//! - [`tree`]: the tree and its calls: `search` and `offer` for versions, `with_leaf` and `change_leaf` for another
+//! - [`tree`]: the tree and its calls: `find` and `offer` for versions, `with_leaf` and `change_leaf` for another
 //!   leaf, `rows` and `rows_text` for the rows of a leaf; `take_job`, `take_jobs`, `install`, `digest_at` and
 //!   `dirty_count` for jobs of hashing, `rehash`, `rehash_here` and `rehash_some` for all of it; `snapshot` and
 //!   `kept_snapshot` for other replicas, and `share` for another owner.
 //!
 //! ```
-//! tree.offer(alloc, home.leaf, near, &key, version)?;
+//! tree.offer(alloc, home.leaf, &key, version)?;
 //! let hashed = tree.rehash_here(alloc)?;
 //! let snapshot = tree.snapshot(alloc)?;
 //! ```

@@ -13,7 +13,7 @@ ghost use Rattle.snapshot.specs.RowMaps.{RowMap, leaf_in};
 ghost use Rattle.snapshot.specs.Snapshots.{leaf_fault, leaves_of};
 ghost use Rattle.range_tree.specs.Trees.{bare, bucket_of, offered_to, with_rows, IsChange};
 
-use hash_tree::{Leaves, SharedLeaf, Spot};
+use hash_tree::{Leaves, SharedLeaf};
 use key_ring::leaf_count;
 use std::alloc::Global;
 use std::marker::Model;
@@ -30,11 +30,11 @@ mod snapshots;
 ///
 /// ```
 /// let home = place(Format::One, 0, key);
-/// let (held, near) = tree.search(home.leaf, key);
+/// let held = tree.find(home.leaf, key);
 /// ```
 ///
 /// ```
-/// tree.offer(alloc, home.leaf, near, &key, version)?;
+/// tree.offer(alloc, home.leaf, &key, version)?;
 /// let hashed = tree.rehash_here(alloc)?;
 /// let snapshot = tree.snapshot(alloc)?;
 /// ```
@@ -90,8 +90,7 @@ impl Tree {
         })
     }
 
-    /// Returns a leaf, below 256, or below 4,096 in format 2: its rows in ascending order of key, and their text.
-    /// Doesn't allocate.
+    /// Returns a leaf, below 256, or below 4,096 in format 2: its rows in ascending order of key. Doesn't allocate.
     pub fn rows(&self, leaf: u16) -> &SharedLeaf
         requires { leaf < 2 ^ leaf_bits self.now.map.format }
         ensures { result.now ≡ bucket_of self.now.map leaf }
@@ -116,26 +115,22 @@ impl Tree {
         Ok(text)
     }
 
-    /// Returns the versions of a key of that leaf, and the spot of its row, or the one at which it would be inserted.
-    /// Doesn't allocate.
-    pub fn search(&self, leaf: u16, key: &[u8]) -> (Held<'_>, Spot)
+    /// Returns the versions of a key of that leaf, by a binary search. Doesn't allocate.
+    pub fn find(&self, leaf: u16, key: &[u8]) -> Held<'_>
         requires { leaf ≡ leaf_in self.now.map key.now }
-        ensures { result.0 ≡ versions_in key.now self.now.map.rows }
+        ensures { result ≡ versions_in key.now self.now.map.rows }
     {
-        let (set, spot) = self.leaves.get(leaf).search(key);
-        (Held::new(set), spot)
+        Held::new(self.leaves.get(leaf).find(key))
     }
 
-    /// Offers a version to the set of a key of that leaf, which has room for it. Looks for the row at the spot `near`
-    /// first, which `search` returned; another spot costs a search. The leaf and the nodes above it are dirty then.
-    /// Rows with other owners are copied first.
+    /// Offers a version to the set of a key of that leaf, which has room for it. The leaf and the nodes above it are
+    /// dirty then. Rows with other owners are copied first.
     ///
     /// Refused: NoMemory. On error the tree is unchanged.
     pub fn offer(
         &mut self,
         alloc: Global,
         leaf: u16,
-        near: Spot,
         key: &Bytes,
         version: Version,
     ) -> Result<(), Refusal>
@@ -148,7 +143,7 @@ impl Tree {
     {
         // Called for its clause alone: the version's clock is valid.
         let _valid = version.clock.pairs();
-        self.leaves.offer(alloc, leaf, near, key, version)?;
+        self.leaves.offer(alloc, leaf, key, version)?;
         self.marks.dirty(leaf);
         Ok(())
     }

@@ -13,6 +13,12 @@ use std::thread::Threads;
 use tree_nodes::{Hashed, NodeAt};
 use vclock::Refusal;
 
+/// The number of bytes of text that a round of a rehash has in memory if each text is as long as the first leaf's.
+const ROUND_LEN: u128 = 4 << 20;
+
+/// The minimum number of nodes of a round, so that each thread has some.
+const ROUND_SIZE_MIN: usize = 16;
+
 impl Tree {
     /// Returns the number of nodes of the tree that have no digest, at most 273, or 4,369 in format 2. Doesn't
     /// allocate.
@@ -24,7 +30,8 @@ impl Tree {
     }
 
     /// Hashes every dirty node, installs the digests, and returns the number of nodes that were dirty. Each round
-    /// hashes the nodes whose children are clean, in several threads if there is enough to hash.
+    /// hashes some nodes whose children are clean, in several threads if there is enough to hash, and has their texts
+    /// in memory: 4 MiB if each is as long as the first leaf's, but at least 16 texts.
     ///
     /// Refused: NoMemory. Then some of the dirty nodes may be clean, and everything else is unchanged.
     pub fn rehash(&mut self, rt: &(impl Threads + Sync), alloc: Global) -> Result<u64, Refusal>
@@ -92,10 +99,21 @@ impl Tree {
         ensures same { IsSameTree self.old self.new }
     {
         let dirty = self.dirty_count() as u64;
-        while self.rehash_ready(hash, alloc, usize::MAX)? {}
+        let most = self.round_size();
+        while self.rehash_ready(hash, alloc, most)? {}
         // Called for its clause alone: the tree is right.
         let _right = self.dirty_count();
         Ok(dirty)
+    }
+
+    /// Returns the number of nodes that a round hashes: as many as have `ROUND_LEN` bytes of text if each is as long as
+    /// the first leaf's, but at least `ROUND_SIZE_MIN`.
+    fn round_size(&self) -> usize
+        ensures { 0 < result }
+    {
+        let leaf_len = self.rows(0).text_len().max(1);
+        let size = usize::try_from(ROUND_LEN / leaf_len).unwrap_or(usize::MAX);
+        size.max(ROUND_SIZE_MIN)
     }
 
     /// Hashes at most `most` of the dirty nodes whose children are clean, and makes them clean. Returns true if there was

@@ -1,6 +1,6 @@
 use Rattle.std.proofs.Common.{ℕ, List, ◌+◌, get_or, drop, subst, []}
 use Rattle.std.specs.List.{flat_map}
-use Rattle.hash_tree.proofs.StripLaws.{IsBehind, flat_map-at, behind_more}
+use Rattle.row_bytes.proofs.StripLaws.{IsBehind, flat_map-at, behind_more}
 use Rattle.hash_tree.proofs.comparison.strip_all.Goals as goal
 
 pub loop-digest-preserved : goal.loop-digest-preserved

@@ -1,6 +1,6 @@
 use Rattle.std.proofs.Common.{ℕ, List, drop}
 use Rattle.std.specs.List.{flat_map}
-use Rattle.hash_tree.proofs.StripLaws.{IsBehind}
+use Rattle.row_bytes.proofs.StripLaws.{IsBehind}
 use Rattle.hash_tree.proofs.comparison.strip_all.Given as goal
 
 abbrev pub invariant-loop-digest : goal.invariant-loop-digest

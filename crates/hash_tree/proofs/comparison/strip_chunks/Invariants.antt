@@ -1,6 +1,6 @@
 use Rattle.std.proofs.Common.{drop}
 use Rattle.std.specs.List.{flat_map}
-use Rattle.hash_tree.proofs.StripLaws.{IsBehind}
+use Rattle.row_bytes.proofs.StripLaws.{IsBehind}
 use Rattle.hash_tree.specs.Chunks.{chunk_text}
 use Rattle.hash_tree.proofs.comparison.strip_chunks.Given as goal
 

@@ -1,6 +1,6 @@
 use Rattle.std.proofs.Common.{ℕ, List, Bor, [], ◌∷◌}
 use Rattle.std.specs.List.{flat_map}
-use Rattle.hash_tree.proofs.StripLaws.{strips_then, lacks_first}
+use Rattle.row_bytes.proofs.StripLaws.{strips_then, lacks_first}
 use Rattle.hash_tree.specs.Texts.{inner_text}
 use Rattle.hash_tree.proofs.comparison.strip_inner.Goals as goal
 

@@ -1,16 +1,12 @@
-use Rattle.std.proofs.Common.{◌∙◌, ℕ, List, length, take, ap, arith}
-use Rattle.std.specs.List.{flat_map}
-use Rattle.std.proofs.lemmas.List.{length-append}
-use Rattle.row_bytes.proofs.TextLengthLaws.{on_err}
+use Rattle.std.proofs.Common.{◌∙◌, ◌<◌, ◌+◌, length, subst}
+use Rattle.std.specs.Vec.{vec_capacity}
+use Rattle.row_bytes.proofs.TextLengthLaws.{on_err, lacks_room}
+use Rattle.hash_tree.specs.Leaves.{Bucket}
 use Rattle.hash_tree.specs.Chunks.{chunk_text}
-use Rattle.hash_tree.proofs.TextLaws.{part_within}
 use Rattle.hash_tree.proofs.texts.put_chunks.Goals as goal
 
-pub returns-in_err-extend_from_slice-clause-room : goal.returns-in_err-extend_from_slice-clause-room
-returns-in_err-extend_from_slice-clause-room c =
+pub returns-in_err-put_texts-clause-room : goal.returns-in_err-put_texts-clause-room
+returns-in_err-put_texts-clause-room c =
     let l = c.loop-chunk in
-    let chunks = c.args.chunks.now in
-    let out = c.args.out.now.items in
-    let behind = flat_map chunk_text (take l.chunk-index chunks) in
-    on_err c.from_residual.result
-    (omega (arith, part_within chunk_text chunks l.chunk-index c.chunk-item.result c.loop-chunk-test.true c.chunk-item.is, ap (λ (t : List ℕ). length t) l.invariant.so_far, length-append out behind, l.invariant.room, ap (λ (t : List ℕ). length t) (c.text.ensures ∙ ap chunk_text c.deref.ensures), c.in_err-extend_from_slice.ensures.full, l.out.ok.0))
+    let full = subst (λ (b : Bucket). vec_capacity l.out < length l.out.items + length (chunk_text b)) (c.deref.ensures ∙ c.chunk-item.is) c.in_err-put_texts.ensures.room in
+    on_err c.from_residual.result (lacks_room chunk_text c.args.chunks.now l.chunk-index c.chunk-item.result c.args.out.now.items l.out.items _ _ c.loop-chunk-test.true l.invariant.so_far l.invariant.room full)

@@ -6,7 +6,7 @@ use Rattle.hash_tree.specs.Leaves.{Bucket}
 use Rattle.hash_tree.specs.Chunks.{first_key}
 use Rattle.hash_tree.proofs.OutcomeLaws.{given}
 use Rattle.hash_tree.proofs.chunk.Chunk.insert.Goals as goal
-use Rattle.hash_tree.proofs.chunk.Chunk.insert.Goals.{then-at-eq0+in_ok-try_clone, else-at-eq0}
+use Rattle.hash_tree.proofs.chunk.Chunk.insert.Goals.{then-at-eq0+in_ok-from_slice, else-at-eq0}
 
 -- a row after the first one leaves the first key
 stays_first : (rows : List Row) (at : ℕ) (r : Row) → 1 ≤ length rows → 1 ≤ at → (1 ≤ length (insert rows at r)) × (first_key rows ≡ first_key (insert rows at r))
@@ -22,6 +22,6 @@ invariant_of-self-in_default c =
     let value : c.in_ok-make_mut.field-0.now ≡ arc_value c.self.inside.held = search rules in
     let new : (arc_value (c.make_mut.follows.lender c.insert.new.self)).rows ≡ insert rows c.args.at c.args.row =
     ap (λ (b : Bucket). b.rows) held ∙ given_rows ∙ ap (λ (b : Bucket). insert b.rows c.args.at c.args.row) value in
-    let later : 1 ≤ c.args.at = elim c.if-at-eq0.branch [ then-at-eq0+in_ok-try_clone w ↦ absurd (c.in_default.not-Some _ w.first-is) | else-at-eq0 w ↦ omega (arith, w.if-at-eq0.false) ] in
+    let later : 1 ≤ c.args.at = elim c.if-at-eq0.branch [ then-at-eq0+in_ok-from_slice w ↦ absurd (c.in_default.not-Some _ w.first-is) | else-at-eq0 w ↦ omega (arith, w.if-at-eq0.false) ] in
     let both = stays_first rows c.args.at c.args.row c.self.invariant.0 later in
     rw new (both.0, c.self.invariant.1 ∙ both.1)

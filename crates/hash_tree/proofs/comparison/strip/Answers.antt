@@ -1,7 +1,0 @@
-use Rattle.std.proofs.lemmas.Bool.Decides.{Decides-eqb}
-use Rattle.std.proofs.lemmas.Slice.Eq.{strip_prefix_is}
-use Rattle.hash_tree.proofs.StripLaws.{to_strips}
-use Rattle.hash_tree.proofs.comparison.strip.Goals as goal
-
-pub returns : goal.returns
-returns c = to_strips c.args.front.now c.args.text.now c.strip_prefix.result (strip_prefix_is Decides-eqb c.args.text.now c.args.front.now c.strip_prefix.result c.strip_prefix.ensures.cases)
