@@ -1,11 +1,11 @@
 -- Reading a leaf's text beside the own rows.
-use Rattle.std.proofs.Common.{◌≡◌, inl, inr, ℕ, zero, suc, ◌+◌, ◌<◌, ◌≤◌, ◌^◌, Bool, true, false, cond, Option, Some, None, List, [], ◌∷◌, ◌++◌, ◌-◌, length, get_or, refl, sym, ap, subst, ◌∙◌, append_assoc, slice_get, arith}
+use Rattle.std.proofs.Common.{◌≡◌, inl, inr, ℕ, zero, suc, ◌+◌, ◌<◌, ◌≤◌, ◌^◌, Bool, true, false, cond, Option, Some, None, List, [], ◌∷◌, ◌++◌, ◌-◌, length, take, drop, get_or, refl, sym, ap, subst, ◌∙◌, append_assoc, slice_get, arith}
 use Rattle.std.specs.Prelude.{nat_eq, Result, Ok, Err}
 use Rattle.std.specs.Int.{w16, to_be_bytes}
 use Rattle.std.specs.List.{flat_map, sum_by, AllByRecursion, Contains}
 use Rattle.std.specs.declared.cmp.Ordering.TheVariants.{Less}
 use Rattle.std.proofs.lemmas.Bool.{eqb-true, eq-eqb}
-use Rattle.std.proofs.lemmas.List.{append-nil, length-append}
+use Rattle.std.proofs.lemmas.List.{append-nil, length-append, take-append-drop}
 use Rattle.std.proofs.lemmas.List.Concat.{flat_map-append}
 use Rattle.std.proofs.lemmas.List.Elements.{Contains-append_left, Contains-append_right}
 use Rattle.std.proofs.lemmas.List.Sums.{sum_by-cons}
@@ -13,7 +13,6 @@ use Rattle.std.proofs.lemmas.Option.{slice_get-get_or}
 use Rattle.vclock.specs.declared.format.Format.{Format}
 use Rattle.vclock.specs.declared.refusal.Refusal.{Refusal}
 use Rattle.vclock.specs.declared.refusal.Refusal.TheVariants as refusals
-use Rattle.version_set.specs.declared.version.Version.{Version}
 use Rattle.version_set.specs.Version.{version_text}
 use Rattle.version_set.proofs.ListLaws.{all-inner, all-push, all-rest, Pairwise-filter}
 use Rattle.key_ring.specs.Places.{range_at}
@@ -22,7 +21,7 @@ use Rattle.row_bytes.specs.Rows.{is_before, row_text, IsRow, KeysAscend, BeginsW
 use Rattle.row_bytes.specs.Reading.{key_of, last_key}
 use Rattle.row_bytes.proofs.RowLaws.{one_row}
 use Rattle.row_bytes.proofs.TextLengthLaws.{row_text_len, row_short}
-use Rattle.hash_tree.specs.Leaves.{Bucket, AscendByKey, rows_in_leaf, versions_in, key_cmp}
+use Rattle.hash_tree.specs.Leaves.{Bucket, AscendByKey, IsRun, rows_in_leaf, versions_in, key_cmp}
 use Rattle.hash_tree.specs.Texts.{leaf_byte, leaf_text}
 use Rattle.tree_nodes.specs.Nodes.{Node, tree_depth}
 use Rattle.hash_tree.proofs.KeyLaws.{all_get}
@@ -122,12 +121,6 @@ way_more m n text body last rest others known r after others_now known_now way i
     }
 
 -- ---- one row more, which the own rows have, or not
-
--- how many versions are known then
-pub known_more : (m : RowMap) (n : Node) (text body last rest : List ℕ) (others : List Row) (known : ℕ) (r : Row) (after : List ℕ) → OnTheWay m n text body last rest others known → rest ≡ row_text m.format r ++ after → known + length r.versions ≤ length body
-known_more m n text body last rest others known r after way begins =
-    let f = row_text m.format in
-    omega (arith, ap length way.body_is, ap length begins, length-append (flat_map f way.rows) rest, length-append (f r) after, news_short m.format m.rows way.rows others known way.news, row_short m.format r)
 
 -- the own rows of a leaf are of the range, and lie in the leaf
 own_lies : (m : RowMap) (leaf : ℕ) (rows : List Row) (r : Row) → AllByRecursion (λ (x : Row). range_at m.bits x.key ≡ m.range) rows → Contains (rows_in_leaf (leaf_in m) leaf rows) r → Contains rows r × LiesIn m leaf r.key
@@ -255,11 +248,37 @@ one_of_key rows r s a p q same =
     λ i. record { key = same i; versions = versions i }
 
 -- a text that does not begin with the text of the row of a key begins with that of no row of the key
-pub front_differs : (b : Bucket) (key own text : List ℕ) (versions : List Version) → AscendByKey b.rows → Contains b.rows (record { key = key; versions = versions }) → own ≡ row_text b.format (record { key = key; versions = versions }) → ((rest : List ℕ) → text ≡ own ++ rest → ⊥) → FrontOwn b key text None
-front_differs b key own text versions a has is off r rest other same begins =
-    let row : Row = record { key = key; versions = versions } in
-    let one : r ≡ row = one_of_key b.rows r row a other has same in
-    off rest (begins ∙ ap (λ (x : Row). row_text b.format x ++ rest) one ∙ ap (λ (t : List ℕ). t ++ rest) (sym is))
+pub front_differs : (b : Bucket) (key text : List ℕ) (first : Row) → AscendByKey b.rows → Contains b.rows first → first.key ≡ key → ((rest : List ℕ) → text ≡ row_text b.format first ++ rest → ⊥) → FrontOwn b key text None
+front_differs b key text first a has is off r rest other same begins =
+    off rest (begins ∙ ap (λ (x : Row). row_text b.format x ++ rest) (one_of_key b.rows r first a other has (same ∙ sym is)))
+
+-- ---- rows of a run
+
+-- the first row of a run is one of the rows
+pub first_there : (rows : List Row) (k : List ℕ) (run : List Row) (is : IsRun rows k run) → Contains rows is.first
+first_there rows k run is =
+    let all : AllByRecursion (Contains rows) run = subst (λ (rs : List Row). AllByRecursion (Contains rs) run) (sym is.rows_are) (run_contained is.front run is.back) in
+    (subst (AllByRecursion (Contains rows)) is.run_is all).0
+
+-- the first rows of a run are a run
+pub run_front : (rows : List Row) (k : List ℕ) (run : List Row) (n : ℕ) → IsRun rows k run → 1 ≤ n → IsRun rows k (take n run)
+run_front rows k run zero is some = absurd (omega (arith, some))
+run_front rows k run (suc n) is some =
+    let first = take (suc n) run in
+    let others = drop (suc n) run in
+    record {
+      front = is.front;
+      first = is.first;
+      more = take n is.more;
+      back = others ++ is.back;
+      rows_are =
+          is.rows_are
+          ∙ ap (λ (x : List Row). is.front ++ x ++ is.back) (sym (take-append-drop (suc n) run))
+          ∙ ap (λ (x : List Row). x ++ is.back) (sym (append_assoc is.front first others))
+          ∙ append_assoc (is.front ++ first) others is.back;
+      run_is = ap (take (suc n)) is.run_is;
+      key = is.key;
+    }
 
 -- ---- at the end, or where no rows spell the text
 

@@ -1,4 +1,4 @@
--- The rows that a leaf's text has and the own rows lack: each lies in the leaf, and no two have one key.
+-- The rows that a leaf's text has and the own rows lack: no two have one key.
 use Rattle.std.proofs.Common.{◌≡◌, inl, inr, ℕ, true, false, List, [], ◌∷◌, ◌++◌, length, arith, refl, sym, ap, subst, ◌∙◌}
 use Rattle.std.specs.Prelude.{nat_eq}
 use Rattle.std.specs.Cmp.Lexicographic.{pointwise, texts_ties}
@@ -13,7 +13,7 @@ use Rattle.hash_tree.specs.Leaves.{key_cmp}
 use Rattle.hash_tree.proofs.KeyLaws.{less_trans}
 use Rattle.snapshot.specs.RowMaps.{RowMap}
 use Rattle.tree_nodes.specs.Nodes.{Node}
-use Rattle.sync_session.specs.Readings.{AreOthers, LiesIn, IsReadTo}
+use Rattle.sync_session.specs.Readings.{AreOthers, IsReadTo}
 
 -- ---- one key after another
 
@@ -66,7 +66,7 @@ last_other own (x ∷ rows) others known r last ascending news = elim news [
 pub read_apart : {m : RowMap} {n : Node} {text last rest : List ℕ} {known : ℕ} (others : List Row) (r : Row) → IsReadTo m n text last rest (others ++ r ∷ []) known → AllByRecursion (λ (x : Row). pointwise nat_eq x.key r.key ≡ false) others
 read_apart {m = m} {known = known} others r read = (last_other m.rows read.way.rows others known r [] read.way.are.ascending read.way.news).before
 
--- ---- in the leaf
+-- ---- what holds of all
 
 -- what holds of all rows holds of those that the own ones lack
 pub others_all : (P : Row → Type 0) (own rows others : List Row) (known : ℕ) → AllByRecursion P rows → AreOthers own rows others known → AllByRecursion P others
@@ -75,12 +75,3 @@ others_all P own (r ∷ rows) others known all news = elim news [
   | inl other ↦ subst (AllByRecursion P) (sym other.1.1) (all.0, others_all P own rows other.1.0 known all.1 other.1.2)
   | inr has ↦ others_all P own rows others has.1.0 all.1 has.1.2
 ]
-
-last_all : (P : Row → Type 0) (rows : List Row) (r : Row) → AllByRecursion P (rows ++ r ∷ []) → P r
-last_all P [] r all = all.0
-last_all P (x ∷ rows) r all = last_all P rows r all.1
-
--- a row that was read lies in the leaf
-pub read_lies : {m : RowMap} {n : Node} {text last rest : List ℕ} {known : ℕ} (others : List Row) (r : Row) → IsReadTo m n text last rest (others ++ r ∷ []) known → LiesIn m n.index r.key
-read_lies {m = m} {n = n} {known = known} others r read =
-    last_all (λ (x : Row). LiesIn m n.index x.key) others r (others_all (λ (x : Row). LiesIn m n.index x.key) m.rows read.way.rows (others ++ r ∷ []) known read.way.here read.way.news)

@@ -69,11 +69,6 @@ abbrev pub FrontRow : RowMap → ℕ → List ℕ → Option (Row × List ℕ) �
 FrontRow m leaf text (Some x) = IsRow m.format x.0 × LiesIn m leaf x.0.key × (text ≡ row_text m.format x.0 ++ x.1)
 FrontRow m leaf text None = (r : Row) (rest : List ℕ) → IsRow m.format r → LiesIn m leaf r.key → text ≡ row_text m.format r ++ rest → ⊥
 
--- the number of versions of the row of a key, and the rest after its text, if a text begins with it
-abbrev pub FrontOwn : Bucket → List ℕ → List ℕ → Option (ℕ × List ℕ) → Type 0
-FrontOwn b key text (Some x) = (r : Row) × Contains b.rows r × (r.key ≡ key) × (length r.versions ≡ x.0) × (text ≡ row_text b.format r ++ x.1)
-FrontOwn b key text None = (r : Row) (rest : List ℕ) → Contains b.rows r → r.key ≡ key → text ≡ row_text b.format r ++ rest → ⊥
-
 -- the local rows with which a text begins, from that of a key on: the number of their versions, the last key, and the
 -- rest
 pub record FrontRun (b : Bucket) (key text : List ℕ) (versions : ℕ) (last after : List ℕ) : Type 0 where
@@ -82,6 +77,11 @@ pub record FrontRun (b : Bucket) (key text : List ℕ) (versions : ℕ) (last af
   pub versions_is : versions ≡ sum_by (λ (r : Row). length r.versions) run
   pub last_is : last ≡ last_key run
   pub text_is : text ≡ flat_map (row_text b.format) run ++ after
+
+-- the local rows with which a text begins, if it begins with the row of a key
+abbrev pub FrontOwn : Bucket → List ℕ → List ℕ → Option (ℕ × List ℕ × List ℕ) → Type 0
+FrontOwn b key text (Some x) = FrontRun b key text x.0 x.1 x.2
+FrontOwn b key text None = (r : Row) (rest : List ℕ) → Contains b.rows r → r.key ≡ key → text ≡ row_text b.format r ++ rest → ⊥
 
 -- ---- reading a leaf's text row by row
 

@@ -1,15 +1,15 @@
 //! The rows of a partner's leaf that the local snapshot lacks.
-ghost use Rattle.std.specs.Prelude.{◌≡◌, ◌<◌, ◌^◌, ⊤, ℕ, List, [], None, length, MatchOption, MatchResult, option_map};
+ghost use Rattle.std.specs.Prelude.{◌≡◌, ◌<◌, ◌^◌, ℕ, List, [], None, length, MatchResult, option_map};
 ghost use Rattle.std.specs.List.{sum_by};
 ghost use Rattle.vclock.specs.Answer.{Answers};
 ghost use Rattle.row_bytes.specs.declared.row.Row.{Row};
 ghost use Rattle.hash_tree.specs.Leaves.{AscendByKey};
 ghost use Rattle.tree_nodes.specs.Nodes.{tree_depth};
-ghost use Rattle.sync_session.specs.Readings.{ReadsNews, IsReadTo, StepsTo, IsReadFault, FrontRow, FrontOwn, FrontRun};
+ghost use Rattle.sync_session.specs.Readings.{ReadsNews, IsReadTo, StepsTo, IsReadFault, FrontRow, FrontOwn};
 
 use crate::text_reader::is_here;
 use hash_tree::SharedLeaf;
-use row_bytes::{Row, key_at, read_row};
+use row_bytes::{Row, key_at, read_row, strip_rows};
 use snapshot::Snapshot;
 use std::alloc::Global;
 use tree_nodes::NodeAt;
@@ -94,12 +94,6 @@ pub(crate) fn next_news<'a>(
             rest = skipped.after;
             continue;
         }
-        if let Some((versions, after)) = front_own(leaf, key, rest) {
-            known += versions;
-            last = key;
-            rest = after;
-            continue;
-        }
         let Some((row, after)) = front_row(alloc, own, node.index, rest)? else {
             return Err(Refusal::NotCanonical);
         };
@@ -159,16 +153,18 @@ struct Run<'a> {
     after: &'a [u8],
 }
 
-/// Returns the run of a leaf's rows from that of a key on, if the bytes begin with the texts of all of it. Most of a
-/// text is skipped in this way, one run at a time.
+/// Returns the rows of a leaf with which the bytes begin, from that of a key on, or `None` if they don't begin with the
+/// row of the key. Most of a text is skipped in this way, one run at a time.
 fn front_run<'a>(leaf: &'a SharedLeaf, key: &[u8], text: &'a [u8]) -> Option<Run<'a>>
-    ensures { MatchOption result ⊤ (λ x. FrontRun leaf.now key.now text.now x.versions x.last.now x.after.now) }
+    requires { AscendByKey leaf.now.rows }
+    ensures { FrontOwn leaf.now key.now text.now (option_map (λ x. (x.versions, x.last.now, x.after.now)) result) }
 {
-    let (rows, texts) = leaf.find_run(key)?;
-    let after = text.strip_prefix(texts)?;
-    let last = rows.last()?;
+    let rows = leaf.find_run(key)?;
+    let (count, after) = strip_rows(text, leaf.format(), rows);
+    let (same, _) = rows.split_at(count);
+    let last = same.last()?;
     Some(Run {
-        versions: version_count(rows),
+        versions: version_count(same),
         last: last.key.as_slice(),
         after,
     })
@@ -180,17 +176,6 @@ fn version_count(rows: &[Row]) -> u64
     ensures { result ≡ sum_by (λ (r : Row). length r.versions) rows.now }
 {
     rows.iter().map(|row| row.versions.len() as u64).sum()
-}
-
-/// Returns the number of versions of the row of a key in a leaf, and the bytes after its text, if the bytes begin with
-/// that text.
-fn front_own<'a>(leaf: &SharedLeaf, key: &[u8], text: &'a [u8]) -> Option<(u64, &'a [u8])>
-    requires { AscendByKey leaf.now.rows }
-    ensures { FrontOwn leaf.now key.now text.now (option_map (λ x. (x.0, x.1.now)) result) }
-{
-    let (versions, own) = leaf.find_row(key)?;
-    let after = text.strip_prefix(own)?;
-    Some((versions.len() as u64, after))
 }
 
 /// Returns the row at the front and the bytes after it, or `None` if the bytes don't begin with a row of this leaf.

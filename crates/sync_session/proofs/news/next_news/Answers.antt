@@ -8,9 +8,9 @@ use Rattle.hash_tree.specs.Leaves.{Bucket, AscendByKey, rows_in_leaf}
 use Rattle.snapshot.specs.RowMaps.{RowMap, leaf_in}
 use Rattle.tree_nodes.specs.Nodes.{Node}
 use Rattle.sync_session.specs.Readings.{IsReadTo, LiesIn}
-use Rattle.sync_session.proofs.NewsLaws.{way_front, way_own, way_other, leaf_ascends, begins_with_key, row_is_text, run_is_text, found_key, read_on, read_known, read_next}
+use Rattle.sync_session.proofs.NewsLaws.{way_front, way_other, leaf_ascends, begins_with_key, row_is_text, run_is_text, found_key, read_on, read_known, read_next}
 use Rattle.sync_session.proofs.news.next_news.Goals as goal
-use Rattle.sync_session.proofs.news.next_news.Goals.{In-Some-front_run, In-Some-front_own}
+use Rattle.sync_session.proofs.news.next_news.Goals.{In-Some-front_run}
 
 pub returns-in_default : goal.returns-in_default
 returns-in_default c =
@@ -52,59 +52,22 @@ overflow_add-known c =
     let w = c.requires.read in
     omega (arith, read_known (run_read (goal.at.overflow_add-known c).In-Some-front_run w.0 w.1 (c.rows.invariant.read w.0 w.1 w.2)))
 
-pub rows-smaller-in-Some-front_run : goal.rows-smaller-in-Some-front_run
-rows-smaller-in-Some-front_run c =
+pub rows-smaller : goal.rows-smaller
+rows-smaller c =
     let skipped = c.in-Some-front_run.skipped in
     run_is_text c.rows-leaf.result.now c.in-Some.key.now c.rows.rest.now skipped.versions skipped.last.now skipped.after.now c.in-Some-front_run.ensures
 
-pub rows-preserved-in-Some-front_run : goal.rows-preserved-in-Some-front_run
-rows-preserved-in-Some-front_run c =
+pub rows-preserved : goal.rows-preserved
+rows-preserved c =
     let skipped = c.in-Some-front_run.skipped in
     let less = run_is_text c.rows-leaf.result.now c.in-Some.key.now c.rows.rest.now skipped.versions skipped.last.now skipped.after.now c.in-Some-front_run.ensures in
     record {
-      read = λ text others read. run_read (goal.at.rows-preserved-in-Some-front_run c).In-Some-front_run text others (c.rows.invariant.read text others read);
+      read = λ text others read. run_read (goal.at.rows-preserved c).In-Some-front_run text others (c.rows.invariant.read text others read);
       shorter = omega (arith, less, c.rows.invariant.shorter);
     }
 
-pub front_own-requires : goal.front_own-requires
-front_own-requires c = subst (λ (b : Bucket). AscendByKey b.rows) (sym c.rows-leaf.ensures) (leaf_ascends c.args.own.now c.node.inside.index c.format-format.ensures.valid)
-
--- the text was read on by an own row
-own_read : (c : In-Some-front_own) (text : List ℕ) (others : List Row) → IsReadTo c.args.own.now c.args.node text c.rows.last.now c.rows.rest.now others c.rows.known
-    → IsReadTo c.args.own.now c.args.node text c.in-Some.key.now c.in-Some-front_own.after.now others (c.rows.known + c.in-Some-front_own.versions)
-own_read c text others read =
-    let m = c.args.own.now in
-    let n = c.args.node in
-    let l = c.rows in
-    let r = c.in-Some-front_own.ensures in
-    let after = c.in-Some-front_own.after.now in
-    let leaf = c.rows-leaf.ensures ∙ ap (leaf_of m) c.node.view_is in
-    let begins = r.4 ∙ ap (λ (b : Bucket). row_text b.format r.0 ++ after) leaf in
-    let has : Contains (rows_in_leaf (leaf_in m) n.index m.rows) r.0 = subst (λ (b : Bucket). Contains b.rows r.0) leaf r.1 in
-    let less : is_before l.last.now c.in-Some.key.now ≡ true = cc (c.if-not-is_lt.false, c.is_lt.ensures, c.cmp.ensures) in
-    let next : is_before l.last.now r.0.key ≡ true = ap (is_before l.last.now) r.2 ∙ less in
-    subst (λ (p : List ℕ × ℕ). IsReadTo m n text p.0 after others (l.known + p.1)) (λ i. (r.2 i, r.3 i))
-    (read_on read r.0.key after others (l.known + length r.0.versions) (way_own m n text read.body l.last.now l.rest.now others l.known r.0 after c.format-format.ensures.valid read.way has begins next))
-
-pub overflow_add-known-in-Some-front_own : goal.overflow_add-known-in-Some-front_own
-overflow_add-known-in-Some-front_own c =
-    let w = c.requires.read in
-    omega (arith, read_known (own_read (goal.at.overflow_add-known-in-Some-front_own c).In-Some-front_own w.0 w.1 (c.rows.invariant.read w.0 w.1 w.2)))
-
-pub rows-smaller : goal.rows-smaller
-rows-smaller c =
-    let r = c.in-Some-front_own.ensures in
-    let format = c.rows-leaf.result.now.format in
-    omega (arith, ap length r.4, length-append (row_text format r.0) c.in-Some-front_own.after.now, row_is_text format r.0)
-
-pub rows-preserved : goal.rows-preserved
-rows-preserved c =
-    let r = c.in-Some-front_own.ensures in
-    let format = c.rows-leaf.result.now.format in
-    record {
-      read = λ text others read. own_read (goal.at.rows-preserved c).In-Some-front_own text others (c.rows.invariant.read text others read);
-      shorter = omega (arith, ap length r.4, length-append (row_text format r.0) c.in-Some-front_own.after.now, c.rows.invariant.shorter);
-    }
+pub front_run-requires : goal.front_run-requires
+front_run-requires c = subst (λ (b : Bucket). AscendByKey b.rows) (sym c.rows-leaf.ensures) (leaf_ascends c.args.own.now c.node.inside.index c.format-format.ensures.valid)
 
 pub returns-in_default-2 : goal.returns-in_default-2
 returns-in_default-2 c =
@@ -131,7 +94,7 @@ returns-in-rows c =
     let leaf = c.rows-leaf.ensures ∙ ap (leaf_of m) c.node.view_is in
     let lies = subst (λ (k : Node). LiesIn m k.index r.key) c.node.view_is front.1 in
     let other = λ (has : Contains (rows_in_leaf (leaf_in m) n.index m.rows) r).
-    c.in_default-front_own.ensures r after (subst (λ (b : Bucket). Contains b.rows r) (sym leaf) has) (sym same) (front.2 ∙ ap (λ (b : Bucket). row_text b.format r ++ after) (sym leaf)) in
+    c.in_default-front_run.ensures r after (subst (λ (b : Bucket). Contains b.rows r) (sym leaf) has) (sym same) (front.2 ∙ ap (λ (b : Bucket). row_text b.format r ++ after) (sym leaf)) in
     let way = way_other m n text read.body l.last.now l.rest.now others l.known r after read.way front.0 lies other front.2 next in (
       subst (λ (k : List ℕ). IsReadTo m n text k after (others ++ r ∷ []) l.known) (sym same) (read_on read r.key after (others ++ r ∷ []) l.known way),
       omega (arith, ap length front.2, length-append (row_text m.format r) after, row_is_text m.format r, l.invariant.shorter),
