@@ -1,7 +1,7 @@
 //! The ring of equal ranges (the paper of 2007, sections 4.2, 4.3 and 6.2): the range and the leaf of each key, and the
 //! nodes that keep each range. Use it to find the replicas of a key.
 //!
-//! - [`hashed_key`]: a key with its MD5 digest.
+//! - [`hashed_key`]: a key with its hashes.
 //! - [`places`]: the range and the leaf of a key, by its MD5 digest.
 //! - [`ring`]: a ring, with its nodes and each range's preference list.
 //!

@@ -1,8 +1,8 @@
 use Rattle.std.proofs.Common.{arith}
 use Rattle.key_ring.proofs.Cuts.{front_is}
-use Rattle.key_ring.proofs.hashed_key.HashedKey.new.Goals as goal
+use Rattle.key_ring.proofs.hashed_key.front_of.Goals as goal
 
-pub invariant_of-result : goal.invariant_of-result
-invariant_of-result c =
+pub returns : goal.returns
+returns c =
     let is = front_is c.args.key.now c.digest-digest.result c.digest-digest.ensures in
     omega arith
