@@ -155,7 +155,7 @@ impl<L: Ledger> LockedRange<L> {
         let receipts = &mut pass.receipts;
         let seat = pass.seat;
         let receipt = state.put_into(alloc, receipts, test, seat, at, key, context, kind, value)?;
-        pass.by_key.note(receipts, key.front());
+        pass.by_key.note(receipts, key.hash());
         book.count(&mut pass.share, &mut pass.seen, state.store().journal(), 1);
         Ok(receipt)
     }
@@ -198,7 +198,7 @@ impl<L: Ledger> LockedRange<L> {
             Accepted::Known => return Ok(Accepted::Known),
             Accepted::Taken(receipt) => receipt,
         };
-        pass.by_key.note(receipts, key.front());
+        pass.by_key.note(receipts, key.hash());
         book.count(&mut pass.share, &mut pass.seen, state.journal(), 1);
         Ok(Accepted::Taken(receipt))
     }
@@ -250,7 +250,7 @@ impl<L: Ledger> LockedRange<L> {
                 missing: None,
             });
         }
-        let held = self.state.store().find(key);
+        let held = self.state.store().find(key.bytes());
         if let Some(number) = find_missing(&pass.receipts, &pass.by_key, key, &held) {
             return Err(Refusal::Behind {
                 seen: pass.seen,

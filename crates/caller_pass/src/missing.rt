@@ -9,7 +9,7 @@ use range_state::Receipt;
 use version_set::Held;
 
 /// Finds the number of the first receipt of a key whose version isn't covered by those that are held for the key, if
-/// any. It looks at the linked receipts whose keys have the front of the key, from the last one back, and at those that
+/// any. It looks at the linked receipts whose keys have the hash of the key, from the last one back, and at those that
 /// aren't linked.
 pub(crate) fn find_missing(
     receipts: &[Receipt],
@@ -22,7 +22,7 @@ pub(crate) fn find_missing(
 {
     let bytes = key.bytes();
     let mut found = first_missing(&receipts[by_key.len()..], bytes, held);
-    let mut next = by_key.last(key.front());
+    let mut next = by_key.last(key.hash());
     while next > 0 {
         let place = next - 1;
         let receipt = &receipts[place];

@@ -1,27 +1,27 @@
 //! The places of a pass's receipts, by key.
 ghost use Rattle.std.specs.Prelude.{◌≡◌, ◌+◌, ◌-◌, ◌<◌, List, Some, length, slice_get, OnOk};
 ghost use Rattle.range_journal.specs.declared.journal.Entry.{Entry};
-ghost use Rattle.caller_pass.specs.Indexes.{IsIndex, found_in, front_at};
+ghost use Rattle.caller_pass.specs.Indexes.{IsIndex, found_in, hash_at};
 
 use key_ring::HashedKey;
 use range_state::Receipt;
 use std::alloc::{AllocError, Global};
 use std::collections::HashMap;
 
-/// An index of a pass's receipts by the fronts of their keys, which are the first 64 bits of the keys' digests. It has
-/// the fronts of the first few receipts, `fronts.len()` of them, and links the first few of these, `earlier.len()` of
-/// them, so that the linked receipts of a front are a chain, from the last one back. A place in a chain is kept plus
-/// one, so that 0 means no receipt.
+/// An index of a pass's receipts by the hashes of their keys (`HashedKey::hash`). It has the hashes of the first few
+/// receipts, `hashes.len()` of them, and links the first few of these, `earlier.len()` of them, so that the linked
+/// receipts of a hash are a chain, from the last one back. A place in a chain is kept plus one, so that 0 means no
+/// receipt.
 ///
 /// An index only helps a read: a receipt that it doesn't link is looked at by each read. So it takes no memory for a
 /// key, and doesn't refuse.
 pub(crate) struct ByKey {
-    /// By the front of a key: the last receipt whose key has that front.
+    /// By the hash of a key: the last receipt whose key has that hash.
     last: HashMap<u64, usize>,
-    /// By place of a receipt: the receipt before it whose key has an equal front.
+    /// By place of a receipt: the receipt before it whose key has an equal hash.
     earlier: Vec<usize>,
-    /// By place of a receipt: the front of its key.
-    fronts: Vec<u64>,
+    /// By place of a receipt: the hash of its key.
+    hashes: Vec<u64>,
 }
 
 impl ByKey {
@@ -32,7 +32,7 @@ impl ByKey {
         ByKey {
             last: HashMap::new(alloc),
             earlier: Vec::new(alloc),
-            fronts: Vec::new(alloc),
+            hashes: Vec::new(alloc),
         }
     }
 
@@ -43,14 +43,14 @@ impl ByKey {
         self.earlier.len()
     }
 
-    /// The place, plus one, of the last receipt whose key has that front, or 0.
-    pub(crate) fn last(&self, front: u64) -> usize
-        ensures { result ≡ found_in self.now front }
+    /// The place, plus one, of the last receipt whose key has that hash, or 0.
+    pub(crate) fn last(&self, hash: u64) -> usize
+        ensures { result ≡ found_in self.now hash }
     {
-        self.last.get(&front).copied().unwrap_or(0)
+        self.last.get(&hash).copied().unwrap_or(0)
     }
 
-    /// The place, plus one, of the receipt before a receipt whose key has an equal front, or 0.
+    /// The place, plus one, of the receipt before a receipt whose key has an equal hash, or 0.
     pub(crate) fn earlier(&self, place: usize) -> usize
         requires { place < length self.now.earlier.items }
         ensures { slice_get self.now.earlier.items place ≡ Some result }
@@ -58,19 +58,19 @@ impl ByKey {
         self.earlier[place]
     }
 
-    /// Keeps the front of the last receipt's key, if it has those of the receipts before it, and has room for one more.
-    pub(crate) fn note(&mut self, receipts: &[Receipt], front: u64)
+    /// Keeps the hash of the last receipt's key, if it has those of the receipts before it, and has room for one more.
+    pub(crate) fn note(&mut self, receipts: &[Receipt], hash: u64)
         requires index { IsIndex receipts.now self.old }
-        requires last { front_at receipts.now (length receipts.now - 1) ≡ Some front }
+        requires last { hash_at receipts.now (length receipts.now - 1) ≡ Some hash }
         ensures { IsIndex receipts.now self.new }
     {
-        if self.fronts.len() + 1 == receipts.len() && self.fronts.reserve(1).is_ok() {
-            self.fronts.push_reserved(front);
+        if self.hashes.len() + 1 == receipts.len() && self.hashes.reserve(1).is_ok() {
+            self.hashes.push_reserved(hash);
         }
     }
 
     /// Links the receipts that aren't linked yet, or the first few of them if memory runs out. It hashes the key of a
-    /// receipt whose front it doesn't have.
+    /// receipt whose hash it doesn't have.
     pub(crate) fn index(&mut self, receipts: &[Receipt])
         requires { IsIndex receipts.now self.old }
         ensures { IsIndex receipts.now self.new }
@@ -92,23 +92,23 @@ impl ByKey {
         self.know_next(receipts)?;
         self.earlier.reserve(1)?;
         let place = self.earlier.len();
-        let earlier = self.last.insert(self.fronts[place], place + 1)?;
+        let earlier = self.last.insert(self.hashes[place], place + 1)?;
         self.earlier.push_reserved(earlier.unwrap_or(0));
         Ok(())
     }
 
-    /// Has the front of the first receipt that isn't linked yet, by hashing its key if need be.
+    /// Has the hash of the first receipt that isn't linked yet, by hashing its key if need be.
     fn know_next(&mut self, receipts: &[Receipt]) -> Result<(), AllocError>
         requires index { IsIndex receipts.now self.old }
         requires more { length self.old.earlier.items < length receipts.now }
         ensures index { IsIndex receipts.now self.new }
-        ensures known { OnOk result (length self.new.earlier.items < length self.new.fronts.items) }
+        ensures known { OnOk result (length self.new.earlier.items < length self.new.hashes.items) }
         ensures same { self.new.earlier ≡ self.old.earlier }
     {
-        let place = self.fronts.len();
+        let place = self.hashes.len();
         if place == self.earlier.len() {
-            let front = HashedKey::new(receipts[place].key.as_slice()).front();
-            self.fronts.push(front)?;
+            let hash = HashedKey::new(receipts[place].key.as_slice()).hash();
+            self.hashes.push(hash)?;
         }
         Ok(())
     }
@@ -120,7 +120,7 @@ impl Drop for ByKey {
         let ByKey {
             last: _last,
             earlier: _earlier,
-            fronts: _fronts,
+            hashes: _hashes,
         } = self;
     }
 }

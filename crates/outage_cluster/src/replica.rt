@@ -14,7 +14,6 @@ ghost use Rattle.outage_cluster.specs.Acts.{takes, after_copy, clean_at, gets_hi
 ghost use Rattle.outage_cluster.specs.State.{in_replica, replica_of};
 ghost use Rattle.outage_cluster.specs.Syncs.{IsReported, session_fault, synced_with};
 
-use key_ring::HashedKey;
 use range_journal::Source;
 use range_state::{Accepted, RangeConfig, RangeState, Receipt, Synced};
 use snapshot::Snapshot;
@@ -79,7 +78,7 @@ impl Replica {
     pub(crate) fn versions(&self, key: &[u8]) -> &[Version]
         ensures { result.now ≡ held self.now.range.entries key.now }
     {
-        self.find(&HashedKey::new(key)).as_slice()
+        self.find(key).as_slice()
     }
 
     /// Copies the versions that are held for a key, each of which has a text.
@@ -88,11 +87,11 @@ impl Replica {
         ensures fit { IfOk result (AllByRecursion (λ v.
             value_fault self.now.range.config.format v.kind v.value ≡ None)) }
     {
-        self.find(&HashedKey::new(key)).to_set(alloc)
+        self.find(key).to_set(alloc)
     }
 
     /// Returns the versions that are held for a key, each of which has a text.
-    fn find(&self, key: &HashedKey) -> Held<'_>
+    fn find(&self, key: &[u8]) -> Held<'_>
         ensures held { result ≡ held self.now.range.entries key.now }
         ensures fit { AllByRecursion (λ v.
             value_fault self.now.range.config.format v.kind v.value ≡ None)

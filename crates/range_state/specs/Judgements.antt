@@ -9,15 +9,9 @@ use Rattle.row_bytes.specs.declared.row.Row.{Row}
 use Rattle.snapshot.specs.RowMaps.{RowMap}
 use Rattle.tree_nodes.specs.Nodes.{Node}
 use Rattle.sync_session.specs.Walks.{AreSpelled}
-use Rattle.range_store.specs.Config.{Config}
 use Rattle.range_store.specs.Store.{Store}
 use Rattle.range_store.specs.Offers.{offers_of, crowded_in}
 use Rattle.range_state.specs.Sessions.{taken_in, leaf_fault}
-
--- rows are of a range, in its format
-pub record IsOfRange (c : Config) (m : RowMap) : Type 0 where
-  pub format : m.format ≡ c.format
-  pub bits : m.bits ≡ c.bits
 
 -- none of these rows has the key of a row
 abbrev pub HasOtherKeys : Row → List Row → Type 0

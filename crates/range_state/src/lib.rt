@@ -30,7 +30,7 @@ pub use event::{
     AcceptEvent, AnswerCounted, AnswerEvent, AnswerTaken, Event, InstallEvent, OpenEvent, PutEvent,
     Reply,
 };
-pub use range_store::{Accepted, ContextTest, LeafRows, Loaded, RangeConfig, Receipt};
+pub use range_store::{Accepted, ContextTest, LeafRows, Loaded, RangeConfig, Receipt, Seed};
 pub use record::Record;
 pub use state::RangeState;
 pub use state::counts::RangeCounts;

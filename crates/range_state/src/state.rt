@@ -11,7 +11,7 @@ ghost use Rattle.range_state.specs.State.{IsRight, fresh, put, put_by, accept};
 
 use crate::record::Record;
 use range_journal::{Journal, Source};
-use range_store::{Accepted, ContextTest, RangeConfig, RangeStore, Receipt};
+use range_store::{Accepted, ContextTest, RangeConfig, RangeStore, Receipt, Seed};
 use std::alloc::Global;
 use std::marker::Model;
 use vclock::{Bytes, Clock, Refusal};
@@ -61,8 +61,15 @@ impl RangeState {
     pub fn new(alloc: Global, config: RangeConfig) -> Result<RangeState, Refusal>
         ensures { Answers result None (λ state. state ≡ fresh config) }
     {
+        RangeState::seeded(alloc, config, Seed::default())
+    }
+
+    /// Makes a range as `new` does, whose store is `RangeStore::seeded`. Refused: NoMemory.
+    pub fn seeded(alloc: Global, config: RangeConfig, seed: Seed) -> Result<RangeState, Refusal>
+        ensures { Answers result None (λ state. state ≡ fresh config) }
+    {
         Ok(RangeState {
-            store: RangeStore::new(alloc, config)?,
+            store: RangeStore::seeded(alloc, config, seed)?,
             records: Vec::new(alloc),
         })
     }

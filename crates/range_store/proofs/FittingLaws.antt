@@ -12,11 +12,13 @@ use Rattle.vclock.specs.declared.refusal.Refusal.TheVariants.{StaleContext}
 use Rattle.version_set.specs.Version.{covered, offer_fault}
 use Rattle.version_set.specs.declared.kind.Kind.{Kind}
 use Rattle.version_set.specs.declared.version.Version.{Version}
+use Rattle.vclock.specs.declared.format.Format.TheVariants.{Two}
+use Rattle.key_ring.specs.Places.{leaf_at}
 use Rattle.range_journal.specs.declared.journal.Entry.{Entry}
 use Rattle.range_journal.specs.declared.journal.Source.{Source}
 use Rattle.range_journal.specs.declared.journal.Source.TheVariants.{Client}
 use Rattle.range_journal.specs.Journal.{held}
-use Rattle.range_store.specs.Store.{Store, leaf_in, place_fault, stale_fault, put_version, put_entry, entry_of, knows, admit, accept}
+use Rattle.range_store.specs.Store.{Store, place_fault, stale_fault, put_version, put_entry, entry_of, knows, admit, accept}
 use Rattle.range_store.specs.declared.context_test.ContextTest.{ContextTest}
 use Rattle.range_store.specs.declared.context_test.ContextTest.TheVariants.{Fresh, Read}
 use Rattle.range_store.specs.ContextTests.{unread_fault, fails, context_fault, put_by}
@@ -120,12 +122,12 @@ known_sent s key v here covers =
     (rw here (known_fits s key v known), known)
 
 -- a version that has its place and is news
-pub fitting_sent : (s : Store) (leaf : ℕ) (key : List ℕ) (v : Version) → leaf ≡ leaf_in s.config key → place_fault s.config key v.kind v.value ≡ None → covered v (held s.entries key) ≡ false → offer_fault v (held s.entries key) ≡ None
+pub fitting_sent : (s : Store) (leaf : ℕ) (key : List ℕ) (v : Version) → leaf ≡ leaf_at Two s.config.bits key → place_fault s.config key v.kind v.value ≡ None → covered v (held s.entries key) ≡ false → offer_fault v (held s.entries key) ≡ None
     → (sent_fault s key v ≡ None) × IsFitting s leaf key v
 fitting_sent s leaf key v at here uncovered fits = (rw here fits, record { leaf_is = at; here = here; news = sym (knows_held s key v) ∙ uncovered; fits = fits })
 
 -- the version of a put that has its place, and whose context passes its test
-pub fitting_put : (test : ContextTest) (s : Store) (leaf at : ℕ) (key : List ℕ) (context : Pairs) (kind : Kind) (value : List ℕ) (v : Version) → leaf ≡ leaf_in s.config key → place_fault s.config key kind value ≡ None → raise_fault context at ≡ None → v ≡ put_version at context kind value
+pub fitting_put : (test : ContextTest) (s : Store) (leaf at : ℕ) (key : List ℕ) (context : Pairs) (kind : Kind) (value : List ℕ) (v : Version) → leaf ≡ leaf_at Two s.config.bits key → place_fault s.config key kind value ≡ None → raise_fault context at ≡ None → v ≡ put_version at context kind value
     → IsClock v.clock → context_fault test (held s.entries key) at context ≡ None → offer_fault v (held s.entries key) ≡ None
     → (made_fault test s at key context kind value ≡ None) × (IsFitting s leaf key v × (v ≡ put_version at context kind value))
 fitting_put test s leaf at key context kind value v here place raise is clock passes fits =

@@ -15,3 +15,6 @@ pub mod LoadedLaws
 pub mod SpreadLaws
 pub mod PutLaws
 pub mod CounterLaws
+pub mod TableRowLaws
+pub mod RenewedTableLaws
+pub mod TableBatchLaws

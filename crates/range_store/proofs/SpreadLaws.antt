@@ -87,7 +87,7 @@ rows_placed c format (r ∷ rows) older each range = (row_placed c format r olde
 pub row_here : (c : Config) (format : Format) (r : Row) → newer_fault c.format format ≡ None → IsRow format r → range_at c.bits r.key ≡ c.range → AllByRecursion (λ (v : Version). place_fault c r.key v.kind v.value ≡ None) r.versions
 row_here c format r older is range = All-weaker (λ v. IsOfferFor c (leaf_in c r.key) r.key v) (λ (v : Version). place_fault c r.key v.kind v.value ≡ None) r.versions (λ v x. x.here) (row_placed c format r older is range)
 
-spread_offers : (s : Store) (seat : ℕ) (rows : List Row) (sp : Spread) → IsSpreadable s seat rows sp → AllByRecursion (λ o. IsOfferFor s.config (leaf_in s.config o.0) o.0 o.1) (offers_of rows)
+pub spread_offers : (s : Store) (seat : ℕ) (rows : List Row) (sp : Spread) → IsSpreadable s seat rows sp → AllByRecursion (λ o. IsOfferFor s.config (leaf_in s.config o.0) o.0 o.1) (offers_of rows)
 spread_offers s seat rows sp is = offers_all (λ key v. IsOfferFor s.config (leaf_in s.config key) key v) rows (rows_placed s.config is.format rows is.older is.rows_are.each (rows_here s.config rows is.here))
 
 -- ---- one version more
@@ -103,7 +103,7 @@ spread_start s seat sp tree none known = record {
 }
 
 -- the rows with the versions so far are of the range
-spread_map : (s : Store) (seat : ℕ) (xs : Offers) (sp : Spread) → IsSpread s seat xs sp → sp.tree.map ≡ record (rows_now s) { rows = sp.tree.map.rows }
+pub spread_map : (s : Store) (seat : ℕ) (xs : Offers) (sp : Spread) → IsSpread s seat xs sp → sp.tree.map ≡ record (rows_now s) { rows = sp.tree.map.rows }
 spread_map s seat xs sp is =
     let map : sp.tree.map ≡ rows_now (accepted_in s seat Copy xs) = ap (λ (t : RangeTree). t.map) is.tree in
     let config = config_stays s seat Copy xs in
@@ -127,7 +127,7 @@ spread_place s seat xs sp key kind value is placed =
     subst (λ (m : RowMap). HasPlace m key kind value) (sym (spread_map s seat xs sp is)) here
 
 -- the versions that a key has with those so far
-spread_set : (s : Store) (seat : ℕ) (xs : Offers) (sp : Spread) (key : List ℕ) → IsSpread s seat xs sp → versions_in key sp.tree.map.rows ≡ held (accepted_in s seat Copy xs).entries key
+pub spread_set : (s : Store) (seat : ℕ) (xs : Offers) (sp : Spread) (key : List ℕ) → IsSpread s seat xs sp → versions_in key sp.tree.map.rows ≡ held (accepted_in s seat Copy xs).entries key
 spread_set s seat xs sp key is = ap (λ (t : RangeTree). versions_in key t.map.rows) is.tree ∙ versions_in-rows_of (accepted_in s seat Copy xs).entries key
 
 -- whether one of the versions so far, or the next one, would be too many

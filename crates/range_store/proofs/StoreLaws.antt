@@ -25,7 +25,7 @@ use Rattle.range_journal.specs.declared.journal.Entry.{Entry}
 use Rattle.range_journal.specs.Log.{Log}
 use Rattle.range_journal.specs.Journal.{accepted, held, versions_of, NeverCrowded}
 use Rattle.range_journal.proofs.JournalLaws.{AreNews-push, covered-held, held-push, Reserved}
-use Rattle.vclock.specs.Outcome.{is_given}
+use Rattle.vclock.specs.Outcome.{gives, is_given}
 use Rattle.row_bytes.specs.Rows.{IsRow}
 use Rattle.row_bytes.proofs.LimitLaws.{no_fault, no_fault_else}
 use Rattle.row_bytes.specs.declared.row.Row.{Row}
@@ -140,6 +140,9 @@ room_left s log new entries limit h =
 -- an entry that fits is admitted if the journal has room
 pub admit_given : (s : Store) (x : Entry) → full_fault s ≡ None → IsTrue (is_given (admit s x))
 admit_given s x room = rw room refl
+
+pub admit_is : (s : Store) (x : Entry) → full_fault s ≡ None → admit s x ≡ gives x (journaled s x)
+admit_is s x room = rw room refl
 
 -- ---- after an entry
 

@@ -3,17 +3,20 @@ use Rattle.std.specs.Prelude.{◌≡◌, ℕ, false, List, Option, None}
 use Rattle.vclock.specs.Answer.{first_fault}
 use Rattle.vclock.specs.Clock.{Pairs}
 use Rattle.vclock.specs.declared.refusal.Refusal.{Refusal}
+use Rattle.vclock.specs.declared.format.Format.TheVariants.{Two}
 use Rattle.version_set.specs.Version.{offer_fault}
 use Rattle.version_set.specs.declared.kind.Kind.{Kind}
 use Rattle.version_set.specs.declared.version.Version.{Version}
+use Rattle.key_ring.specs.Places.{leaf_at}
 use Rattle.range_journal.specs.Journal.{held}
 use Rattle.range_store.specs.ContextTests.{context_fault}
-use Rattle.range_store.specs.Store.{Store, leaf_in, place_fault, ask_fault, put_version, knows}
+use Rattle.range_store.specs.Store.{Store, place_fault, ask_fault, put_version, knows}
 use Rattle.range_store.specs.declared.context_test.ContextTest.{ContextTest}
 
--- a version that has its place in that leaf of the range, is not known, and is not one too many for its key
+-- a version whose key has that leaf in format 2 and has its place in the range, is not known, and is not one too many
+-- for its key
 pub record IsFitting (s : Store) (leaf : ℕ) (key : List ℕ) (v : Version) : Type 0 where
-  pub leaf_is : leaf ≡ leaf_in s.config key
+  pub leaf_is : leaf ≡ leaf_at Two s.config.bits key
   pub here : place_fault s.config key v.kind v.value ≡ None
   pub news : knows s key v ≡ false
   pub fits : offer_fault v (held s.entries key) ≡ None

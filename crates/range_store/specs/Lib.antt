@@ -1,6 +1,7 @@
 pub mod Config
 pub mod Rows
 pub mod Store
+pub mod TableRows
 pub mod ContextTests
 pub mod Fitting
 pub mod Offers

@@ -42,6 +42,7 @@ pub use config::RangeConfig;
 pub use context_test::ContextTest;
 pub use leaf_rows::LeafRows;
 pub use receipt::{Accepted, Receipt};
+pub use row_table::Seed;
 pub use store::RangeStore;
 pub use store::batch::Batch;
 pub use store::loading::Loaded;

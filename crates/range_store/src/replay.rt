@@ -6,7 +6,6 @@ ghost use Rattle.range_store.specs.Store.{leaf_in};
 ghost use Rattle.range_store.specs.Replays.{IsReplay, replayed_tree};
 
 use crate::config::RangeConfig;
-use hash_tree::Spot;
 use key_ring::place;
 use range_journal::Entry;
 use range_tree::Tree;
@@ -56,8 +55,7 @@ impl<'a> Rebuild<'a> {
         let entry = &self.entries[self.front as usize];
         let version = entry.version.try_clone()?;
         let leaf = self.leaf_of(entry.key.as_slice());
-        self.tree
-            .offer(alloc, leaf, Spot::default(), &entry.key, version)?;
+        self.tree.offer(alloc, leaf, &entry.key, version)?;
         self.front += 1;
         Ok(())
     }

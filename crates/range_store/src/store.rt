@@ -1,26 +1,30 @@
 //! The store of a range.
-ghost use Rattle.std.specs.Prelude.{◌≡◌, ◌<◌, ◌≤◌, ◌^◌, ⊤, [], false, if◌then◌else◌, nat_lt, None, Some, unwrap_or, option_map, replicate, MatchOption, true, IsTrue, IfOk, IfErr};
+ghost use Rattle.std.specs.Prelude.{◌≡◌, ◌<◌, ◌≤◌, ◌^◌, ⊤, [], false, if◌then◌else◌, nat_lt, None, Some, unwrap_or, option_map, replicate, MatchOption, true, IsTrue, IfOk, IfErr, IfSome};
 ghost use Rattle.std.specs.List.{list_any, AllByRecursion};
 ghost use Rattle.std.specs.Vec.{vec_len, vec_capacity};
 ghost use Rattle.vclock.specs.Answer.{Answers, AnswersAtOnce, AnswersOrNoMemory};
 ghost use Rattle.vclock.specs.Outcome.{Does, DoesOrNoMemory};
 ghost use Rattle.vclock.specs.Clock.{at_most, counter, raised};
+ghost use Rattle.vclock.specs.declared.format.Format.TheVariants as formats;
 ghost use Rattle.version_set.specs.Kind.{value_fault};
 ghost use Rattle.version_set.specs.Version.{covered, offer_fault};
+ghost use Rattle.key_ring.specs.Places.{leaf_at, range_at};
 ghost use Rattle.range_journal.specs.Journal.{held};
 ghost use Rattle.range_journal.specs.declared.journal.Source.{Source};
 ghost use Rattle.range_store.specs.Store.{is_sent, IsSound, fresh, leaf_in, place_fault, ask_fault, full_fault, entry_of, put_version, knows, admit, accept, tree_in};
 ghost use Rattle.range_store.specs.ContextTests.{fails, context_fault, put_by};
 ghost use Rattle.range_store.specs.Fitting.{IsFitting, made_fault, sent_fault};
 ghost use Rattle.range_store.specs.Receipts.{with_put};
+ghost use Rattle.range_store.specs.TableRows.{IsHome};
 
 use crate::config::RangeConfig;
 use crate::context_test::ContextTest;
 use crate::receipt::{Accepted, Receipt};
-use hash_tree::Spot;
+use crate::store::table_rows::{narrow_leaf, prepare_row};
 use key_ring::HashedKey;
 use range_journal::{Journal, Source};
 use range_tree::Tree;
+use row_table::{RowTable, Seed};
 use std::alloc::Global;
 use std::marker::Model;
 use vclock::{Bytes, Clock, ClockOrder, Format, Refusal, check_key};
@@ -32,11 +36,12 @@ pub mod loading;
 mod migration;
 pub mod receipts;
 mod renewal;
+mod table_rows;
 mod tree;
 
 /// The versions of one replica of a range: the journal of those that it accepted; its rows, which are exactly the maximal
-/// versions of the journal, key by key, in the leaves of the range's tree; and the digests of the tree's clean nodes,
-/// each that of the node's text for the rows now.
+/// versions of the journal, key by key, in the leaves of the range's tree; the digests of the tree's clean nodes, each
+/// that of the node's text for the rows now; and a table, which finds what is held for a key without a search.
 ///
 /// ```
 /// let context = clock(alloc, context)?;
@@ -57,11 +62,13 @@ pub struct RangeStore {
     config: RangeConfig,
     journal: Journal,
     tree: Tree,
+    table: RowTable,
 }
 
 impl Model for RangeStore {
     ghost use Rattle.std.specs.Prelude.{◌≡◌};
     ghost use Rattle.range_store.specs.Store.{Store, IsSound, rows_now};
+    ghost use Rattle.range_store.specs.TableRows.{IsTableOf};
 
     ghost Value = { Store };
 
@@ -69,14 +76,8 @@ impl Model for RangeStore {
 
     ghost invariant = { λ r. IsSound (record { config = r.config; entries = r.journal.entries; marks = r.tree.marks })
         × (r.tree.map ≡ rows_now (record { config = r.config; entries = r.journal.entries; marks = r.tree.marks }))
-        × (r.journal.limit ≡ r.config.limit) };
-}
-
-/// The leaf of a key, and the place in it at which its row was found, or at which one would be inserted.
-#[derive(Clone, Copy)]
-struct RowHome {
-    leaf: u16,
-    near: Spot,
+        × (r.journal.limit ≡ r.config.limit)
+        × IsTableOf r.config.bits r.config.range r.journal.entries r.table.rows };
 }
 
 impl RangeStore {
@@ -84,10 +85,19 @@ impl RangeStore {
     pub fn new(alloc: Global, config: RangeConfig) -> Result<RangeStore, Refusal>
         ensures { Answers result None (λ store. store ≡ fresh config) }
     {
+        RangeStore::seeded(alloc, config, Seed::default())
+    }
+
+    /// Makes a range as `new` does, which hashes keys with a seed to find what is held for them. A seed that nobody can
+    /// guess keeps clients from choosing keys with equal hashes, which would be slow to find. Refused: NoMemory.
+    pub fn seeded(alloc: Global, config: RangeConfig, seed: Seed) -> Result<RangeStore, Refusal>
+        ensures { Answers result None (λ store. store ≡ fresh config) }
+    {
         Ok(RangeStore {
             config,
             journal: Journal::new(alloc, config.limit()),
             tree: Tree::empty(alloc, config.format(), config.bits(), config.range())?,
+            table: RowTable::new(alloc, seed),
         })
     }
 
@@ -122,7 +132,7 @@ impl RangeStore {
         ensures held { result.now ≡ held self.now.entries key.now }
         ensures fit { AllByRecursion (λ v. value_fault self.now.config.format v.kind v.value ≡ None) result.now }
     {
-        self.find(&HashedKey::new(key)).as_slice()
+        self.find(key).as_slice()
     }
 
     /// Copies the versions that are held for a key: an empty set if the key isn't held. Refused: NoMemory.
@@ -130,17 +140,16 @@ impl RangeStore {
         ensures held { Answers result None (λ set. set ≡ held self.now.entries key.now) }
         ensures fit { IfOk result (AllByRecursion (λ v. value_fault self.now.config.format v.kind v.value ≡ None)) }
     {
-        self.find(&HashedKey::new(key)).to_set(alloc)
+        self.find(key).to_set(alloc)
     }
 
-    /// Returns the versions that are held for a key that was hashed before. Doesn't allocate or hash.
-    pub fn find(&self, key: &HashedKey) -> Held<'_>
+    /// Returns the versions that are held for a key: by one look into the table, without MD5. Doesn't allocate.
+    pub fn find(&self, key: &[u8]) -> Held<'_>
         ensures held { result ≡ held self.now.entries key.now }
         ensures fit { AllByRecursion (λ v. value_fault self.now.config.format v.kind v.value ≡ None)
             (held self.now.entries key.now) }
     {
-        let (held, _) = self.search(self.leaf_of(key), key);
-        held
+        self.table.held(key)
     }
 
     /// Accepts a version that another node sent, as a copy or as a hint. A version that is equal to or below one
@@ -209,7 +218,8 @@ impl RangeStore {
         )
     }
 
-    /// Makes the version of a put, and finds the home of its key. Refused as a put that has room in the journal is.
+    /// Makes the version of a put, and finds the leaf of its key in format 2. Refused as a put that has room in the
+    /// journal is.
     fn make_put(
         &self,
         alloc: Global,
@@ -219,90 +229,94 @@ impl RangeStore {
         context: &Clock,
         kind: Kind,
         value: Bytes,
-    ) -> Result<(RowHome, Version), Refusal>
+    ) -> Result<(u16, Version), Refusal>
         requires { 1 ≤ at }
         ensures made { AnswersOrNoMemory result (made_fault test self.now at key.now context.now kind value)
-            (λ made. IsFitting self.now made.0.leaf key.now made.1 × (made.1 ≡ put_version at context.now kind value)) }
+            (λ made. IsFitting self.now made.0 key.now made.1 × (made.1 ≡ put_version at context.now kind value)) }
         ensures early { IfErr result (λ e. e ≡ Refusal.NoMemory
             → ask_fault self.now.config at key.now context.now kind value ≡ None) }
     {
-        let leaf = self.home(key, kind, value.as_slice())?;
+        let (known, held) = self.look_up(key);
+        let leaf = self.home(known, key, kind, value.as_slice())?;
         let clock = context.raise(alloc, at)?;
         // Called for its clause alone: the pairs are those of a clock.
         let _valid = clock.pairs();
-        let (held, near) = self.search(leaf, key);
         check_context(alloc, test, &held, at, context, &clock)?;
         let version = Version { clock, kind, value };
         if held.crowds(&version) {
             return Err(Refusal::Crowded);
         }
-        Ok((RowHome { leaf, near }, version))
+        Ok((leaf, version))
     }
 
-    /// Returns the home of a version that another node sent, or `None` if the version is known.
-    fn home_of_news(&self, key: &HashedKey, version: &Version) -> Result<Option<RowHome>, Refusal>
+    /// Returns the leaf in format 2 of the key of a version that another node sent, or `None` if the version is known.
+    fn home_of_news(&self, key: &HashedKey, version: &Version) -> Result<Option<u16>, Refusal>
         ensures { AnswersAtOnce result (sent_fault self.now key.now version.now)
             (λ home. MatchOption home (knows self.now key.now version.now ≡ true)
-            (λ h. IsFitting self.now h.leaf key.now version.now)) }
+            (λ leaf. IsFitting self.now leaf key.now version.now)) }
     {
-        let leaf = self.home(key, version.kind, version.value.as_slice())?;
-        let (held, near) = self.search(leaf, key);
+        let (known, held) = self.look_up(key);
+        let leaf = self.home(known, key, version.kind, version.value.as_slice())?;
         if held.covers(version) {
             return Ok(None);
         }
         if held.crowds(version) {
             return Err(Refusal::Crowded);
         }
-        Ok(Some(RowHome { leaf, near }))
+        Ok(Some(leaf))
     }
 
-    /// Returns the leaf of a key.
-    fn leaf_of(&self, key: &HashedKey) -> u16
-        ensures { result ≡ leaf_in self.now.config key.now }
+    /// Returns the leaf of a key in format 2, if the key has a row, and the versions that are held for it.
+    fn look_up(&self, key: &HashedKey) -> (Option<u16>, Held<'_>)
+        ensures leaf { IfSome result.0 (λ leaf. IsHome self.now.config.bits self.now.config.range key.now leaf) }
+        ensures held { result.1 ≡ held self.now.entries key.now }
     {
-        key.place(self.config.format(), self.config.bits()).leaf
+        match self.table.row(key.bytes()) {
+            Some(row) => (Some(row.leaf), Held::new(Some(&row.set))),
+            None => (None, Held::new(None)),
+        }
     }
 
-    /// Returns the leaf of a key, if a version of that kind and value can be in this range.
-    fn home(&self, key: &HashedKey, kind: Kind, value: &[u8]) -> Result<u16, Refusal>
+    /// Returns the leaf of a key in format 2, if a version of that kind and value can be in this range. `known` is the
+    /// leaf, if the key has a row: then the key is of this range.
+    fn home(
+        &self,
+        known: Option<u16>,
+        key: &HashedKey,
+        kind: Kind,
+        value: &[u8],
+    ) -> Result<u16, Refusal>
+        requires { IfSome known (λ leaf. IsHome self.now.config.bits self.now.config.range key.now leaf) }
         ensures { AnswersAtOnce result (place_fault self.now.config key.now kind value.now)
-            (λ leaf. leaf ≡ leaf_in self.now.config key.now) }
+            (λ leaf. leaf ≡ leaf_at formats.Two self.now.config.bits key.now) }
     {
         check_key(key.bytes())?;
         kind.check_value(self.config.format(), value)?;
-        let at = key.place(self.config.format(), self.config.bits());
+        if let Some(leaf) = known {
+            return Ok(leaf);
+        }
+        let at = key.place(Format::Two, self.config.bits());
         if at.range != self.config.range() {
             return Err(Refusal::OtherRange);
         }
         Ok(at.leaf)
     }
 
-    /// Returns the versions that are held for a key of that leaf, and the place of its row, or the one at which it would be
-    /// inserted.
-    fn search(&self, leaf: u16, key: &HashedKey) -> (Held<'_>, Spot)
-        requires { leaf ≡ leaf_in self.now.config key.now }
-        ensures held { result.0 ≡ held self.now.entries key.now }
-        ensures fit { AllByRecursion (λ v. value_fault self.now.config.format v.kind v.value ≡ None)
-            (held self.now.entries key.now) }
-    {
-        self.tree.search(leaf, key.bytes())
-    }
-
-    /// Journals a version that isn't known, whose key is of that leaf, and, if `keep` is true, appends a copy of the
-    /// receipt to a list. Row, entry and receipts share the key. Tests every cause before it allocates, and allocates
-    /// before it changes anything.
+    /// Journals a version that isn't known, whose key has that leaf in format 2, and, if `keep` is true, appends a copy
+    /// of the receipt to a list. Rows, entry and receipts share the key. Tests every cause before it allocates, and
+    /// allocates before it changes anything.
     fn admit(
         &mut self,
         alloc: Global,
         list: &mut Vec<Receipt>,
         keep: bool,
-        home: RowHome,
+        leaf: u16,
         seat: u16,
         source: Source,
         key: &[u8],
         version: Version,
     ) -> Result<Receipt, Refusal>
-        requires { IsFitting self.old home.leaf key.now version }
+        requires { IsFitting self.old leaf key.now version }
         ensures admits { Does result self.old self.new
             (admit self.old (entry_of self.old seat source key.now version)) }
         ensures list { list.new.items ≡ (if keep then with_put list.old.items result else list.old.items) }
@@ -320,9 +334,11 @@ impl RangeStore {
         };
         let copy = copy_for(list, keep, &receipt)?;
         let row_version = version.try_clone()?;
-        self.tree
-            .offer(alloc, home.leaf, home.near, &key, row_version)?;
+        let (place, row) = prepare_row(alloc, &mut self.table, leaf, &key, &version)?;
+        let tree_leaf = narrow_leaf(&self.config, leaf);
+        self.tree.offer(alloc, tree_leaf, &key, row_version)?;
         self.journal.append_reserved(seat, source, key, version);
+        self.table.put_at(place, row);
         if let Some(copy) = copy {
             list.push_reserved(copy);
         }
@@ -409,6 +425,7 @@ impl Drop for RangeStore {
             config: _config,
             journal: _journal,
             tree: _tree,
+            table: _table,
         } = self;
     }
 }

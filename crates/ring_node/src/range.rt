@@ -136,7 +136,7 @@ impl<L: Ledger> SharedRange<L> {
     {
         let node = self.node;
         let test = ContextTest::Fresh;
-        let key = HashedKey::new(key);
+        let key = HashedKey::placed(key);
         let mut range = self.range.lock(rt);
         // Called for its clause `valid` alone: the range is right.
         let _valid = range.store();
@@ -170,7 +170,7 @@ impl<L: Ledger> SharedRange<L> {
     {
         let node = self.node;
         let test = ContextTest::Read;
-        let key = HashedKey::new(key);
+        let key = HashedKey::placed(key);
         let mut range = self.range.lock(rt);
         // Called for its clause `valid` alone: the range is right.
         let _valid = range.store();
@@ -199,7 +199,7 @@ impl<L: Ledger> SharedRange<L> {
         ensures moment { ChangedAtSomeMoment (IsLocked L.parts) (λ before after.
             Does result (before, pass.old) (after, pass.new) (accept_in before pass.old source key.now version)) }
     {
-        let key = HashedKey::new(key);
+        let key = HashedKey::placed(key);
         let mut range = self.range.lock(rt);
         // Called for its clause `valid` alone: the range is right.
         let _valid = range.store();
@@ -242,8 +242,7 @@ impl<L: Ledger> SharedRange<L> {
         ensures moment { FoundAtSomeMoment (IsLocked L.parts)
             (λ locked. Answers result None (λ set. set ≡ held locked.state.store.entries key.now)) }
     {
-        let key = HashedKey::new(key);
-        self.range.lock(rt).store().find(&key).to_set(alloc)
+        self.range.lock(rt).store().find(key).to_set(alloc)
     }
 
     /// Loads rows of one leaf from their texts, as [`LockedRange::load_rows`] does. The pass gets the receipts. The rows

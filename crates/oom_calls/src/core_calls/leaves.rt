@@ -5,7 +5,7 @@ ghost use Rattle.hash_tree.specs.Leaves.{versions_in};
 
 use crate::core_calls::versions::version;
 use crate::lines::{show, unchanged};
-use hash_tree::{SharedLeaf, Spot};
+use hash_tree::SharedLeaf;
 use std::alloc::Global;
 use std::io;
 use vclock::{Bytes, Format, Refusal, check_key};
@@ -61,7 +61,7 @@ fn offer_to(alloc: Global, leaf: &mut SharedLeaf, key: u8) -> Result<(), Refusal
     if crowds(leaf, key.as_slice(), &version) {
         return Err(Refusal::Crowded);
     }
-    leaf.offer(alloc, Spot::default(), &key, version)
+    leaf.offer(alloc, &key, version)
 }
 
 /// Returns a leaf in which a version was offered to each of these keys.

@@ -25,12 +25,12 @@ pub(crate) fn show_all<R: Print + AllocGlobal>(rt: &R) -> io::Result<()> {
     let alloc = rt.alloc();
     show(
         rt,
-        "RangeState::new, RangeStore::new, Tree::empty and Leaves::empty",
+        "RangeState::new, RangeState::seeded, RangeStore::new, RangeStore::seeded, Tree::empty and Leaves::empty",
         new(alloc),
     )?;
     show(
         rt,
-        "RangeState::put, RangeStore::put, Tree::offer and Leaves::offer",
+        "RangeState::put, RangeStore::put, RowTable::make_room_at, Tree::offer and Leaves::offer",
         put(alloc),
     )?;
     show(rt, "RangeState::put, stale", stale_put(alloc))?;
@@ -49,12 +49,12 @@ pub(crate) fn show_all<R: Print + AllocGlobal>(rt: &R) -> io::Result<()> {
     )?;
     show(
         rt,
-        "RangeState::renewed, RangeStore::renewed, Tree::share and Marks::try_clone",
+        "RangeState::renewed, RangeStore::renewed, RowTable::try_clone, TableRow::try_clone, Tree::share and Marks::try_clone",
         renewed(alloc),
     )?;
     show(
         rt,
-        "RangeState::load_rows and RangeStore::load_rows",
+        "RangeState::load_rows, RangeStore::load_rows and RowTable::reserve",
         load_rows(alloc),
     )?;
     show(

@@ -15,7 +15,7 @@ pub(crate) fn show_all<R: Print + AllocGlobal>(rt: &R) -> io::Result<()> {
     show(rt, "read_row", read(alloc))?;
     show(rt, "read_rows", read_all(alloc))?;
     show(rt, "put_row", put(alloc))?;
-    show(rt, "write_row", write(alloc))
+    show(rt, "write_row and write_held", write(alloc))
 }
 
 fn read(alloc: Global) -> Result<u64, Refusal> {

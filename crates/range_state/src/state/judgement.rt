@@ -8,10 +8,9 @@ ghost use Rattle.tree_nodes.specs.Nodes.{tree_depth};
 ghost use Rattle.sync_session.specs.Readings.{IsReadTo};
 ghost use Rattle.sync_session.specs.Walks.{Held};
 ghost use Rattle.range_state.specs.Records.{IsKept};
-ghost use Rattle.range_store.specs.Store.{leaf_in};
 ghost use Rattle.range_store.specs.Offers.{offers_in, offers_of, crowded_in};
 ghost use Rattle.range_state.specs.Sessions.{taken_in, leaf_fault, TellsText};
-ghost use Rattle.range_state.specs.Judgements.{HasOtherKeys, IsCounted, IsOfRange, JudgesLeaf};
+ghost use Rattle.range_state.specs.Judgements.{HasOtherKeys, IsCounted, JudgesLeaf};
 
 use crate::record::Record;
 use crate::state::RangeState;
@@ -21,7 +20,7 @@ use std::alloc::Global;
 use sync_session::{News, NewsPlace, NewsStep, Session};
 use tree_nodes::{Hashed, NodeAt};
 use vclock::Refusal;
-use version_set::{Offered, VersionSet};
+use version_set::Offered;
 
 impl RangeState {
     /// Returns the news in a text that the session of a kept record awaits, if all of it can be taken: no rows for an inner
@@ -55,7 +54,6 @@ impl RangeState {
         node: NodeAt,
         first: NewsPlace<'_>,
     ) -> Result<(), Refusal>
-        requires range { IsOfRange self.now.store.config session.now.own }
         requires leaf { node.depth ≡ tree_depth session.now.own.format }
         requires own { Held session.now.own.rows (held self.now.store.entries) }
         requires read { (text : List ℕ)
@@ -64,14 +62,13 @@ impl RangeState {
             → IsReadTo session.now.own node text first.entry.last.now first.entry.rest.now [] first.entry.known
             → JudgesLeaf self.now.store seat session.now.own node text result }
     {
-        let leaf = node.index;
         let mut place = first;
         let mut news = Some(0);
         'rows: loop {
             let NewsStep { row, place: after } = session.next_news(alloc, node, place)?;
             place = after;
             match row {
-                Some(row) => news = self.with_news(alloc, leaf, &row, news)?,
+                Some(row) => news = self.with_news(alloc, &row, news)?,
                 None => return self.judge(news),
             }
         }
@@ -94,21 +91,14 @@ impl RangeState {
 
     /// Adds the number of a row's versions that are new: `None` from the first version on that is too many for its key.
     /// Refused: NoMemory.
-    fn with_news(
-        &self,
-        alloc: Global,
-        leaf: u16,
-        row: &Row,
-        news: Option<u64>,
-    ) -> Result<Option<u64>, Refusal>
-        requires { leaf ≡ leaf_in self.now.store.config row.now.key }
+    fn with_news(&self, alloc: Global, row: &Row, news: Option<u64>) -> Result<Option<u64>, Refusal>
         ensures { (seat : ℕ) (others : List Row) → IsCounted self.now.store seat others news → HasOtherKeys row.now others
             → AnswersOrNoMemory result None (IsCounted self.now.store seat (others ++ row.now ∷ [])) }
     {
         let Some(count) = news else {
             return Ok(None);
         };
-        match self.count_news(alloc, leaf, row) {
+        match self.count_news(alloc, row) {
             Ok(more) => Ok(Some(sum(count, more)?)),
             Err(Refusal::Crowded) => Ok(None),
             Err(refusal) => Err(refusal),
@@ -117,12 +107,11 @@ impl RangeState {
 
     /// Counts the versions of a row that are new. Refused: Crowded (one version, in its turn, would be too many for the
     /// key), NoMemory, which may replace Crowded.
-    fn count_news(&self, alloc: Global, leaf: u16, row: &Row) -> Result<u64, Refusal>
-        requires { leaf ≡ leaf_in self.now.store.config row.now.key }
+    fn count_news(&self, alloc: Global, row: &Row) -> Result<u64, Refusal>
         ensures { (seat : ℕ) → AnswersOrNoMemory result (crowded_in self.now.store seat sources.Partner (offers_in row.now))
             (λ count. length (taken_in self.now.store seat (offers_in row.now)).entries ≡ length self.now.store.entries + count) }
     {
-        let mut set = self.set_at(alloc, leaf, row.key.as_slice())?;
+        let mut set = self.store.get(alloc, row.key.as_slice())?;
         let mut count = 0;
         for version in row.versions.as_slice() {
             match set.offer(version.try_clone()?)? {
@@ -131,14 +120,5 @@ impl RangeState {
             }
         }
         Ok(count)
-    }
-
-    /// Copies the set that is held for a key of a leaf. Refused: NoMemory.
-    fn set_at(&self, alloc: Global, leaf: u16, key: &[u8]) -> Result<VersionSet, Refusal>
-        requires { leaf ≡ leaf_in self.now.store.config key.now }
-        ensures { Answers result None (λ set. set ≡ held self.now.store.entries key.now) }
-    {
-        let (held, _) = self.store.tree().search(leaf, key);
-        held.to_set(alloc)
     }
 }

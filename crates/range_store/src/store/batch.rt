@@ -14,6 +14,7 @@ ghost use Rattle.range_store.specs.Loads.{accept_offers};
 
 use crate::store::RangeStore;
 use crate::store::loading::Loaded;
+use crate::store::table_rows::rows_from_leaf;
 use hash_tree::{Leaves, SharedLeaf};
 use range_journal::{Entry, Source};
 use range_tree::Tree;
@@ -113,8 +114,7 @@ impl RangeStore {
         ensures ok { OnOk result
             (IsPrepared self.now seat source leaf ((key.now, version.now) ∷ []) batch.old batch.new) }
     {
-        let (set, near) = batch.leaf.search(key.as_slice());
-        let held = Held::new(set);
+        let held = Held::new(batch.leaf.find(key.as_slice()));
         if held.covers(version) {
             batch.known += 1;
             return Ok(());
@@ -131,7 +131,7 @@ impl RangeStore {
             version: version.try_clone()?,
         };
         let row_version = version.try_clone()?;
-        batch.leaf.offer(alloc, near, key, row_version)?;
+        batch.leaf.offer(alloc, key, row_version)?;
         batch.entries.push(entry)?;
         Ok(())
     }
@@ -157,9 +157,12 @@ impl RangeStore {
         } = batch;
         let taken = entries.len() as u64;
         self.journal.reserve(taken)?;
+        let rows = rows_from_leaf(alloc, &self.config, leaf, &changed, &entries)?;
+        self.table.reserve(taken)?;
         let leaves = self.tree.with_leaf(alloc, leaf, changed)?;
         keep_leaves(&mut self.tree, leaf, leaves, &entries);
         self.journal.append_entries(entries);
+        self.table.put_all(rows);
         Ok(Loaded { taken, known })
     }
 }

@@ -17,6 +17,7 @@ use crate::config::RangeConfig;
 use crate::leaf_rows::place_in;
 use crate::store::RangeStore;
 use crate::store::loading::Loaded;
+use crate::store::table_rows::rows_from_tree;
 use range_journal::{Entry, Source};
 use range_tree::Tree;
 use row_bytes::{Row, read_rows};
@@ -57,7 +58,7 @@ impl RangeStore {
         check_format(self.config.format(), format)?;
         let rows = read_rows(alloc, format, text)?;
         let spread = self.spread(alloc, seat, format, rows.as_slice())?;
-        self.accept_spread(spread)
+        self.accept_spread(alloc, spread)
     }
 
     /// Prepares the versions of rows of a format, as copies by a seat. Refused as a load for which the journal has room
@@ -130,7 +131,7 @@ impl RangeStore {
             → AnswersOrNoMemory result (crowded_in self.now seat Copy (offers ++ (key.now, version.now) ∷ []))
             (λ _. IsSpread self.now seat (offers ++ (key.now, version.now) ∷ []) spread.new) }
     {
-        let (held, near) = spread.tree.search(leaf, key.as_slice());
+        let held = spread.tree.find(leaf, key.as_slice());
         if held.covers(version) {
             spread.known += 1;
             return Ok(());
@@ -147,13 +148,14 @@ impl RangeStore {
         };
         let row_version = version.try_clone()?;
         spread.entries.reserve(1)?;
-        spread.tree.offer(alloc, leaf, near, key, row_version)?;
+        spread.tree.offer(alloc, leaf, key, row_version)?;
         spread.entries.push_reserved(entry);
         Ok(())
     }
 
-    /// Accepts the versions that are prepared. Refused, in order: JournalFull, NoMemory.
-    fn accept_spread(&mut self, spread: Spread) -> Result<Loaded, Refusal>
+    /// Accepts the versions that are prepared. Allocates before it changes anything. Refused, in order: JournalFull,
+    /// NoMemory.
+    fn accept_spread(&mut self, alloc: Global, spread: Spread) -> Result<Loaded, Refusal>
         requires { (seat : ℕ) × (rows : List Row) × IsSpreadable self.old seat rows spread }
         ensures { (seat : ℕ) (rows : List Row) → IsSpreadable self.old seat rows spread
             → Does result self.old self.new (accept_offers self.old seat Copy (offers_of rows)) }
@@ -165,8 +167,11 @@ impl RangeStore {
         } = spread;
         let taken = entries.len() as u64;
         self.journal.reserve(taken)?;
+        let rows = rows_from_tree(alloc, &self.config, &tree, &entries)?;
+        self.table.reserve(taken)?;
         self.tree = tree;
         self.journal.append_entries(entries);
+        self.table.put_all(rows);
         Ok(Loaded { taken, known })
     }
 }

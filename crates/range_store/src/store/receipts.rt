@@ -10,7 +10,7 @@ ghost use Rattle.range_store.specs.Receipts.{with_put, with_sent};
 
 use crate::context_test::ContextTest;
 use crate::receipt::{Accepted, Receipt};
-use crate::store::{RangeStore, RowHome};
+use crate::store::RangeStore;
 use key_ring::HashedKey;
 use range_journal::{Entry, Source, copy_entries};
 use std::alloc::Global;

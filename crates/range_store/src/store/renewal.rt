@@ -18,7 +18,8 @@ use version_set::Version;
 impl RangeStore {
     /// Makes a new range that begins with the versions that this one holds: each is an entry, as a copy by the seat,
     /// leaf by leaf, row by row and version by version, numbered from 0. The new range has this one's configuration
-    /// with another limit, its rows and its digests. It shares the leaves, so no row is copied. This range is unchanged.
+    /// with another limit, its rows and its digests. It shares the leaves, and copies of the table's rows share keys and
+    /// values. This range is unchanged.
     ///
     /// Refused, in order: BadRing (the limit isn't 1 to 1,000,000), JournalFull (more versions are held than the
     /// limit), NoMemory.
@@ -32,6 +33,7 @@ impl RangeStore {
             config,
             journal,
             tree,
+            table: self.table.try_clone(alloc)?,
         })
     }
 

@@ -10,7 +10,7 @@ pub loop-next-init : goal.loop-next-init
 loop-next-init c =
     let es = c.args.receipts.now in
     let vs = c.args.held.now in
-    walk_begins es c.args.by_key.now c.args.key.now vs c.len.result c.last-next.result c.first_missing-found.result c.requires c.len.ensures (c.last-next.ensures ∙ ap (found_in c.args.by_key.now) c.front.ensures)
+    walk_begins es c.args.by_key.now c.args.key.now vs c.len.result c.last-next.result c.first_missing-found.result c.requires c.len.ensures (c.last-next.ensures ∙ ap (found_in c.args.by_key.now) c.hash.ensures)
     (c.first_missing-found.ensures ∙ ap (λ (k : List ℕ). first_missing (take (length es - c.len.result) (drop c.len.result es)) k vs) c.bytes-bytes.ensures)
 
 pub loop-next-smaller : goal.loop-next-smaller

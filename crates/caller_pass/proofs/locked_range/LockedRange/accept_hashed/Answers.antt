@@ -13,7 +13,7 @@ use Rattle.range_store.proofs.PutLaws.{accept_gives}
 use Rattle.caller_pass.proofs.GrowthLaws.{of_store, grown_by_one}
 use Rattle.caller_pass.proofs.LockLaws.{locked_grown}
 use Rattle.caller_pass.proofs.PassLaws.{pass_after}
-use Rattle.caller_pass.proofs.IndexLaws.{grown, last_front}
+use Rattle.caller_pass.proofs.IndexLaws.{grown, last_hash}
 use Rattle.caller_pass.proofs.locked_range.LockedRange.accept_hashed.Goals as goal
 
 pub invariant_of-self-in-Known : goal.invariant_of-self-in-Known
@@ -38,7 +38,7 @@ note-requires-clause-last g c =
     let taken : accept l.state seat c.args.source c.args.key.now c.args.version ≡ gives (Taken c.in-Taken.receipt) c.accept_into.new.self = cc (c.in_ok-accept_into.ensures.accepts, c.in-Taken.is) in
     let part = of_store l.state _ (Taken c.in-Taken.receipt) c.accept_into.new.self taken in
     let came = accept_gives l.state.store seat c.args.source c.args.key.now c.args.version (Taken c.in-Taken.receipt) c.accept_into.new.self.store part.0 in
-    last_front c.pass.inside.receipts.items c.deref.result.now c.in-Taken.receipt c.args.key.now c.front.result (c.deref.ensures.value ∙ shown) (ap (λ (e : Entry). e.key) came.0) c.front.ensures
+    last_hash c.pass.inside.receipts.items c.deref.result.now c.in-Taken.receipt c.args.key.now c.hash.result (c.deref.ensures.value ∙ shown) (ap (λ (e : Entry). e.key) came.0) c.hash.ensures
 
 pub invariant_of-self-2 : goal.invariant_of-self-2
 invariant_of-self-2 g c =

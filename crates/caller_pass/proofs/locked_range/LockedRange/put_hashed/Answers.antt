@@ -8,7 +8,7 @@ use Rattle.range_store.proofs.PutLaws.{put_by_gives}
 use Rattle.caller_pass.proofs.GrowthLaws.{of_store, grown_by_one}
 use Rattle.caller_pass.proofs.LockLaws.{locked_grown}
 use Rattle.caller_pass.proofs.PassLaws.{pass_after}
-use Rattle.caller_pass.proofs.IndexLaws.{grown, last_front}
+use Rattle.caller_pass.proofs.IndexLaws.{grown, last_hash}
 use Rattle.caller_pass.proofs.locked_range.LockedRange.put_hashed.Goals as goal
 
 pub note-requires-clause-index : goal.note-requires-clause-index
@@ -20,7 +20,7 @@ note-requires-clause-last g c =
     let part = of_store l.state _ c.in_ok-receipt.receipt c.put_into.new.self c.in_ok-receipt.ensures.puts in
     let came = put_by_gives c.args.test l.state.store c.pass.inside.seat c.args.at c.args.key.now c.args.context.now c.args.kind c.args.value c.in_ok-receipt.receipt c.put_into.new.self.store part.0 in
     let shown : c.put_into.new.receipts.items ≡ c.pass.inside.receipts.items ++ c.in_ok-receipt.receipt ∷ [] = c.in_ok-receipt.ensures.appended in
-    last_front c.pass.inside.receipts.items c.deref.result.now c.in_ok-receipt.receipt c.args.key.now c.front.result (c.deref.ensures.value ∙ shown) (ap (λ (e : Entry). e.key) came.0) c.front.ensures
+    last_hash c.pass.inside.receipts.items c.deref.result.now c.in_ok-receipt.receipt c.args.key.now c.hash.result (c.deref.ensures.value ∙ shown) (ap (λ (e : Entry). e.key) came.0) c.hash.ensures
 
 pub invariant_of-self-2 : goal.invariant_of-self-2
 invariant_of-self-2 g c =

@@ -1,9 +1,7 @@
-use Rattle.std.proofs.Common.{◌∷◌, ◌++◌, [], sym, ap, ◌∙◌}
+use Rattle.std.proofs.Common.{◌∷◌, ◌++◌, []}
 use Rattle.std.proofs.lemmas.Result.{err_from_is_err_and}
-use Rattle.key_ring.specs.Places.{leaf_at}
-use Rattle.tree_nodes.specs.Nodes.{Node}
 use Rattle.sync_session.proofs.NewsLaws.{read_done}
-use Rattle.sync_session.proofs.NewsRowLaws.{read_apart, read_lies}
+use Rattle.sync_session.proofs.NewsRowLaws.{read_apart}
 use Rattle.range_state.proofs.JudgementLaws.{judge_fault, judge_memory, judged}
 use Rattle.range_state.proofs.NewsLaws.{news_stand}
 use Rattle.range_state.proofs.state.RangeState.judge_leaf.Goals as goal
@@ -20,14 +18,6 @@ returns-in_err-row c =
     let so_far = c.rows.invariant text read in
     let p = err_from_is_err_and c.from_residual.result c.from_residual.ensures.1 in
     rw (p.1, p.2) (judge_fault c.args.self.now.store seat c.args.session.now.own c.args.node text c.in_err-row.field-0.0 (c.in_err-row.ensures text so_far.others so_far.read))
-
-pub with_news-requires : goal.with_news-requires
-with_news-requires c =
-    let w = c.requires.read in
-    let so_far = c.rows.invariant w.0 w.1 in
-    let step = rw c.in-Some.is at c.in_ok-row.ensures w.0 so_far.others so_far.read in
-    let lies = read_lies so_far.others c.in-Some.row step.0 in
-    ap (λ (n : Node). n.index) c.node.view_is ∙ sym lies.leaf_is ∙ (λ i. leaf_at (c.requires.range.format i) (c.requires.range.bits i) c.in-Some.row.key)
 
 pub returns-in_err-news-in-Some : goal.returns-in_err-news-in-Some
 returns-in_err-news-in-Some c =

@@ -1,5 +1,6 @@
-use Rattle.std.proofs.Common.{◌≡◌, ℕ, List, ◌++◌, length, cond, set, sym, ap, subst, ◌∙◌, arith, inl, inr, refl}
+use Rattle.std.proofs.Common.{◌≡◌, ℕ, List, ◌++◌, length, cond, map, set, sym, ap, subst, ◌∙◌, arith, inl, inr, refl}
 use Rattle.std.specs.Prelude.{nat_eq}
+use Rattle.std.specs.List.{AllByRecursion}
 use Rattle.std.proofs.lemmas.Result.{err_from_is_err_and}
 use Rattle.vclock.specs.Outcome.{gives}
 use Rattle.vclock.specs.declared.refusal.Refusal.TheVariants.{NoMemory}
@@ -12,7 +13,10 @@ use Rattle.snapshot.specs.Snapshots.{leaves_of}
 use Rattle.range_tree.specs.Trees.{RangeTree, IsChange, with_rows}
 use Rattle.version_set.specs.declared.version.Version.{Version}
 use Rattle.range_journal.specs.declared.journal.Source.{Source}
-use Rattle.range_store.specs.Store.{Store, IsSound, rows_now, tree_in}
+use Rattle.row_table.specs.Tables.{Table, with_room}
+use Rattle.range_store.specs.Store.{Store, IsSound, leaf_in, rows_now, tree_in}
+use Rattle.range_store.specs.TableRows.{row_from}
+use Rattle.range_store.proofs.TableBatchLaws.{batch_leaves, table_batch}
 use Rattle.range_store.specs.Batches.{IsAcceptable}
 use Rattle.range_store.proofs.ChangeLaws.{kept_rows}
 use Rattle.range_store.proofs.LoadLaws.{IsTaken, taken_is, taken_right, taken_leaves, IsLogOf, log_of, room_in, load_given, load_memory, load_refused, batch_entries}
@@ -59,6 +63,11 @@ changed c =
     subst (λ (m : RowMap). IsChange m c.args.leaf c.in_ok-leaves.leaves (rows_now (record now { entries = now.entries ++ c.args.batch.entries.items }))) map
     (taken_leaves now c.requires.0 c.requires.1 c.args.leaf c.requires.2 c.args.batch c.in_ok-leaves.leaves (subst IsSound c.self.view_is c.self.invariant.0) c.requires.3 leaves)
 
+pub rows_from_leaf-requires : goal.rows_from_leaf-requires
+rows_from_leaf-requires c =
+    let leaves = batch_leaves c.args.self.now c.requires.0 c.requires.1 c.args.leaf c.requires.2 c.args.batch c.requires.3 in
+    subst (λ (u : Store). AllByRecursion (λ (e : Entry). c.args.leaf ≡ leaf_in u.config e.key) c.deref.result.now) (sym c.self.view_is) (subst (AllByRecursion (λ (e : Entry). c.args.leaf ≡ leaf_in c.args.self.now.config e.key)) (sym c.deref.ensures.value) leaves)
+
 pub keep_leaves-requires : goal.keep_leaves-requires
 keep_leaves-requires c =
     let now = c.args.self.now in
@@ -75,7 +84,7 @@ kept c change =
     let es = c.args.batch.entries.items in
     let next = rows_now (record now { entries = now.entries ++ es }) in
     let tree : c.self.inside.tree ≡ tree_in now = (λ i. record { map = c.self.invariant.1 i; marks = c.self.inside.tree.marks }) ∙ ap tree_in c.self.view_is in
-    let is = c.keep_leaves.ensures next change ∙ ap (λ (xs : List Entry). cond (nat_eq (length xs) 0) c.self.inside.tree (with_rows c.self.inside.tree c.args.leaf next)) c.deref.ensures.value in
+    let is = c.keep_leaves.ensures next change ∙ ap (λ (xs : List Entry). cond (nat_eq (length xs) 0) c.self.inside.tree (with_rows c.self.inside.tree c.args.leaf next)) c.deref-2.ensures.value in
     kept_rows now es c.args.leaf c.self.inside.tree c.keep_leaves.new.tree tree is
 
 -- the batch is accepted
@@ -99,10 +108,15 @@ invariant_of-self-2 c =
     let tree = kept at.After-append_entries (changed at.In_ok-leaves) in
     let is = is_taken at.After-append_entries c.requires.0 c.requires.1 c.requires.2 (ap (λ (t : RangeTree). t.marks) tree) c.requires.3 in
     let right = taken_right now c.requires.0 c.requires.1 c.args.leaf c.requires.2 b c.append_entries.new.self.entries c.keep_leaves.new.tree.marks (subst IsSound c.self.view_is c.self.invariant.0) is in
-    let config : c.self.inside.config ≡ now.config = ap (λ (u : Store). u.config) c.self.view_is in (
+    let config : c.self.inside.config ≡ now.config = ap (λ (u : Store). u.config) c.self.view_is in
+    let given = c.in_ok-reserve-2.ensures in
+    let reserved : c.reserve-2.new.self ≡ with_room c.self.inside.table c.len-taken.result = cc in
+    let rows = c.in_ok-rows.ensures.1 ∙ ap (map (row_from c.self.inside.config.bits b.leaf.rows)) c.deref.ensures.value in (
       subst (λ (u : Store). IsSound (record { config = u.config; entries = c.append_entries.new.self.entries; marks = c.keep_leaves.new.tree.marks })) (sym c.self.view_is) right,
       ap (λ (t : RangeTree). t.map) tree ∙ (λ i. rows_now (record now { config = sym config i; entries = sym is.entries_are i })),
       ap (λ (l : Log). l.limit) c.append_entries.ensures ∙ ap (λ (l : Log). l.limit) (reserve_ok c.self.inside.journal _ _ c.in_ok-reserve.ensures.reserves).is ∙ c.self.invariant.2,
+      table_batch (before at.After-self) now c.requires.0 c.requires.1 c.args.leaf c.requires.2 b c.self.inside.table.rows c.in_ok-rows.rows.items c.reserve-2.new.self c.put_all.new.self c.append_entries.new.self.entries
+          c.self.view_is c.self.invariant.3 c.requires.3 (ap (λ (t : Table). t.rows) reserved) rows c.put_all.ensures is.entries_are,
     )
 
 pub returns : goal.returns

@@ -1,19 +1,27 @@
-use Rattle.std.proofs.Common.{◌≡◌, ◌++◌, length, sym, ap, subst, ◌∙◌, arith, refl}
+use Rattle.std.proofs.Common.{◌≡◌, ◌++◌, length, map, sym, ap, subst, ◌∙◌, arith, refl}
 use Rattle.std.proofs.lemmas.Result.{err_from_is_err_and}
 use Rattle.vclock.specs.Outcome.{gives}
 use Rattle.range_journal.specs.Log.{Log}
 use Rattle.range_journal.proofs.JournalLaws.{reserve_ok}
 use Rattle.range_journal.specs.declared.journal.Source.TheVariants.{Copy}
+use Rattle.row_table.specs.Tables.{Table, with_room}
+use Rattle.snapshot.specs.RowMaps.{RowMap}
 use Rattle.range_store.specs.Store.{Store, IsSound, rows_now}
+use Rattle.range_store.specs.TableRows.{row_from}
+use Rattle.range_store.proofs.TableBatchLaws.{table_spread}
 use Rattle.range_store.specs.Offers.{offers_of}
 use Rattle.range_store.proofs.LoadLaws.{IsLogOf, log_of, room_in, load_given, load_refused}
-use Rattle.range_store.proofs.SpreadLaws.{spread_state, spread_is, spread_right, spread_rows, spread_entries}
+use Rattle.range_store.proofs.SpreadLaws.{spread_map, spread_state, spread_is, spread_right, spread_rows, spread_entries}
 use Rattle.range_store.proofs.store.RangeStore.accept_spread.Goals as goal
 use Rattle.range_store.proofs.store.RangeStore.accept_spread.Goals.{After-self, After-append_entries}
 
+-- the store before, by its fields
+abbrev before : After-self → Store
+before c = record { config = c.self.inside.config; entries = c.self.inside.journal.entries; marks = c.self.inside.tree.marks }
+
 -- the journal of the store
 journal : (c : After-self) → IsLogOf c.args.self.now c.self.inside.journal
-journal c = log_of (record { config = c.self.inside.config; entries = c.self.inside.journal.entries; marks = c.self.inside.tree.marks }) c.args.self.now c.self.inside.journal c.self.view_is refl c.self.invariant.2
+journal c = log_of (before c) c.args.self.now c.self.inside.journal c.self.view_is refl c.self.invariant.2
 
 pub returns-in_err-reserve : goal.returns-in_err-reserve
 returns-in_err-reserve c =
@@ -24,6 +32,18 @@ returns-in_err-reserve c =
     let reserves = c.in_err-reserve.ensures.reserves in
     let back = ap (λ (l : Log). record { config = c.self.inside.config; entries = l.entries; marks = c.self.inside.tree.marks }) reserves.0 ∙ c.self.view_is in
     rw (p.1, p.2) (back, load_refused now seat Copy (offers_of rows) entries.items c.args.spread.known c.in_err-reserve.field-0.0 c.self.inside.journal _ (spread_entries now seat rows c.args.spread is) (journal (goal.at.returns-in_err-reserve c).After-self) (omega (arith, c.len-taken.ensures, entries.ok)) reserves.1)
+
+-- the tree with the versions is of the range
+spread_config : (c : After-self) → c.args.spread.tree.map ≡ record (rows_now (before c)) { rows = c.args.spread.tree.map.rows }
+spread_config c =
+    spread_map c.args.self.now c.requires.0 (offers_of c.requires.1) c.args.spread c.requires.2.spread_is
+    ∙ ap (λ (u : Store). record (rows_now u) { rows = c.args.spread.tree.map.rows }) (sym c.self.view_is)
+
+pub rows_from_tree-requires-clause-format : goal.rows_from_tree-requires-clause-format
+rows_from_tree-requires-clause-format c = ap (λ (m : RowMap). m.format) (spread_config (goal.at.rows_from_tree-requires-clause-format c).After-self)
+
+pub rows_from_tree-requires-clause-bits : goal.rows_from_tree-requires-clause-bits
+rows_from_tree-requires-clause-bits c = ap (λ (m : RowMap). m.bits) (spread_config (goal.at.rows_from_tree-requires-clause-bits c).After-self)
 
 -- the store afterwards
 whole : (c : After-append_entries) → record { config = c.self.inside.config; entries = c.append_entries.new.self.entries; marks = c.args.spread.tree.marks } ≡ spread_state c.args.self.now c.args.spread
@@ -39,10 +59,16 @@ invariant_of-self-2 c =
     let rows = c.requires.1 in
     let is = c.requires.2 in
     let ok = subst IsSound c.self.view_is c.self.invariant.0 in
-    let end = whole (goal.at.invariant_of-self-2 c).After-append_entries in (
+    let at = goal.at.invariant_of-self-2 c in
+    let end = whole at.After-append_entries in
+    let given = c.in_ok-reserve-2.ensures in
+    let reserved : c.reserve-2.new.self ≡ with_room c.self.inside.table c.len-taken.result = cc in
+    let made = c.in_ok-rows.ensures.1 ∙ ap (map (row_from c.self.inside.config.bits c.args.spread.tree.map.rows)) c.deref.ensures.value in (
       subst IsSound (sym end) (spread_right now seat rows c.args.spread ok is),
       spread_rows now seat rows c.args.spread is ∙ ap rows_now (sym end),
       ap (λ (l : Log). l.limit) c.append_entries.ensures ∙ ap (λ (l : Log). l.limit) (reserve_ok c.self.inside.journal _ _ c.in_ok-reserve.ensures.reserves).is ∙ c.self.invariant.2,
+      table_spread (before at.After-self) now seat rows c.args.spread c.self.inside.table.rows c.in_ok-rows.rows.items c.reserve-2.new.self c.put_all.new.self c.append_entries.new.self.entries
+          c.self.view_is c.self.invariant.3 is (ap (λ (t : Table). t.rows) reserved) made c.put_all.ensures (ap (λ (u : Store). u.entries) end),
     )
 
 pub returns : goal.returns

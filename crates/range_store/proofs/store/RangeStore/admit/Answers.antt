@@ -3,19 +3,24 @@ use Rattle.std.proofs.lemmas.Result.{err_from_is_err_and}
 use Rattle.range_journal.specs.declared.journal.Entry.{Entry}
 use Rattle.range_journal.specs.Log.{Log}
 use Rattle.vclock.specs.Bytes.{key_fault}
+use Rattle.vclock.specs.Outcome.{gives}
 use Rattle.version_set.specs.Kind.{value_fault}
 use Rattle.version_set.specs.Version.{offer_fault}
 use Rattle.range_journal.specs.Journal.{held}
 use Rattle.hash_tree.specs.Leaves.{versions_in}
 use Rattle.snapshot.specs.RowMaps.{leaf_in}
-use Rattle.key_ring.specs.Places.{range_at}
+use Rattle.key_ring.specs.Places.{leaf_at, range_at}
 use Rattle.range_tree.specs.Trees.{RangeTree}
-use Rattle.range_store.specs.Store.{Store, IsSound, tree_in, rows_now, place_fault, full_fault, entry_of, knows}
+use Rattle.row_table.specs.Tables.{set_in}
+use Rattle.vclock.specs.declared.format.Format.TheVariants.{Two}
+use Rattle.range_store.specs.Store as store
+use Rattle.range_store.specs.Store.{Store, IsSound, tree_in, rows_now, place_fault, full_fault, entry_of, journaled, knows}
 use Rattle.range_journal.proofs.JournalLaws.{reserve_ok}
 use Rattle.hash_tree.proofs.OutcomeLaws.{given, no_memory}
 use Rattle.range_store.proofs.OfferLaws.{tree_is}
 use Rattle.range_store.proofs.RowLaws.{versions_in-rows_of}
-use Rattle.range_store.proofs.StoreLaws.{IsAdmitted, in_limits, here_of, admitted, admit_given, room_left}
+use Rattle.range_store.proofs.StoreLaws.{IsAdmitted, in_limits, here_of, admitted, admit_given, admit_is, room_left}
+use Rattle.range_store.proofs.TableRowLaws.{table_same, table_grown}
 use Rattle.range_store.proofs.store.RangeStore.admit.Goals as goal
 use Rattle.range_store.proofs.store.RangeStore.admit.Goals.{After-self, After-append_reserved}
 
@@ -30,7 +35,13 @@ tree c = tree_is (before c) c.args.self.now c.self.inside.tree c.self.view_is c.
 pub offer-requires-clause-leaf : goal.offer-requires-clause-leaf
 offer-requires-clause-leaf c =
     let tree = sym (tree (goal.at.offer-requires-clause-leaf c).After-self) in
-    c.requires.leaf_is ∙ (λ i. leaf_in (tree i).map (sym c.in_ok-key.ensures.1 i))
+    let wide = subst (λ (u : Store). c.args.leaf ≡ leaf_at Two u.config.bits c.args.key.now) (sym c.self.view_is) c.requires.leaf_is in
+    c.narrow_leaf-tree_leaf.ensures c.args.key.now wide ∙ ap (λ (u : Store). store.leaf_in u.config c.args.key.now) c.self.view_is ∙ (λ i. leaf_in (tree i).map (sym c.in_ok-key.ensures.1 i))
+
+pub prepare_row-requires : goal.prepare_row-requires
+prepare_row-requires c =
+    let set = ap (set_in c.self.inside.table.rows) c.in_ok-key.ensures.1 ∙ c.self.invariant.3.sets c.args.key.now ∙ ap (λ (u : Store). held u.entries c.args.key.now) c.self.view_is in
+    ap (offer_fault c.args.version) set ∙ c.requires.fits
 
 pub offer-requires-clause-here : goal.offer-requires-clause-here
 offer-requires-clause-here c =
@@ -57,7 +68,8 @@ invariant_of-self-in_err-offer c =
     let same = c.in_err-offer.ensures.0 in
     let back : record { config = c.self.inside.config; entries = c.reserve.new.self.entries; marks = c.offer.new.self.marks } ≡ before (goal.at.invariant_of-self-in_err-offer c).After-self =
     λ i. record { config = c.self.inside.config; entries = (log i).entries; marks = (same i).marks } in
-    (subst IsSound (sym back) c.self.invariant.0, ap (λ (t : RangeTree). t.map) same ∙ c.self.invariant.1 ∙ ap rows_now (sym back), ap (λ (t : Log). t.limit) log ∙ c.self.invariant.2)
+    let table = table_same c.self.inside.config.bits c.self.inside.config.range c.self.inside.journal.entries c.reserve.new.self.entries c.self.inside.table.rows c.prepare_row.new.table.rows c.self.invariant.3 (ap (λ (t : Log). t.entries) log) c.in_ok-place.ensures.same in
+    (subst IsSound (sym back) c.self.invariant.0, ap (λ (t : RangeTree). t.map) same ∙ c.self.invariant.1 ∙ ap rows_now (sym back), ap (λ (t : Log). t.limit) log ∙ c.self.invariant.2, table)
 
 pub returns-in_err-offer-clause-admits : goal.returns-in_err-offer-clause-admits
 returns-in_err-offer-clause-admits c =
@@ -82,9 +94,34 @@ is_admitted c =
     (sym (λ i. knows (back i) (key i) c.args.version) ∙ c.requires.news) c.pairs-valid.ensures.valid
     (sym (λ i. offer_fault c.args.version (held (back i).entries (key i))) ∙ c.requires.fits) refl c.in_ok-row_version.ensures.1 (given _ _ _ _ c.in_ok-offer.ensures).1 entries
 
+-- the entries afterwards
+entries_are : (c : After-append_reserved) → c.append_reserved.new.self.entries ≡ c.self.inside.journal.entries ++ entry c ∷ []
+entries_are c = ap (λ (t : Log). t.entries) c.append_reserved.ensures.added ∙ ap (λ (t : Log). t.entries ++ entry c ∷ []) (reserve_ok c.self.inside.journal _ 1 c.in_ok-reserve.ensures.reserves).is
+
 pub invariant_of-self-2 : goal.invariant_of-self-2
 invariant_of-self-2 c =
     let at = goal.at.invariant_of-self-2 c in
     let is = is_admitted at.After-append_reserved in
     let log = c.append_reserved.ensures.added in
-    (is.right, is.rows, ap (λ (t : Log). t.limit) log ∙ ap (λ (t : Log). t.limit) (reserve_ok c.self.inside.journal _ 1 c.in_ok-reserve.ensures.reserves).is ∙ c.self.invariant.2)
+    let i = c.self.inside in
+    let s : Store = record { config = i.config; entries = i.journal.entries; marks = i.tree.marks } in
+    let table = table_grown s c.args.self.now c.args.leaf c.args.key.now (entry at.After-append_reserved) c.append_reserved.new.self.entries i.table.rows c.prepare_row.new.table c.put_at.new.self c.in_ok-place.row
+    c.self.view_is c.self.invariant.3 c.in_ok-place.ensures.same c.requires c.in_ok-key.ensures.1 c.in_ok-place.ensures.row.1.2 (entries_are at.After-append_reserved) c.put_at.ensures in
+    (is.right, is.rows, ap (λ (t : Log). t.limit) log ∙ ap (λ (t : Log). t.limit) (reserve_ok c.self.inside.journal _ 1 c.in_ok-reserve.ensures.reserves).is ∙ c.self.invariant.2, table)
+
+pub returns-clause-admits : goal.returns-clause-admits
+returns-clause-admits c =
+    let at = goal.at.returns-clause-admits c in
+    let i = c.self.inside in
+    let s : Store = record { config = i.config; entries = i.journal.entries; marks = i.tree.marks } in
+    let now = c.args.self.now in
+    let e : Entry = entry at.After-append_reserved in
+    let x : Entry = entry_of now c.args.seat c.args.source c.args.key.now c.args.version in
+    let log = (reserve_ok i.journal _ 1 c.in_ok-reserve.ensures.reserves).is in
+    let room : full_fault now ≡ None = subst (λ (u : Store). full_fault u ≡ None) c.self.view_is (room_left s i.journal _ (λ j. s.entries) c.self.invariant.2 (reserve_ok i.journal _ 1 c.in_ok-reserve.ensures.reserves)) in
+    let number : length now.entries ≡ length c.reserve.new.self.entries = ap (λ (u : Store). length u.entries) (sym c.self.view_is) ∙ sym (ap (λ (t : Log). length t.entries) log) in
+    let same : x ≡ e = λ j. record { number = number j; seat = c.args.seat; source = c.args.source; key = sym c.in_ok-key.ensures.1 j; version = c.args.version } in
+    let receipt : e ≡ record { number = c.len.result; seat = c.args.seat; source = c.args.source; key = c.in_ok-try_clone.field-0; version = c.in_ok-try_clone-2.field-0 } =
+    λ j. record { number = sym c.len.ensures.count j; seat = c.args.seat; source = c.args.source; key = sym c.in_ok-try_clone.ensures.1 j; version = sym c.in_ok-try_clone-2.ensures.1 j } in
+    let whole : journaled now x ≡ record { config = i.config; entries = c.append_reserved.new.self.entries; marks = c.offer.new.self.marks } = (λ j. journaled (sym c.self.view_is j) (same j)) ∙ sym (is_admitted at.After-append_reserved).is in
+    admit_is now x room ∙ (λ j. gives ((same ∙ receipt) j) (whole j))

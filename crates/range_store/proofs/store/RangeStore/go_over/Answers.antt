@@ -5,6 +5,7 @@ use Rattle.range_store.specs.Config.{Config}
 use Rattle.range_store.specs.Store.{Store}
 use Rattle.range_store.specs.Migrates.{in_two}
 use Rattle.range_store.specs.Replays.{IsReplay}
+use Rattle.range_store.specs.TableRows.{IsTableOf}
 use Rattle.range_store.proofs.MigrateLaws.{replay_in_two, went_over}
 use Rattle.range_store.proofs.store.RangeStore.go_over.Goals as goal
 
@@ -20,7 +21,8 @@ invariant_of-self c =
     let one : s.config.format ≡ One = ap (λ (t : Store). t.config.format) c.self.view_is ∙ c.requires in
     let config = c.in_format_2-config.ensures in
     let over = went_over s c.in_format_2-config.result c.entries.result.now c.in_ok-tree.tree c.self.invariant.0 one config c.entries.ensures.value c.in_ok-tree.ensures.1 in
-    (over.0, over.1, c.self.invariant.2 ∙ ap (λ (x : Config). x.limit) (sym config))
+    let table = subst (λ (x : Config). IsTableOf x.bits x.range c.self.inside.journal.entries c.self.inside.table.rows) (sym config) c.self.invariant.3 in
+    (over.0, over.1, c.self.invariant.2 ∙ ap (λ (x : Config). x.limit) (sym config), table)
 
 pub returns : goal.returns
 returns c =

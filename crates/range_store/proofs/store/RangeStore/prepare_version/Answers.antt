@@ -15,26 +15,26 @@ use Rattle.range_store.proofs.store.RangeStore.prepare_version.Goals.{In_ok-push
 pub returns-then-covers-clause-answers : goal.returns-then-covers-clause-answers
 returns-then-covers-clause-answers c =
     let a = c.args.batch.now in
-    let known : covered c.args.version.now (versions_in c.args.key.now a.leaf.rows) ≡ true = cc (c.covers.ensures, c.if-covers.true, c.new-held.ensures, c.search.ensures.found, c.as_slice.ensures) in
+    let known : covered c.args.version.now (versions_in c.args.key.now a.leaf.rows) ≡ true = cc (c.covers.ensures, c.if-covers.true, c.new-held.ensures, c.find.ensures.found, c.as_slice.ensures) in
     let b : Batch = record { leaf = a.leaf; entries = a.entries; known = a.known + 1 } in
     ((known_next c.args.self.now c.args.seat c.args.source c.args.leaf c.args.key.now c.args.version.now a b c.requires.batch c.requires.leaf known (λ i. b)).0, tt)
 
 pub returns-then-covers-clause-ok : goal.returns-then-covers-clause-ok
 returns-then-covers-clause-ok c =
     let a = c.args.batch.now in
-    let known : covered c.args.version.now (versions_in c.args.key.now a.leaf.rows) ≡ true = cc (c.covers.ensures, c.if-covers.true, c.new-held.ensures, c.search.ensures.found, c.as_slice.ensures) in
+    let known : covered c.args.version.now (versions_in c.args.key.now a.leaf.rows) ≡ true = cc (c.covers.ensures, c.if-covers.true, c.new-held.ensures, c.find.ensures.found, c.as_slice.ensures) in
     let b : Batch = record { leaf = a.leaf; entries = a.entries; known = a.known + 1 } in
     (known_next c.args.self.now c.args.seat c.args.source c.args.leaf c.args.key.now c.args.version.now a b c.requires.batch c.requires.leaf known (λ i. b)).1
 
 pub returns-then-crowds-clause-answers : goal.returns-then-crowds-clause-answers
 returns-then-crowds-clause-answers c =
     let a = c.args.batch.now in
-    let full : offer_fault c.args.version.now (versions_in c.args.key.now a.leaf.rows) ≡ Some Crowded = rw (c.new-held.ensures, c.search.ensures.found, c.as_slice.ensures, c.if-crowds.true) at c.crowds.ensures in
+    let full : offer_fault c.args.version.now (versions_in c.args.key.now a.leaf.rows) ≡ Some Crowded = rw (c.new-held.ensures, c.find.ensures.found, c.as_slice.ensures, c.if-crowds.true) at c.crowds.ensures in
     inr (crowded_next c.args.self.now c.args.seat c.args.source c.args.leaf c.args.key.now c.args.version.now a Crowded c.requires.batch c.requires.leaf full)
 
 pub offer-requires-clause-room : goal.offer-requires-clause-room
 offer-requires-clause-room c =
-    let fits : offer_fault c.args.version.now (versions_in c.args.key.now c.args.batch.now.leaf.rows) ≡ None = rw (c.new-held.ensures, c.search.ensures.found, c.as_slice.ensures, c.if-crowds.false) at c.crowds.ensures in
+    let fits : offer_fault c.args.version.now (versions_in c.args.key.now c.args.batch.now.leaf.rows) ≡ None = rw (c.new-held.ensures, c.find.ensures.found, c.as_slice.ensures, c.if-crowds.false) at c.crowds.ensures in
     ap (λ (v : Version). offer_fault v (versions_in c.args.key.now c.args.batch.now.leaf.rows)) c.in_ok-row_version.ensures.1 ∙ fits
 
 -- what a version that is prepared adds to the batch
@@ -44,7 +44,7 @@ added c =
     let s = c.args.self.now in
     let a = c.args.batch.now in
     let b : Batch = record { leaf = c.offer.new.self; entries = c.push.new.self; known = a.known } in
-    let set = c.new-held.ensures ∙ c.search.ensures.found ∙ ap (λ (k : List ℕ). versions_in k a.leaf.rows) c.as_slice.ensures in
+    let set = c.new-held.ensures ∙ c.find.ensures.found ∙ ap (λ (k : List ℕ). versions_in k a.leaf.rows) c.as_slice.ensures in
     let fresh : covered c.args.version.now (versions_in c.args.key.now a.leaf.rows) ≡ false = cc (c.covers.ensures, c.if-covers.false, set) in
     let fits : offer_fault c.args.version.now (versions_in c.args.key.now a.leaf.rows) ≡ None = rw (set, c.if-crowds.false) at c.crowds.ensures in
     let number : c.len.result + c.len-2.result ≡ length s.entries + length a.entries.items = omega (arith, c.len.ensures.count, c.len-2.ensures, ap (λ (t : Store). length t.entries) c.self.view_is) in

@@ -10,14 +10,14 @@ use Rattle.range_store.specs.Store.{Store}
 use Rattle.range_store.proofs.SpreadLaws.{spread_leaf, spread_place, spread_known, spread_crowded, spread_news}
 use Rattle.range_store.proofs.store.RangeStore.spread_version.Goals as goal
 
-pub search-held-requires : goal.search-held-requires
-search-held-requires c = rw c.as_slice.ensures (spread_leaf c.args.self.now c.args.seat c.requires.before.0 c.args.spread.now c.args.leaf c.args.key.now c.requires.before.1 c.requires.leaf)
+pub find-held-requires : goal.find-held-requires
+find-held-requires c = rw c.as_slice.ensures (spread_leaf c.args.self.now c.args.seat c.requires.before.0 c.args.spread.now c.args.leaf c.args.key.now c.requires.before.1 c.requires.leaf)
 
 pub returns-then-covers : goal.returns-then-covers
 returns-then-covers c =
     λ offers is.
     let a = c.args.spread.now in
-    let known : covered c.args.version.now (versions_in c.args.key.now a.tree.map.rows) ≡ true = cc (c.covers.ensures, c.if-covers.true, c.search-held.ensures, c.as_slice.ensures) in
+    let known : covered c.args.version.now (versions_in c.args.key.now a.tree.map.rows) ≡ true = cc (c.covers.ensures, c.if-covers.true, c.find-held.ensures, c.as_slice.ensures) in
     let next = spread_known c.args.self.now c.args.seat offers c.args.key.now c.args.version.now a is known in
     (next.fits, next)
 
@@ -25,7 +25,7 @@ pub returns-then-crowds : goal.returns-then-crowds
 returns-then-crowds c =
     λ offers is.
     let a = c.args.spread.now in
-    let full : offer_fault c.args.version.now (versions_in c.args.key.now a.tree.map.rows) ≡ Some Crowded = rw (c.search-held.ensures, c.as_slice.ensures, c.if-crowds.true) at c.crowds.ensures in
+    let full : offer_fault c.args.version.now (versions_in c.args.key.now a.tree.map.rows) ≡ Some Crowded = rw (c.find-held.ensures, c.as_slice.ensures, c.if-crowds.true) at c.crowds.ensures in
     inr (spread_crowded c.args.self.now c.args.seat offers a c.args.key.now c.args.version.now Crowded is full)
 
 pub offer-requires-clause-leaf : goal.offer-requires-clause-leaf
@@ -47,8 +47,8 @@ returns c =
     let key = c.args.key.now in
     let v = c.args.version.now in
     let b : Spread = record { tree = c.offer.new.self; entries = c.push_reserved.new.self; known = a.known } in
-    let fresh : covered v (versions_in key a.tree.map.rows) ≡ false = cc (c.covers.ensures, c.if-covers.false, c.search-held.ensures, c.as_slice.ensures) in
-    let fits : offer_fault v (versions_in key a.tree.map.rows) ≡ None = rw (c.search-held.ensures, c.as_slice.ensures, c.if-crowds.false) at c.crowds.ensures in
+    let fresh : covered v (versions_in key a.tree.map.rows) ≡ false = cc (c.covers.ensures, c.if-covers.false, c.find-held.ensures, c.as_slice.ensures) in
+    let fits : offer_fault v (versions_in key a.tree.map.rows) ≡ None = rw (c.find-held.ensures, c.as_slice.ensures, c.if-crowds.false) at c.crowds.ensures in
     let number : c.len.result + c.len-2.result ≡ length s.entries + length a.entries.items = omega (arith, c.len.ensures.count, c.len-2.ensures, ap (λ (t : Store). length t.entries) c.self.view_is) in
     let e : Entry = record { number = c.len.result + c.len-2.result; seat = c.args.seat; source = Copy; key = c.in_ok-try_clone.field-0; version = c.in_ok-try_clone-2.field-0 } in
     let made : e ≡ record { number = length s.entries + length a.entries.items; seat = c.args.seat; source = Copy; key = key; version = v } =
