@@ -179,7 +179,7 @@ static void run(void)
     log_len = 0;
     growths = 0;
     DO("antientropy_new", antientropy_new(&a, 1, 0, 0, 1000));
-    DO("antientropy_new", antientropy_new(&b, 1, 0, 0, 1000));
+    DO("antientropy_new_seeded", antientropy_new_seeded(&b, 1, 0, 0, 1000, 1, 2));
     for (int n = 0; n < KEYS; n++)
         put(n % 3 ? &a : &b, n % 3 ? 1 : 2, n / 2, six + 2, n % 5);
     DO("antientropy_accept", antientropy_accept(&b, key, 2, six, 6, ANTIENTROPY_LIVE, key, 2, &taken));

@@ -87,6 +87,8 @@ static void makes(void)
     SEE(new, BAD_RING, antientropy_new(&none, 1, 1, 2, 1000));
     SEE(new, BAD_RING, antientropy_new(&none, 1, 0, 0, 0));
     SEE(new, BAD_RING, antientropy_new(&none, 1, 0, 0, ANTIENTROPY_ENTRIES_MAX + 1));
+    SEE(new_seeded, HELD, antientropy_new_seeded(&made, 2, 0, 0, 1000, 1, 2));
+    SEE(new_seeded, BAD_RING, antientropy_new_seeded(&none, 3, 0, 0, 1000, 1, 2));
     SEE(renew, EMPTY, antientropy_renew(&none, &into, 1000));
     SEE(renew, HELD, antientropy_renew(&made, &full, 1000));
     SEE(renew, BAD_RING, antientropy_renew(&made, &into, 0));

@@ -284,6 +284,12 @@ uint32_t antientropy_place(uint64_t format, uint64_t bits, const uint8_t *key, s
 uint32_t antientropy_new(struct antientropy_replica *replica, uint64_t format, uint64_t bits, uint64_t range,
                          uint64_t limit);
 
+/* Makes a replica as antientropy_new does, which finds keys by a hash with a seed of two words. Random words make it
+ * hard for clients to choose keys with equal hashes, which are slow to find. A renewal hands the seed on.
+ * Refused, in order: HELD, BAD_RING, NO_MEMORY. */
+uint32_t antientropy_new_seeded(struct antientropy_replica *replica, uint64_t format, uint64_t bits, uint64_t range,
+                                uint64_t limit, uint64_t first, uint64_t second);
+
 /* Frees the replica that a handle holds, if it holds one. In C and C++ each call that frees accepts NULL, and does
  * nothing; a pointer to the call, and the call from another language, don't. */
 void antientropy_free(struct antientropy_replica *replica);

@@ -11,7 +11,7 @@ ghost use Rattle.antientropy_c.specs.Makes.{Makes, TakesState, config_fault, IsF
 
 use crate::numbers::{EMPTY, HELD, code};
 use crate::replica::Replica;
-use range_state::{RangeConfig, RangeState};
+use range_state::{RangeConfig, RangeState, Seed};
 use std::alloc::Global;
 use vclock::Refusal;
 
@@ -36,7 +36,36 @@ pub extern "C" fn antientropy_new(
         replica.hold(state);
         return HELD;
     }
-    code(&make(alloc, replica, format, bits, range, limit))
+    let seed = Seed::default();
+    code(&make(alloc, replica, format, bits, range, limit, seed))
+}
+
+/// Makes a replica as [`antientropy_new`] does, as [`RangeState::seeded`] does with a seed of two words: chosen at random,
+/// it keeps clients from choosing keys that are slow to find.
+///
+/// Refused, in order: HELD (the handle holds a replica already), BadRing (the numbers are outside the limits),
+/// NoMemory. On error the handle is unchanged.
+#[unsafe(no_mangle)]
+#[tactic(auto, using(crate::proofs::MakeLaws::already, crate::proofs::MakeLaws::made))]
+pub extern "C" fn antientropy_new_seeded(
+    alloc: Global,
+    replica: &mut Replica,
+    format: u64,
+    bits: u64,
+    range: u64,
+    limit: u64,
+    first: u64,
+    second: u64,
+) -> u32
+    ensures { Makes result replica.old replica.new (config_fault (config_of format bits range limit))
+        (IsFresh (config_of format bits range limit)) }
+{
+    if let Some(state) = replica.take(alloc) {
+        replica.hold(state);
+        return HELD;
+    }
+    let seed = Seed { first, second };
+    code(&make(alloc, replica, format, bits, range, limit, seed))
 }
 
 /// Makes a replica in an empty handle.
@@ -47,12 +76,13 @@ fn make(
     bits: u64,
     range: u64,
     limit: u64,
+    seed: Seed,
 ) -> Result<(), Refusal>
     requires { replica.old.held ≡ false }
     ensures { TakesState replica.new (config_fault (config_of format bits range limit))
         (IsFresh (config_of format bits range limit)) result }
 {
-    let state = fresh(alloc, format, bits, range, limit)?;
+    let state = fresh(alloc, format, bits, range, limit, seed)?;
     replica.hold(state);
     Ok(())
 }
@@ -64,12 +94,13 @@ fn fresh(
     bits: u64,
     range: u64,
     limit: u64,
+    seed: Seed,
 ) -> Result<Box<RangeState, Global>, Refusal>
     ensures { Answers result (config_fault (config_of format bits range limit))
         (λ state. IsFresh (config_of format bits range limit) state.value) }
 {
     let config = RangeConfig::new(format, bits, range, limit).ok_or(Refusal::BadRing)?;
-    let state = RangeState::new(alloc, config)?;
+    let state = RangeState::seeded(alloc, config, seed)?;
     Ok(Box::new(alloc, state)?)
 }
 

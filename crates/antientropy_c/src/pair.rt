@@ -107,6 +107,10 @@ pub(crate) fn clock_of(alloc: Global, pairs: &[Pair]) -> Result<Clock, Refusal>
     requires { pairs_fault (clock_pairs pairs.now) ≡ None }
     ensures { Answers result None (λ clock. clock ≡ clock_of (clock_pairs pairs.now)) }
 {
+    // Most first puts of a key have no context.
+    if pairs.is_empty() {
+        return Ok(Clock::of_ascending(SmallVec::new(alloc)));
+    }
     let numbers = numbers_of(alloc, pairs)?;
     Clock::from_pairs(alloc, &numbers)
 }

@@ -12,10 +12,10 @@ use crate::output::hand_out;
 use crate::replica::Replica;
 use crate::versions::versions_of;
 use range_state::RangeState;
-use row_bytes::{Row, write_row};
+use row_bytes::write_held;
 use std::alloc::Global;
 use tree_nodes::Text;
-use vclock::{Bytes, Refusal, check_key};
+use vclock::{Refusal, check_key};
 
 /// Writes the text of the row of a key: no bytes if no version is held. Refused, in order: EMPTY, BadKey, NoMemory,
 /// SMALL.
@@ -40,20 +40,19 @@ pub extern "C" fn antientropy_get(
     hand_out(&outcome, out, need)
 }
 
-/// Writes the text of the row of a key.
+/// Writes the text of the row of a key. Copies neither the key nor the versions.
 fn row(alloc: Global, state: &RangeState, key: &[u8]) -> Result<Text, Refusal>
     ensures { Answers result (key_fault key.now) (λ bytes. bytes ≡ row_shown state.now key.now) }
 {
     check_key(key)?;
-    let versions = state.get(alloc, key)?;
-    if versions.as_slice().is_empty() {
+    let held = state.store().find(key);
+    let Some(set) = held.set() else {
+        return Ok(Text::from(Vec::new(alloc)));
+    };
+    if set.is_empty() {
         return Ok(Text::from(Vec::new(alloc)));
     }
-    let row = Row {
-        key: Bytes::copy_of(alloc, key)?,
-        versions,
-    };
-    let text = write_row(alloc, state.store().config().format(), &row)?;
+    let text = write_held(alloc, state.store().config().format(), key, set)?;
     Ok(Text::from(text))
 }
 
