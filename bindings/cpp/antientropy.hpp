@@ -1188,6 +1188,16 @@ public:
         return detail::result(number, std::move(made));
     }
 
+    /// Makes a replica as `make` does, which finds keys by a hash with a seed of two words. Random words make it hard
+    /// for clients to choose keys with equal hashes, which are slow to find. Refused: BadRing.
+    static Result<Replica> make_seeded(std::uint64_t first, std::uint64_t second, std::uint64_t format = 2,
+                                       std::uint64_t bits = 0, std::uint64_t range = 0,
+                                       std::uint64_t limit = ANTIENTROPY_ENTRIES_MAX) {
+        Replica made(format, bits, range);
+        const auto number = c::antientropy_new_seeded(made.at(), format, bits, range, limit, first, second);
+        return detail::result(number, std::move(made));
+    }
+
     /// Returns a new replica with the rows of a checkpoint, and a journal of at most `limit` entries. The root finds
     /// damage, but no forged file. Check `format`, `bits` and `range` against the configuration.
     /// Errors: NoCheckpoint, Truncated, Damaged, Refused.

@@ -57,6 +57,19 @@ func NewReplica(config Config) (*Replica, error) {
 	return made.owned(), nil
 }
 
+// NewSeededReplica makes an empty replica that finds keys by a hash with a seed of two words. Random words make it hard
+// for clients to choose keys with equal hashes, which are slow to find. Refused as [ErrBadRing] if a number is outside
+// its limits.
+func NewSeededReplica(config Config, first, second uint64) (*Replica, error) {
+	made := &replica{config: config}
+	format, bits, number := C.uint64_t(config.Format), C.uint64_t(config.Bits), C.uint64_t(config.Range)
+	limit, low, high := C.uint64_t(config.Limit), C.uint64_t(first), C.uint64_t(second)
+	if err := check(C.antientropy_new_seeded(&made.handle, format, bits, number, limit, low, high)); err != nil {
+		return nil, err
+	}
+	return made.owned(), nil
+}
+
 // Close frees the memory. Later calls are refused as [ErrEmpty], those of copies too; another Close does nothing. The
 // error is nil.
 //

@@ -221,6 +221,8 @@ func TestBadRings(t *testing.T) {
 	} {
 		_, err := antientropy.NewReplica(config)
 		refused(t, err, antientropy.ErrBadRing)
+		_, err = antientropy.NewSeededReplica(config, 1, 2)
+		refused(t, err, antientropy.ErrBadRing)
 	}
 }
 

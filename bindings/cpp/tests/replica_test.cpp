@@ -209,6 +209,7 @@ void rows_of_a_format() {
 
 void ranges() {
     REFUSED(BadRing, Replica::make(3));
+    REFUSED(BadRing, Replica::make_seeded(1, 2, 3));
     REFUSED(BadRing, Replica::make(2, 0, 1));
     REFUSED(BadRing, Replica::make(2, 0, 0, 0));
     const auto range = sure(place(2, 1, "cart")).range;

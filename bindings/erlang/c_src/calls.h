@@ -14,6 +14,7 @@
     X(merge, 2, SHORT)                                                                                                 \
     X(read_offer, 1, SHORT)                                                                                            \
     X(new, 4, LONG)                                                                                                    \
+    X(new_seeded, 6, LONG)                                                                                             \
     X(close, 1, LONG)                                                                                                  \
     X(renew, 2, LONG)                                                                                                  \
     X(migrate, 1, LONG)                                                                                                \

@@ -18,6 +18,24 @@ FUNCTION(new)
     return handle_result(env, made, number);
 }
 
+/* new_seeded(Format, Bits, Range, Limit, First, Second) -> {ok, Replica} */
+FUNCTION(new_seeded)
+{
+    struct range range = {0};
+    uint64_t limit, first, second;
+    if (!get_u64(env, argv[0], &range.format) || !get_u64(env, argv[1], &range.bits)
+        || !get_u64(env, argv[2], &range.number) || !get_u64(env, argv[3], &limit) || !get_u64(env, argv[4], &first)
+        || !get_u64(env, argv[5], &second))
+        return enif_make_badarg(env);
+    struct resource *made = make_resource(REPLICA);
+    if (made == NULL)
+        return refused(env, ANTIENTROPY_NO_MEMORY);
+    made->range = range;
+    uint32_t number =
+        antientropy_new_seeded(&made->replica, range.format, range.bits, range.number, limit, first, second);
+    return handle_result(env, made, number);
+}
+
 /* close(Replica) -> ok */
 CALL(REPLICA, close)
 {

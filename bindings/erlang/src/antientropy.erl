@@ -13,7 +13,7 @@
 -module(antientropy).
 
 -export([version/0, name/1, place/3, compare/2, merge/1, read_offer/1]).
--export([new/0, new/1, close/1, renew/1, renew/2, migrate/1, info/1, count/1]).
+-export([new/0, new/1, new_seeded/3, close/1, renew/1, renew/2, migrate/1, info/1, count/1]).
 -export([put/4, put/5, put_unread/5, accept/3, get/2, read/3, count_versions/2, value/3, clock/3, row/2]).
 -export([key_after/3, keys/1, keys/2, fold_keys/3, entry/2, entries/2, fold_entries/4, top_counter/3, top_counter/4]).
 -export([rehash/1, rehash_some/2, root/1, snapshot/1, snapshot/2, load_rows/2, load_format/3, save/2, load/1, load/2]).
@@ -105,6 +105,14 @@ new() ->
 new(Options) ->
     #{format := Format, bits := Bits, range := Range, limit := Limit} = with_defaults(Options, ?OPTIONS),
     antientropy_nif:new(Format, Bits, Range, Limit).
+
+%% @doc Makes a replica that finds keys by a hash with a seed of two words.
+%%
+%% Random words make it hard for clients to choose keys with equal hashes, which are slow to find. Refused: `bad_ring'.
+-spec new_seeded(options(), First :: non_neg_integer(), Second :: non_neg_integer()) -> {ok, replica()} | refused().
+new_seeded(Options, First, Second) ->
+    #{format := Format, bits := Bits, range := Range, limit := Limit} = with_defaults(Options, ?OPTIONS),
+    antientropy_nif:new_seeded(Format, Bits, Range, Limit, First, Second).
 
 %% Options, with the default of each that isn't there. Others are `badarg'.
 with_defaults(Options, Defaults) when is_map(Options) ->

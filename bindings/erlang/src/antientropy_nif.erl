@@ -4,8 +4,8 @@
 -on_load(load/0).
 
 -export([
-    version/0, name/1, place/3, compare/2, merge/2, read_offer/1, new/4, close/1, renew/2, migrate/1, info/1,
-    count/1, rehash/1, rehash_some/2, load_rows/2, load_format/3, put/5, put_unread/5, accept/3, get/2, read/3,
+    version/0, name/1, place/3, compare/2, merge/2, read_offer/1, new/4, new_seeded/6, close/1, renew/2, migrate/1,
+    info/1, count/1, rehash/1, rehash_some/2, load_rows/2, load_format/3, put/5, put_unread/5, accept/3, get/2, read/3,
     count_versions/2, value/3, clock/3, row/2, key_after/3, entry/2, top_counter/4, snapshot/2, snapshot_close/1,
     snapshot_info/1, root/1, offer/2, serve/3, rows/2, open/4, session/2, outstanding/2, ask/3, ask_at/4, asks/3,
     take/4, cancel/2, hints_new/0, hints_restore/1, hints_close/1, hint_keep/4, hint_next/3, hint/2, hint_confirm/3,
@@ -28,6 +28,7 @@ compare(_First, _Second) -> ?NOT_LOADED.
 merge(_First, _Second) -> ?NOT_LOADED.
 read_offer(_Offer) -> ?NOT_LOADED.
 new(_Format, _Bits, _Range, _Limit) -> ?NOT_LOADED.
+new_seeded(_Format, _Bits, _Range, _Limit, _First, _Second) -> ?NOT_LOADED.
 close(_Replica) -> ?NOT_LOADED.
 renew(_Replica, _Limit) -> ?NOT_LOADED.
 migrate(_Replica) -> ?NOT_LOADED.

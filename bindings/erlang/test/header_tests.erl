@@ -11,6 +11,7 @@
     "name" => {antientropy, name, 1},
     "place" => {antientropy, place, 3},
     "new" => {antientropy, new, 1},
+    "new_seeded" => {antientropy, new_seeded, 3},
     "free" => {antientropy, close, 1},
     "renew" => {antientropy, renew, 2},
     "migrate" => {antientropy, migrate, 1},

@@ -113,7 +113,10 @@ dirty(Replica) ->
 
 bad_ring(Replica) ->
     [
-        refused(bad_ring, Replica, new, [Options])
+        begin
+            refused(bad_ring, Replica, new, [Options]),
+            refused(bad_ring, Replica, new_seeded, [Options, 1, 2])
+        end
      || Options <- [
             #{format => 3},
             #{format => 258},

@@ -41,6 +41,7 @@ CALLS: Dict[str, Tuple[Any, Tuple[Any, ...]]] = {
     "name": (c_uint32, (c_uint32, *_OUT)),
     "place": (c_uint32, (c_uint64, c_uint64, *_BYTES, *_STRUCT)),
     "new": (c_uint32, (*_HANDLE, c_uint64, c_uint64, c_uint64, c_uint64)),
+    "new_seeded": (c_uint32, (*_HANDLE, *(c_uint64,) * 6)),
     "free": (None, _HANDLE),
     "renew": (c_uint32, (*_HANDLE, *_HANDLE, c_uint64)),
     "migrate": (c_uint32, _HANDLE),

@@ -41,6 +41,20 @@ class Replica(Handle):
         self._prepare(current(), format, bits, range)
         self._call("new", *(fits(number, 64) for number in (format, bits, range, limit)))
 
+    @classmethod
+    def seeded(
+        cls, first: int, second: int, format: int = 2, bits: int = 0, range: int = 0, limit: int = _LIMIT
+    ) -> Replica:
+        """Makes a replica that finds keys by a hash with a seed of two words.
+
+        Random words make it hard for clients to choose keys with equal hashes, which are slow to find. Raises BadRing
+        if a number is outside its limits.
+        """
+        made = cls.__new__(cls)
+        made._prepare(current(), format, bits, range)
+        made._call("new_seeded", *(fits(number, 64) for number in (format, bits, range, limit, first, second)))
+        return made
+
     def _prepare(self, library: Library, format: int, bits: int, range: int) -> None:
         super().__init__(library)
         self.format, self.bits, self.range = format, bits, range

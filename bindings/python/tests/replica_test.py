@@ -289,6 +289,7 @@ class RefusalTest(ReplicaCase):
     def test_bad_ring(self):
         for args in ((3,), (2, 9), (2, 1, 2), (2, 0, 0, 0)):
             self.refused("BadRing", Replica, *args)
+            self.refused("BadRing", Replica.seeded, 1, 2, *args)
         self.refused("BadRing", antientropy.place, 3, 0, b"k")
         self.refused("BadRing", self.replica.renew, 0)
         self.refused("BadRing", self.replica.load_format, 3, b"")

@@ -87,6 +87,22 @@ impl Replica {
         Ok(Replica { handle, config })
     }
 
+    /// Makes an empty replica that finds keys by a hash with a seed.
+    ///
+    /// Random words make it hard for clients to choose keys with equal hashes, which are slow to find. Refused as
+    /// `BadRing` if a number is outside its limits.
+    pub fn seeded(config: Config, seed: [u64; 2]) -> Result<Replica, Refusal> {
+        let Config { format, bits, range, limit } = config;
+        let [first, second] = seed;
+        let handle = Owned::make(sys::antientropy_free, |raw| {
+            // SAFETY: the handle is empty and a local one.
+            unsafe {
+                sys::antientropy_new_seeded(raw, format.into(), bits.into(), range.into(), limit, first, second)
+            }
+        })?;
+        Ok(Replica { handle, config })
+    }
+
     /// Returns a new replica with the versions that are held: one entry for each, and no sessions.
     ///
     /// This one is left unchanged: drop it, and go on with the new one under the same node number. Refused as `BadRing`

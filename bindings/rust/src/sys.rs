@@ -71,6 +71,15 @@ extern "C" {
     pub fn antientropy_name(number: u32, out: *mut u8, out_len: usize, need: *mut u64) -> u32;
     pub fn antientropy_place(format: u64, bits: u64, key: *const u8, key_len: usize, spot: *mut Spot) -> u32;
     pub fn antientropy_new(replica: *mut Handle, format: u64, bits: u64, range: u64, limit: u64) -> u32;
+    pub fn antientropy_new_seeded(
+        replica: *mut Handle,
+        format: u64,
+        bits: u64,
+        range: u64,
+        limit: u64,
+        first: u64,
+        second: u64,
+    ) -> u32;
     pub fn antientropy_free(replica: *mut Handle);
     pub fn antientropy_renew(from: *mut Handle, into: *mut Handle, limit: u64) -> u32;
     pub fn antientropy_migrate(replica: *mut Handle) -> u32;

@@ -163,7 +163,17 @@ fn bad_rings() {
     ];
     for config in bad {
         assert_eq!(Replica::new(config).err(), Some(Refusal::BadRing));
+        assert_eq!(Replica::seeded(config, [1, 2]).err(), Some(Refusal::BadRing));
     }
+}
+
+#[test]
+fn a_seed_leaves_the_rows_unchanged() {
+    let mut seeded = Replica::seeded(Config::default(), [1, 2]).unwrap();
+    seeded.put(1, b"cart", Some(b"milk"), &Clock::new()).unwrap();
+    let mut plain = Replica::new(Config::default()).unwrap();
+    plain.put(1, b"cart", Some(b"milk"), &Clock::new()).unwrap();
+    assert_eq!(seeded.get(b"cart"), plain.get(b"cart"));
 }
 
 #[test]
