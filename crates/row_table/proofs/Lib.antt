@@ -1,1 +1,2 @@
+pub mod LargerLaws
 pub mod TableLaws

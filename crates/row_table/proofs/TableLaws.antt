@@ -1,17 +1,17 @@
 -- Where a table finds its rows.
-use Rattle.std.proofs.Common.{◌≡◌, ◌≢◌, ℕ, zero, suc, ◌+◌, ◌<◌, ◌≤◌, Bool, true, false, cond, List, [], ◌∷◌, ◌++◌, length, Option, Some, None, refl, sym, ap, subst, arith, ◌∙◌, inl, inr, slice_get, slice_set, eq-eqb, eqb-true, true≢false, add-one}
+use Rattle.std.proofs.Common.{◌≡◌, ◌≢◌, ℕ, zero, suc, ◌+◌, ◌-◌, ◌%◌, ◌<◌, ◌≤◌, Bool, true, false, cond, List, [], ◌∷◌, ◌++◌, length, Option, Some, None, refl, sym, ap, subst, arith, ◌∙◌, inl, inr, slice_get, slice_set, slice_index_or, replicate, eq-eqb, eqb-true, true≢false, add-one}
 use Rattle.std.specs.Prelude.{bytes_eq, nat_eq, unwrap_or, option_map}
 use Rattle.std.specs.List.{AllByRecursion, list_any}
-use Rattle.std.specs.HashMap.{HashMap, get}
 use Rattle.std.proofs.lemmas.Bool.{cases_lt, cases_Bool}
-use Rattle.std.proofs.lemmas.List.{length-append}
-use Rattle.std.proofs.lemmas.Option.{slice_get_within}
+use Rattle.std.proofs.lemmas.List.{length-append, length-set, length-replicate, get_or-replicate}
+use Rattle.std.proofs.lemmas.Nat.{mod_below}
+use Rattle.std.proofs.lemmas.Option.{slice_get_within, slice_get_past, slice_get-get_or, unwrap_or-slice_get, get_or_from_slice_get}
 use Rattle.std.proofs.lemmas.Slice.Eq.{bytes_eq-Decides}
 use Rattle.row_table.specs.declared.seed.Seed.{Seed}
 use Rattle.row_table.specs.declared.table.TableRow.{TableRow}
 use Rattle.row_table.specs.Hashes.{key_hash}
 use Rattle.version_set.specs.declared.version.Version.{Version}
-use Rattle.row_table.specs.Tables.{Table, is_with, last_with, before, is_of, hashes_to, at_place, place_of, set_at, set_in, put_in, with_put, with_all, IsIndex}
+use Rattle.row_table.specs.Tables.{Table, is_with, last_with, before, is_of, bucket_of, is_in, at_place, place_of, set_at, set_in, put_in, with_put, with_all, IsIndex}
 
 -- ---- places of a list
 
@@ -20,9 +20,26 @@ got_left [] ys i below = absurd (omega arith)
 got_left (x ∷ xs) ys zero below = refl
 got_left (x ∷ xs) ys (suc i) below = got_left xs ys i (omega arith)
 
+got_right : {X : Type 0} → (xs ys : List X) (i : ℕ) → length xs ≤ i → slice_get (xs ++ ys) i ≡ slice_get ys (i - length xs)
+got_right [] ys i past = let same : i ≡ i - 0 = omega arith in ap (slice_get ys) same
+got_right (x ∷ xs) ys zero past = absurd (omega (arith, past))
+got_right (x ∷ xs) ys (suc i) past = let same : i - length xs ≡ suc i - suc (length xs) = omega arith in got_right xs ys i (omega (arith, past)) ∙ ap (slice_get ys) same
+
 got_last : {X : Type 0} → (xs : List X) (y : X) → slice_get (xs ++ y ∷ []) (length xs) ≡ Some y
 got_last [] y = refl
 got_last (x ∷ xs) y = got_last xs y
+
+got_set : {X : Type 0} → (xs : List X) (i : ℕ) (x new : X) → slice_get xs i ≡ Some x → slice_get (slice_set xs i new) i ≡ Some new
+got_set [] i x new at = absurd (let no : None ≡ Some x = at in cc)
+got_set (y ∷ xs) zero x new at = refl
+got_set (y ∷ xs) (suc i) x new at = got_set xs i x new at
+
+got_other : {X : Type 0} → (xs : List X) (i j : ℕ) (new : X) → i ≢ j → slice_get (slice_set xs i new) j ≡ slice_get xs j
+got_other [] i j new apart = refl
+got_other (y ∷ xs) zero zero new apart = absurd (apart refl)
+got_other (y ∷ xs) zero (suc j) new apart = refl
+got_other (y ∷ xs) (suc i) zero new apart = refl
+got_other (y ∷ xs) (suc i) (suc j) new apart = got_other xs i j new (λ same. apart (ap suc same))
 
 -- ---- the last row with a property
 
@@ -49,109 +66,209 @@ last_has test rs (suc n) i h = by_test (last_has test rs n i) (is_with test (sli
     by_test rest true is e = let same : n ≡ i = omega arith in (omega arith, subst (λ j. is_with test (slice_get rs j) ≡ true) same is)
     by_test rest false is e = let known = rest e in (omega (arith, known.0), known.1)
 
--- a row of the key has the hash of the key
-of_hash : (seed : Seed) (key : List ℕ) (o : Option TableRow) → is_with (hashes_to seed (key_hash seed key)) o ≡ false → is_with (is_of key) o ≡ false
-of_hash seed key None apart = refl
-of_hash seed key (Some r) apart = elim (cases_Bool (bytes_eq r.key key)) [
-  | inl same ↦ absurd (true≢false (sym (eq-eqb (key_hash seed r.key) (key_hash seed key) (ap (key_hash seed) ((bytes_eq-Decides r.key key).0 same))) ∙ apart))
+-- a row of the key is in the bucket of the key
+of_bucket : (seed : Seed) (size : ℕ) (key : List ℕ) (o : Option TableRow) → is_with (is_in seed size (bucket_of seed size key)) o ≡ false → is_with (is_of key) o ≡ false
+of_bucket seed size key None apart = refl
+of_bucket seed size key (Some r) apart = elim (cases_Bool (bytes_eq r.key key)) [
+  | inl same ↦ absurd (true≢false (sym (eq-eqb (bucket_of seed size r.key) (bucket_of seed size key) (ap (bucket_of seed size) ((bytes_eq-Decides r.key key).0 same))) ∙ apart))
   | inr differ ↦ differ
 ]
 
--- the last row of a key among the first n is the last one up to the last row of its hash among them
-by_hash : (seed : Seed) (key : List ℕ) (rs : List TableRow) (n : ℕ) → last_with (is_of key) rs (last_with (hashes_to seed (key_hash seed key)) rs n) ≡ last_with (is_of key) rs n
-by_hash seed key rs zero = refl
-by_hash seed key rs (suc n) = by_test (by_hash seed key rs n) (is_with (hashes_to seed (key_hash seed key)) (slice_get rs n)) refl
+-- the last row of a key among the first n is the last one up to the last row of its bucket among them
+by_bucket : (seed : Seed) (size : ℕ) (key : List ℕ) (rs : List TableRow) (n : ℕ) → last_with (is_of key) rs (last_with (is_in seed size (bucket_of seed size key)) rs n) ≡ last_with (is_of key) rs n
+by_bucket seed size key rs zero = refl
+by_bucket seed size key rs (suc n) = by_test (by_bucket seed size key rs n) (is_with (is_in seed size (bucket_of seed size key)) (slice_get rs n)) refl
   where
-    by_test : last_with (is_of key) rs (last_with (hashes_to seed (key_hash seed key)) rs n) ≡ last_with (is_of key) rs n → (b : Bool) → is_with (hashes_to seed (key_hash seed key)) (slice_get rs n) ≡ b
-        → last_with (is_of key) rs (cond b (suc n) (last_with (hashes_to seed (key_hash seed key)) rs n)) ≡ cond (is_with (is_of key) (slice_get rs n)) (suc n) (last_with (is_of key) rs n)
+    test : TableRow → Bool
+    test = is_in seed size (bucket_of seed size key)
+
+    by_test : last_with (is_of key) rs (last_with test rs n) ≡ last_with (is_of key) rs n → (b : Bool) → is_with test (slice_get rs n) ≡ b
+        → last_with (is_of key) rs (cond b (suc n) (last_with test rs n)) ≡ cond (is_with (is_of key) (slice_get rs n)) (suc n) (last_with (is_of key) rs n)
     by_test rest true is = refl
-    by_test rest false is = rest ∙ ap (λ b. cond b (suc n) (last_with (is_of key) rs n)) (sym (of_hash seed key (slice_get rs n) is))
+    by_test rest false is = rest ∙ ap (λ b. cond b (suc n) (last_with (is_of key) rs n)) (sym (of_bucket seed size key (slice_get rs n) is))
 
--- ---- a search back through the rows of a hash
+-- ---- a search back through the rows of a bucket
 
--- The next row to be looked at, or 0: the last row of the hash among the first `from`, which have the key's last row.
-pub record IsSearched (seed : Seed) (rs : List TableRow) (key : List ℕ) (next : ℕ) : Type 0 where
+-- The next row to be looked at, or 0: the last row of the bucket among the first `from`, which have the key's last row.
+pub record IsSearched (seed : Seed) (size : ℕ) (rs : List TableRow) (key : List ℕ) (next : ℕ) : Type 0 where
   pub from : ℕ
   pub within : from ≤ length rs
-  pub next_is : next ≡ last_with (hashes_to seed (key_hash seed key)) rs from
+  pub next_is : next ≡ last_with (is_in seed size (bucket_of seed size key)) rs from
   pub among : last_with (is_of key) rs (length rs) ≡ last_with (is_of key) rs from
 
-pub search_begins : {S : Type 0} (seed : Seed) (rs : List TableRow) (earlier : List ℕ) (last : HashMap ℕ ℕ S) (key : List ℕ) (hash next : ℕ) → IsIndex seed rs earlier last → hash ≡ key_hash seed key
-    → next ≡ unwrap_or (get nat_eq last hash) 0 → IsSearched seed rs key next
-search_begins seed rs earlier last key hash next is hashed first = record {
+pub search_begins : (seed : Seed) (rs : List TableRow) (size : ℕ) (last earlier : List ℕ) (key : List ℕ) (next : ℕ) → IsIndex seed rs size last earlier → length earlier ≡ length rs
+    → next ≡ slice_index_or last (bucket_of seed size key) 0 → IsSearched seed size rs key next
+search_begins seed rs size last earlier key next is all first = record {
   from = length rs;
   within = omega arith;
-  next_is = first ∙ is.last_is hash ∙ ap (λ h. last_with (hashes_to seed h) rs (length rs)) hashed;
+  next_is = first ∙ sym (unwrap_or-slice_get last bucket 0) ∙ elim (cases_lt bucket (length last)) [
+    | inl lt ↦ ap (λ o. unwrap_or o 0) (is.last_is bucket lt) ∙ ap (last_with (is_in seed size bucket) rs) all
+    | inr ge ↦
+        let none : slice_get last bucket ≡ None = slice_get_past last bucket ge in
+        let no_rows : length rs ≡ 0 = empty (length earlier) refl ge in
+        ap (λ o. unwrap_or o 0) none ∙ ap (last_with (is_in seed size bucket) rs) (sym no_rows)
+  ];
   among = refl;
 }
+  where
+    bucket : ℕ
+    bucket = bucket_of seed size key
+
+    empty : (n : ℕ) → length earlier ≡ n → length last ≤ bucket → length rs ≡ 0
+    empty zero none ge = sym all ∙ none
+    empty (suc n) some ge =
+        let whole : length last ≡ size = is.whole (omega (arith, some)) in
+        absurd (omega (arith, whole, ge, mod_below (key_hash seed key % 4294967296) size is.some))
 
 -- the next row is among the rows
-pub search_within : (seed : Seed) (rs : List TableRow) (key : List ℕ) (next : ℕ) → IsSearched seed rs key next → next ≤ length rs
-search_within seed rs key next s = omega (arith, s.next_is, s.within, last_within (hashes_to seed (key_hash seed key)) rs s.from)
+pub search_within : (seed : Seed) (size : ℕ) (rs : List TableRow) (key : List ℕ) (next : ℕ) → IsSearched seed size rs key next → next ≤ length rs
+search_within seed size rs key next s = omega (arith, s.next_is, s.within, last_within (is_in seed size (bucket_of seed size key)) rs s.from)
 
 -- the last row of the key is the last one up to the next row
-up_to_next : (seed : Seed) (rs : List TableRow) (key : List ℕ) (next : ℕ) → IsSearched seed rs key next → last_with (is_of key) rs (length rs) ≡ last_with (is_of key) rs next
-up_to_next seed rs key next s = s.among ∙ sym (by_hash seed key rs s.from) ∙ ap (last_with (is_of key) rs) (sym s.next_is)
+up_to_next : (seed : Seed) (size : ℕ) (rs : List TableRow) (key : List ℕ) (next : ℕ) → IsSearched seed size rs key next → last_with (is_of key) rs (length rs) ≡ last_with (is_of key) rs next
+up_to_next seed size rs key next s = s.among ∙ sym (by_bucket seed size key rs s.from) ∙ ap (last_with (is_of key) rs) (sym s.next_is)
 
 -- no row is left
-pub search_ends : (seed : Seed) (rs : List TableRow) (key : List ℕ) (next : ℕ) → IsSearched seed rs key next → next ≡ 0 → place_of rs key ≡ None
-search_ends seed rs key next s none = ap before (up_to_next seed rs key next s ∙ ap (last_with (is_of key) rs) none)
+pub search_ends : (seed : Seed) (size : ℕ) (rs : List TableRow) (key : List ℕ) (next : ℕ) → IsSearched seed size rs key next → next ≡ 0 → place_of rs key ≡ None
+search_ends seed size rs key next s none = ap before (up_to_next seed size rs key next s ∙ ap (last_with (is_of key) rs) none)
 
 -- the next row is of the key
-pub search_finds : (seed : Seed) (rs : List TableRow) (key : List ℕ) (next place : ℕ) (r : TableRow) → IsSearched seed rs key next → next ≡ suc place → slice_get rs place ≡ Some r → bytes_eq r.key key ≡ true
+pub search_finds : (seed : Seed) (size : ℕ) (rs : List TableRow) (key : List ℕ) (next place : ℕ) (r : TableRow) → IsSearched seed size rs key next → next ≡ suc place → slice_get rs place ≡ Some r → bytes_eq r.key key ≡ true
     → place_of rs key ≡ Some place
-search_finds seed rs key next place r s one at same = ap before (
-    up_to_next seed rs key next s ∙ ap (last_with (is_of key) rs) one ∙ ap (λ b. cond b (suc place) (last_with (is_of key) rs place)) (ap (is_with (is_of key)) at ∙ same)
+search_finds seed size rs key next place r s one at same = ap before (
+    up_to_next seed size rs key next s ∙ ap (last_with (is_of key) rs) one ∙ ap (λ b. cond b (suc place) (last_with (is_of key) rs place)) (ap (is_with (is_of key)) at ∙ same)
     )
 
 -- the next row is of another key
-pub search_goes_on : {S : Type 0} (seed : Seed) (rs : List TableRow) (earlier : List ℕ) (last : HashMap ℕ ℕ S) (key : List ℕ) (next place : ℕ) (r : TableRow) (new : ℕ) → IsIndex seed rs earlier last → IsSearched seed rs key next
-    → next ≡ suc place → slice_get rs place ≡ Some r → bytes_eq r.key key ≡ false → slice_get earlier place ≡ Some new → IsSearched seed rs key new × (new < next)
-search_goes_on seed rs earlier last key next place r new is s one at differ linked =
-    let hash = key_hash seed key in
-    let here = last_has (hashes_to seed hash) rs s.from place (sym s.next_is ∙ one) in
-    let of_hash : key_hash seed r.key ≡ hash = eqb-true (key_hash seed r.key) hash (ap (is_with (hashes_to seed hash)) (sym at) ∙ here.1) in
-    let known : Some new ≡ Some (last_with (hashes_to seed (key_hash seed r.key)) rs place) = sym linked ∙ is.earlier_is place r at in
-    let same : new ≡ last_with (hashes_to seed (key_hash seed r.key)) rs place = cc in
-    let next_is : new ≡ last_with (hashes_to seed hash) rs place = same ∙ ap (λ h. last_with (hashes_to seed h) rs place) of_hash in (
+pub search_goes_on : (seed : Seed) (rs : List TableRow) (size : ℕ) (last earlier : List ℕ) (key : List ℕ) (next place : ℕ) (r : TableRow) (new : ℕ) → IsIndex seed rs size last earlier → length earlier ≡ length rs
+    → IsSearched seed size rs key next → next ≡ suc place → slice_get rs place ≡ Some r → bytes_eq r.key key ≡ false → slice_get earlier place ≡ Some new → IsSearched seed size rs key new × (new < next)
+search_goes_on seed rs size last earlier key next place r new is all s one at differ linked =
+    let bucket = bucket_of seed size key in
+    let here = last_has (is_in seed size bucket) rs s.from place (sym s.next_is ∙ one) in
+    let of_bucket : bucket_of seed size r.key ≡ bucket = eqb-true (bucket_of seed size r.key) bucket (ap (is_with (is_in seed size bucket)) (sym at) ∙ here.1) in
+    let below = slice_get_within rs place r at in
+    let known : Some new ≡ Some (last_with (is_in seed size (bucket_of seed size r.key)) rs place) = sym linked ∙ is.earlier_is place r (omega (arith, below, all)) at in
+    let same : new ≡ last_with (is_in seed size (bucket_of seed size r.key)) rs place = cc in
+    let next_is : new ≡ last_with (is_in seed size bucket) rs place = same ∙ ap (λ b. last_with (is_in seed size b) rs place) of_bucket in (
       record {
         from = place;
-        within = omega (arith, slice_get_within rs place r at);
+        within = omega (arith, below);
         next_is = next_is;
-        among = up_to_next seed rs key next s ∙ ap (last_with (is_of key) rs) one ∙ ap (λ b. cond b (suc place) (last_with (is_of key) rs place)) (ap (is_with (is_of key)) at ∙ differ);
+        among = up_to_next seed size rs key next s ∙ ap (last_with (is_of key) rs) one ∙ ap (λ b. cond b (suc place) (last_with (is_of key) rs place)) (ap (is_with (is_of key)) at ∙ differ);
       },
-      omega (arith, next_is, one, last_within (hashes_to seed hash) rs place),
+      omega (arith, next_is, one, last_within (is_in seed size bucket) rs place),
     )
 
--- ---- one more row
+-- ---- an index that grows
 
-pub inserted : {S T : Type 0} (seed : Seed) (rs : List TableRow) (r : TableRow) (earlier : List ℕ) (last : HashMap ℕ ℕ S) (hash : ℕ) (now : List TableRow) (then : List ℕ) (new : HashMap ℕ ℕ T) → IsIndex seed rs earlier last
-    → hash ≡ key_hash seed r.key → now ≡ rs ++ r ∷ [] → then ≡ earlier ++ unwrap_or (get nat_eq last hash) 0 ∷ []
-    → ((h : ℕ) → unwrap_or (get nat_eq new h) 0 ≡ cond (nat_eq hash h) (length rs + 1) (unwrap_or (get nat_eq last h) 0)) → IsIndex seed now then new
-inserted {T = T} seed rs r earlier last hash now then new is hashed rows links puts = subst (λ (xs : List TableRow). IsIndex seed xs then new) (sym rows) (subst (λ (ns : List ℕ). IsIndex seed (rs ++ r ∷ []) ns new) (sym links) (record {
-  last_is = λ h.
-      puts h
-      ∙ (λ i. cond (nat_eq (hashed i) h) (add-one (length rs) i) (is.last_is h i))
-      ∙ (λ i. cond (is_with (hashes_to seed h) (sym (got_last rs r) i)) (suc (length rs)) (sym (last_of_more (hashes_to seed h) rs (r ∷ []) (length rs) (omega arith)) i))
-      ∙ ap (last_with (hashes_to seed h) (rs ++ r ∷ [])) (let long = length-append rs (r ∷ []) in let same : suc (length rs) ≡ length (rs ++ r ∷ []) = omega (arith, long) in same);
-  earlier_is = λ i x at. elim (cases_lt i (length rs)) [
-    | inl lt ↦
-        got_left earlier _ i (omega (arith, is.all))
-        ∙ is.earlier_is i x (sym (got_left rs (r ∷ []) i lt) ∙ at)
-        ∙ ap Some (sym (last_of_more (hashes_to seed (key_hash seed x.key)) rs (r ∷ []) i (omega arith)))
-    | inr ge ↦
-        let within = slice_get_within (rs ++ r ∷ []) i x at in
-        let end : i ≡ length rs = omega (arith, within, length-append rs (r ∷ [])) in
-        let own : Some r ≡ Some x = sym (got_last rs r) ∙ ap (slice_get (rs ++ r ∷ [])) (sym end) ∙ at in
-        let one : r ≡ x = cc in
-        ap (slice_get (earlier ++ unwrap_or (get nat_eq last hash) 0 ∷ [])) (end ∙ sym is.all)
-        ∙ got_last earlier (unwrap_or (get nat_eq last hash) 0)
-        ∙ ap Some (is.last_is hash)
-        ∙ ap Some (sym (last_of_more (hashes_to seed hash) rs (r ∷ []) (length rs) (omega arith)))
-        ∙ (λ j. Some (last_with (hashes_to seed ((hashed ∙ ap (λ (y : TableRow). key_hash seed y.key) one) j)) (rs ++ r ∷ []) (sym end j)))
+-- a row is added that is in the list
+pub added : (seed : Seed) (rs : List TableRow) (size : ℕ) (last earlier : List ℕ) (r : TableRow) (now then : List ℕ) → IsIndex seed rs size last earlier → length last ≡ size → slice_get rs (length earlier) ≡ Some r
+    → now ≡ slice_set last (bucket_of seed size r.key) (length earlier + 1) → then ≡ earlier ++ slice_index_or last (bucket_of seed size r.key) 0 ∷ [] → IsIndex seed rs size now then
+added seed rs size last earlier r now then is whole at sets links = subst (λ (ns : List ℕ). IsIndex seed rs size ns then) (sym sets) (subst (λ (ns : List ℕ). IsIndex seed rs size (slice_set last bucket (length earlier + 1)) ns) (sym links) (record {
+  some = is.some;
+  last_is = λ b below. elim (cases_Bool (nat_eq bucket b)) [
+    | inl eq ↦
+        let same : bucket ≡ b = eqb-true bucket b eq in
+        ap (slice_get (slice_set last bucket (length earlier + 1))) (sym same)
+        ∙ got_set last bucket known (length earlier + 1) there
+        ∙ ap Some (add-one (length earlier) ∙ (λ i. cond (sym (ap (is_with (is_in seed size b)) at ∙ eq) i) (suc (length earlier)) (last_with (is_in seed size b) rs (length earlier))) ∙ ap (last_with (is_in seed size b) rs) (sym more))
+    | inr apart ↦
+        got_other last bucket b (length earlier + 1) (λ same. true≢false (sym (eq-eqb bucket b same) ∙ apart))
+        ∙ is.last_is b (omega (arith, below, long))
+        ∙ ap Some ((λ i. cond (sym (ap (is_with (is_in seed size b)) at ∙ apart) i) (suc (length earlier)) (last_with (is_in seed size b) rs (length earlier))) ∙ ap (last_with (is_in seed size b) rs) (sym more))
   ];
-  all = omega (arith, is.all, length-append rs (r ∷ []), length-append earlier (unwrap_or (get nat_eq last hash) 0 ∷ []));
+  earlier_is = λ i x below here. elim (cases_lt i (length earlier)) [
+    | inl lt ↦ got_left earlier _ i lt ∙ is.earlier_is i x lt here
+    | inr ge ↦
+        let end : i ≡ length earlier = omega (arith, below, ge, more) in
+        let own : Some r ≡ Some x = sym at ∙ ap (slice_get rs) (sym end) ∙ here in
+        let one : r ≡ x = cc in
+        ap (slice_get (earlier ++ slice_index_or last bucket 0 ∷ [])) end
+        ∙ got_last earlier (slice_index_or last bucket 0)
+        ∙ ap Some value
+        ∙ (λ j. Some (last_with (is_in seed size (bucket_of seed size (one j).key)) rs (sym end j)))
+  ];
+  few = omega (arith, long, is.few);
+  within = omega (arith, more, slice_get_within rs (length earlier) r at);
+  whole = λ some. long ∙ whole;
 }))
+  where
+    bucket : ℕ
+    bucket = bucket_of seed size r.key
+
+    known : ℕ
+    known = last_with (is_in seed size bucket) rs (length earlier)
+
+    there : slice_get last bucket ≡ Some known
+    there = is.last_is bucket (omega (arith, whole, mod_below (key_hash seed r.key % 4294967296) size is.some))
+
+    value : slice_index_or last bucket 0 ≡ known
+    value = get_or_from_slice_get last bucket known 0 there
+
+    long : length (slice_set last bucket (length earlier + 1)) ≡ length last
+    long = length-set last bucket (length earlier + 1)
+
+    more : length (earlier ++ slice_index_or last bucket 0 ∷ []) ≡ suc (length earlier)
+    more = let both = length-append earlier (slice_index_or last bucket 0 ∷ []) in omega (arith, both)
+
+-- the list has more rows
+pub of_more : (seed : Seed) (rs ts : List TableRow) (size : ℕ) (last earlier : List ℕ) → IsIndex seed rs size last earlier → IsIndex seed (rs ++ ts) size last earlier
+of_more seed rs ts size last earlier is = record {
+  some = is.some;
+  last_is = λ b below. is.last_is b below ∙ ap Some (sym (last_of_more (is_in seed size b) rs ts (length earlier) is.within));
+  earlier_is = λ i x below here.
+      is.earlier_is i x below (sym (got_left rs ts i (omega (arith, below, is.within))) ∙ here)
+      ∙ ap Some (sym (last_of_more (is_in seed size (bucket_of seed size x.key)) rs ts i (omega (arith, below, is.within))));
+  few = is.few;
+  within = omega (arith, is.within, length-append rs ts);
+  whole = is.whole;
+}
+
+-- an index without buckets and rows
+pub begun : (seed : Seed) (rs : List TableRow) (size : ℕ) → 0 < size → IsIndex seed rs size [] []
+begun seed rs size some = record {
+  some = some;
+  last_is = λ b below. absurd (omega (arith, below));
+  earlier_is = λ i x below here. absurd (omega (arith, below));
+  few = omega arith;
+  within = omega arith;
+  whole = λ rows. absurd (omega (arith, rows));
+}
+
+-- an index that hasn't all buckets has no rows
+pub no_rows : (seed : Seed) (rs : List TableRow) (size : ℕ) (last earlier : List ℕ) → IsIndex seed rs size last earlier → nat_eq (length last) size ≡ false → length earlier ≡ 0
+no_rows seed rs size last earlier is partly = elim (cases_lt 0 (length earlier)) [
+  | inl some ↦ absurd (true≢false (sym (eq-eqb (length last) size (is.whole some)) ∙ partly))
+  | inr none ↦ omega (arith, none)
+]
+
+-- an index without rows has more buckets
+pub widened : (seed : Seed) (rs : List TableRow) (size : ℕ) (last earlier : List ℕ) (n : ℕ) (now : List ℕ) → IsIndex seed rs size last earlier → length earlier ≡ 0 → length last + n ≤ size → now ≡ last ++ replicate n 0
+    → IsIndex seed rs size now earlier
+widened seed rs size last earlier n now is none few more = subst (λ (ns : List ℕ). IsIndex seed rs size ns earlier) (sym more) (record {
+  some = is.some;
+  last_is = λ b below. elim (cases_lt b (length last)) [
+    | inl lt ↦ got_left last zeros b lt ∙ is.last_is b lt
+    | inr ge ↦
+        let in_zeros : b - length last < length zeros = omega (arith, below, ge, both) in
+        got_right last zeros b ge
+        ∙ slice_get-get_or zeros (b - length last) 0 in_zeros
+        ∙ ap Some (get_or-replicate n (b - length last) 0 0 (omega (arith, in_zeros, long)) ∙ ap (last_with (is_in seed size b) rs) (sym none))
+  ];
+  earlier_is = is.earlier_is;
+  few = omega (arith, few, both, long);
+  within = is.within;
+  whole = λ some. absurd (omega (arith, some, none));
+})
+  where
+    zeros : List ℕ
+    zeros = replicate n 0
+
+    long : length zeros ≡ n
+    long = let no_row : ℕ = 0 in length-replicate n no_row
+
+    both : length (last ++ zeros) ≡ length last + length zeros
+    both = length-append last zeros
 
 -- ---- other versions in a row
 
@@ -178,23 +295,21 @@ was (z ∷ rs) zero r new (suc i) x at same there = (x, there, refl)
 was (z ∷ rs) (suc place) r new zero x at same there = (x, there, refl)
 was (z ∷ rs) (suc place) r new (suc i) x at same there = was rs place r new i x at same there
 
-pub same_length : (rs : List TableRow) (place : ℕ) (new : TableRow) → length (slice_set rs place new) ≡ length rs
-same_length [] place new = refl
-same_length (x ∷ rs) zero new = refl
-same_length (x ∷ rs) (suc place) new = ap suc (same_length rs place new)
-
-pub replaced : {S : Type 0} (seed : Seed) (rs : List TableRow) (earlier : List ℕ) (last : HashMap ℕ ℕ S) (place : ℕ) (r new : TableRow) → IsIndex seed rs earlier last → slice_get rs place ≡ Some r → new.key ≡ r.key
-    → IsIndex seed (slice_set rs place new) earlier last
-replaced seed rs earlier last place r new is at same =
-    let tests : (h : ℕ) → hashes_to seed h new ≡ hashes_to seed h r = λ h. ap (λ k. nat_eq (key_hash seed k) h) same in
+pub replaced : (seed : Seed) (rs : List TableRow) (size : ℕ) (last earlier : List ℕ) (place : ℕ) (r new : TableRow) → IsIndex seed rs size last earlier → slice_get rs place ≡ Some r → new.key ≡ r.key
+    → IsIndex seed (slice_set rs place new) size last earlier
+replaced seed rs size last earlier place r new is at same =
+    let tests : (b : ℕ) → is_in seed size b new ≡ is_in seed size b r = λ b. ap (λ k. nat_eq (bucket_of seed size k) b) same in
     record {
-      last_is = λ h. is.last_is h ∙ sym (last_kept (hashes_to seed h) rs place r new at (tests h) (length rs)) ∙ ap (last_with (hashes_to seed h) (slice_set rs place new)) (sym (same_length rs place new));
-      earlier_is = λ i x there.
+      some = is.some;
+      last_is = λ b below. is.last_is b below ∙ ap Some (sym (last_kept (is_in seed size b) rs place r new at (tests b) (length earlier)));
+      earlier_is = λ i x below there.
           let old = was rs place r new i x at same there in
-          is.earlier_is i old.0 old.1
-          ∙ ap (λ k. Some (last_with (hashes_to seed (key_hash seed k)) rs i)) (sym old.2)
-          ∙ ap Some (sym (last_kept (hashes_to seed (key_hash seed x.key)) rs place r new at (tests (key_hash seed x.key)) i));
-      all = is.all ∙ sym (same_length rs place new);
+          is.earlier_is i old.0 below old.1
+          ∙ ap (λ k. Some (last_with (is_in seed size (bucket_of seed size k)) rs i)) (sym old.2)
+          ∙ ap Some (sym (last_kept (is_in seed size (bucket_of seed size x.key)) rs place r new at (tests (bucket_of seed size x.key)) i));
+      few = is.few;
+      within = omega (arith, is.within, length-set rs place new);
+      whole = is.whole;
     }
 
 -- ---- the last row of a key
@@ -244,18 +359,6 @@ row_set rs r key =
     by_key true = ap (λ (o : Option TableRow). unwrap_or (option_map (λ (x : TableRow). x.set) o) []) (got_last rs r)
     by_key false = ap (λ (o : Option TableRow). unwrap_or (option_map (λ (x : TableRow). x.set) o) []) (at_more rs (r ∷ []) (last_with (is_of key) rs (length rs)) (last_within (is_of key) rs (length rs)))
 
-got_set : {X : Type 0} → (xs : List X) (i : ℕ) (x new : X) → slice_get xs i ≡ Some x → slice_get (slice_set xs i new) i ≡ Some new
-got_set [] i x new at = absurd (let no : None ≡ Some x = at in cc)
-got_set (y ∷ xs) zero x new at = refl
-got_set (y ∷ xs) (suc i) x new at = got_set xs i x new at
-
-got_other : {X : Type 0} → (xs : List X) (i j : ℕ) (new : X) → i ≢ j → slice_get (slice_set xs i new) j ≡ slice_get xs j
-got_other [] i j new apart = refl
-got_other (y ∷ xs) zero zero new apart = absurd (apart refl)
-got_other (y ∷ xs) zero (suc j) new apart = refl
-got_other (y ∷ xs) (suc i) zero new apart = refl
-got_other (y ∷ xs) (suc i) (suc j) new apart = got_other xs i j new (λ same. apart (ap suc same))
-
 -- the row of another key is at another place
 other_place : (rs : List TableRow) (place q : ℕ) (x y : TableRow) (key : List ℕ) → slice_get rs place ≡ Some x → slice_get rs q ≡ Some y → y.key ≡ key → bytes_eq x.key key ≡ false → place ≢ q
 other_place rs place q x y key at there same apart = λ one.
@@ -268,7 +371,7 @@ set_set : (rs : List TableRow) (place : ℕ) (r : TableRow) (key : List ℕ) →
 set_set rs place r key is =
     let f = found rs r.key place is in
     let tests : is_of key r ≡ is_of key f.row = ap (λ k. bytes_eq k key) (sym f.key_is) in
-    let same : place_of (slice_set rs place r) key ≡ place_of rs key = ap before (ap (last_with (is_of key) (slice_set rs place r)) (same_length rs place r) ∙ last_kept (is_of key) rs place f.row r f.at tests (length rs)) in
+    let same : place_of (slice_set rs place r) key ≡ place_of rs key = ap before (ap (last_with (is_of key) (slice_set rs place r)) (length-set rs place r) ∙ last_kept (is_of key) rs place f.row r f.at tests (length rs)) in
     ap (set_at (slice_set rs place r)) same ∙ by_key f (bytes_eq r.key key) refl
   where
     at_other : IsFound rs r.key place → bytes_eq r.key key ≡ false → (o : Option ℕ) → place_of rs key ≡ o → set_at (slice_set rs place r) o ≡ set_at rs o

@@ -1,6 +1,5 @@
 -- Rows, and the places at which a table finds them.
-use Rattle.std.specs.Prelude.{◌≡◌, ℕ, zero, suc, ◌-◌, Bool, false, List, [], ◌∷◌, ◌++◌, length, Option, Some, None, slice_get, slice_set, option_map, unwrap_or, nat_eq, bytes_eq, max, if◌then◌else◌}
-use Rattle.std.specs.HashMap.{HashMap, get}
+use Rattle.std.specs.Prelude.{◌≡◌, ℕ, zero, suc, ◌-◌, ◌%◌, ◌<◌, ◌≤◌, Bool, false, List, [], ◌∷◌, ◌++◌, length, Option, Some, None, slice_get, slice_set, option_map, unwrap_or, nat_eq, bytes_eq, max, if◌then◌else◌}
 use Rattle.version_set.specs.declared.version.Version.{Version}
 use Rattle.row_table.specs.declared.seed.Seed.{Seed}
 use Rattle.row_table.specs.declared.table.TableRow.{TableRow}
@@ -31,9 +30,13 @@ before (suc n) = Some n
 abbrev pub is_of : List ℕ → TableRow → Bool
 is_of key r = bytes_eq r.key key
 
--- a row's key has a hash
-abbrev pub hashes_to : Seed → ℕ → TableRow → Bool
-hashes_to seed hash r = nat_eq (key_hash seed r.key) hash
+-- the bucket of a key, of so many
+abbrev pub bucket_of : Seed → ℕ → List ℕ → ℕ
+bucket_of seed size key = key_hash seed key % 4294967296 % size
+
+-- a row's key is in a bucket
+abbrev pub is_in : Seed → ℕ → ℕ → TableRow → Bool
+is_in seed size bucket r = nat_eq (bucket_of seed size r.key) bucket
 
 -- the place of the last row of a key
 abbrev pub place_of : List TableRow → List ℕ → Option ℕ
@@ -72,8 +75,11 @@ abbrev pub with_all : Table → List TableRow → Table
 with_all t [] = t
 with_all t (r ∷ rows) = with_put (with_all t rows) r
 
--- An index has the last row of each hash, and for each row the one before it whose key has an equal hash.
-pub record IsIndex {S : Type 0} (seed : Seed) (rs : List TableRow) (earlier : List ℕ) (last : HashMap ℕ ℕ S) : Type 0 where
-  pub last_is : (hash : ℕ) → unwrap_or (get nat_eq last hash) 0 ≡ last_with (hashes_to seed hash) rs (length rs)
-  pub earlier_is : (i : ℕ) (r : TableRow) → slice_get rs i ≡ Some r → slice_get earlier i ≡ Some (last_with (hashes_to seed (key_hash seed r.key)) rs i)
-  pub all : length earlier ≡ length rs
+-- An index of the first rows has the last of them in each bucket that is there, and for each of them the one before it in its bucket.
+pub record IsIndex (seed : Seed) (rs : List TableRow) (size : ℕ) (last earlier : List ℕ) : Type 0 where
+  pub some : 0 < size
+  pub last_is : (bucket : ℕ) → bucket < length last → slice_get last bucket ≡ Some (last_with (is_in seed size bucket) rs (length earlier))
+  pub earlier_is : (i : ℕ) (r : TableRow) → i < length earlier → slice_get rs i ≡ Some r → slice_get earlier i ≡ Some (last_with (is_in seed size (bucket_of seed size r.key)) rs i)
+  pub few : length last ≤ size
+  pub within : length earlier ≤ length rs
+  pub whole : 0 < length earlier → length last ≡ size

@@ -1,19 +1,25 @@
 //! Tables of rows.
-ghost use Rattle.std.specs.Prelude.{◌≡◌, ◌<◌, ◌≤◌, [], length, None, IfSome};
+ghost use Rattle.std.specs.Prelude.{◌≡◌, ◌+◌, ◌<◌, ◌≤◌, [], length, None, IfSome};
 ghost use Rattle.std.specs.Option.{option_copied};
 ghost use Rattle.vclock.specs.Answer.{Answers};
 ghost use Rattle.vclock.specs.Outcome.{Does, gives};
 ghost use Rattle.row_table.specs.Tables.{at_place, place_of, set_at, set_in, with_room, with_row, with_put, with_all};
 
+use crate::index::Index;
 use crate::seed::Seed;
 use std::alloc::Global;
-use std::collections::HashMap;
 use std::marker::Model;
 use vclock::{Bytes, Refusal};
 use version_set::{Held, VersionSet};
 
 /// The maximum number of rows: their places fit 32 bits.
 const ROWS_MAX: u64 = 4_294_967_295;
+
+/// The number of buckets of a larger index that an insertion makes, until all are there.
+const BUCKETS_A_STEP: usize = 32;
+
+/// The number of rows that an insertion adds to a larger index then, until it has all.
+const ROWS_A_STEP: usize = 4;
 
 /// A key, its leaf, and the versions that are held for it.
 #[derive(Debug, Drop)]
@@ -40,7 +46,8 @@ impl TableRow {
 }
 
 /// Rows in the order in which they were inserted. The last row of a key is found by a hash of the key: by one probe, and
-/// one comparison if no other key has an equal hash.
+/// one comparison if no later row is in the same bucket. A larger index is made in steps, some at each insertion, so no
+/// insertion takes long.
 ///
 /// ```
 /// let place = table.find(row.key.as_slice());
@@ -48,30 +55,33 @@ impl TableRow {
 /// table.put_at(place, row);
 /// ```
 pub struct RowTable {
+    alloc: Global,
     seed: Seed,
     rows: Vec<TableRow>,
-    /// By place of a row: the place, plus one, of the row before it whose key has an equal hash, or 0.
-    earlier: Vec<u32>,
-    /// By hash of a key: the place, plus one, of the last row with it.
-    last: HashMap<u64, u32>,
+    /// The index of all rows.
+    index: Index,
+    /// A larger index of the first rows, while one is made.
+    larger: Option<Index>,
     room: u64,
 }
 
 impl Model for RowTable {
-    ghost use Rattle.std.specs.Prelude.{◌≤◌, ◌+◌, length};
+    ghost use Rattle.std.specs.Prelude.{◌≡◌, ◌<◌, ◌≤◌, ◌+◌, length, IfSome};
     ghost use Rattle.std.specs.Vec.{vec_capacity};
-    ghost use Rattle.std.specs.HashMap.{spare};
     ghost use Rattle.row_table.specs.Tables.{Table, IsIndex};
 
     ghost Value = { Table };
 
     ghost view = { λ t. record { seed = t.seed; rows = t.rows.items; room = t.room } };
 
-    ghost invariant = { λ t. IsIndex t.seed t.rows.items t.earlier.items t.last
+    ghost invariant = { λ t. IsIndex t.seed t.rows.items t.index.size t.index.last.items t.index.earlier.items
+        × (length t.index.earlier.items ≡ length t.rows.items)
+        × (0 < t.room → length t.index.last.items ≡ t.index.size)
+        × IfSome t.larger (λ x. IsIndex t.seed t.rows.items x.size x.last.items x.earlier.items
+        × (x.size ≤ vec_capacity x.last) × (length t.rows.items + t.room ≤ vec_capacity x.earlier))
         × (length t.rows.items + t.room ≤ 4294967295)
         × (length t.rows.items + t.room ≤ vec_capacity t.rows)
-        × (length t.earlier.items + t.room ≤ vec_capacity t.earlier)
-        × (t.room ≤ spare t.last) };
+        × (length t.rows.items + t.room ≤ vec_capacity t.index.earlier) };
 }
 
 impl RowTable {
@@ -80,10 +90,11 @@ impl RowTable {
         ensures { result ≡ record { seed = seed; rows = []; room = 0 } }
     {
         RowTable {
+            alloc,
             seed,
             rows: Vec::new(alloc),
-            earlier: Vec::new(alloc),
-            last: HashMap::new(alloc),
+            index: Index::new(alloc),
+            larger: None,
             room: 0,
         }
     }
@@ -107,16 +118,7 @@ impl RowTable {
         ensures place { result ≡ place_of self.now.rows key.now }
         ensures within { IfSome result (λ place. place < length self.now.rows) }
     {
-        let hash = self.seed.hash(key);
-        let mut next = self.last.get(&hash).copied().unwrap_or(0);
-        while next > 0 {
-            let place = (next - 1) as usize;
-            if self.rows[place].key.as_slice() == key {
-                return Some(place);
-            }
-            next = self.earlier[place];
-        }
-        None
+        self.index.find(self.seed, &self.rows, key)
     }
 
     /// Returns the last row of a key, or `None` if the key has no row. Doesn't allocate.
@@ -167,11 +169,32 @@ impl RowTable {
             if rows > ROWS_MAX - self.rows.len() as u64 {
                 return Err(Refusal::NoMemory);
             }
-            self.rows.reserve(rows as usize)?;
-            self.earlier.reserve(rows as usize)?;
-            self.last.reserve(rows as usize)?;
-            self.room = rows;
+            self.make_room(rows as usize)?;
         }
+        Ok(())
+    }
+
+    /// Makes room for `rows` more rows, no fewer than there was room for. If the index has less than two buckets a row,
+    /// begins a larger one, or makes it at once if the rows may double. Refused: NoMemory.
+    fn make_room(&mut self, rows: usize) -> Result<(), Refusal>
+        requires more { (self.old.room ≤ rows) × (0 < rows) }
+        requires few { length self.old.rows + rows ≤ 4294967295 }
+        ensures { Does result self.old self.new (gives tt (record self.old { room = rows })) }
+    {
+        let all = self.rows.len() + rows;
+        self.rows.reserve(rows)?;
+        if rows > self.rows.len() {
+            self.index = Index::of(self.alloc, self.seed, &self.rows, all)?;
+            self.larger = None;
+        } else {
+            self.index.reserve(all)?;
+            if let Some(larger) = &mut self.larger {
+                larger.reserve(all)?;
+            } else if self.index.size() < 2 * all {
+                self.larger = Some(Index::with_room(self.alloc, all)?);
+            }
+        }
+        self.room = rows as u64;
         Ok(())
     }
 
@@ -191,12 +214,29 @@ impl RowTable {
         requires { 1 ≤ self.old.room }
         ensures { self.new ≡ with_row self.old row }
     {
-        let hash = self.seed.hash(row.key.as_slice());
-        let place = self.rows.len() as u32;
-        let linked: Result<_, _> = self.last.insert(hash, place + 1);
-        self.earlier.push_reserved(linked.unwrap().unwrap_or(0));
         self.rows.push_reserved(row);
         self.room -= 1;
+        self.index.add_some(self.seed, &self.rows, 1);
+        self.grow();
+    }
+
+    /// Makes some buckets of the larger index, or adds some rows to it. When it has all rows, it is the index.
+    fn grow(&mut self)
+        ensures { self.new ≡ self.old }
+    {
+        let Some(mut larger) = self.larger.take() else {
+            return;
+        };
+        if larger.is_whole() {
+            larger.add_some(self.seed, &self.rows, ROWS_A_STEP);
+            if larger.len() == self.rows.len() {
+                self.index = larger;
+                return;
+            }
+        } else {
+            larger.widen(BUCKETS_A_STEP);
+        }
+        self.larger = Some(larger);
     }
 
     /// Puts a row in the place of the last row of its key, which `find` returned. If the key has no row, inserts it in
@@ -229,10 +269,11 @@ impl Drop for RowTable {
     /// Keeps the fields out of the proofs of callers that drop a table.
     fn drop(self) {
         let RowTable {
+            alloc: _alloc,
             seed: _seed,
             rows: _rows,
-            earlier: _earlier,
-            last: _last,
+            index: _index,
+            larger: _larger,
             room: _room,
         } = self;
     }

@@ -1,33 +1,31 @@
-use Rattle.std.proofs.Common.{rules, ◌≡◌, ◌+◌, ◌≤◌, ℕ, [], ◌∷◌, ◌++◌, length, cond, sym, ap, subst, arith, ◌∙◌}
-use Rattle.std.specs.Prelude.{unwrap_or, nat_eq}
-use Rattle.std.specs.HashMap.{get}
+use Rattle.std.proofs.Common.{◌≡◌, ◌+◌, ◌-◌, ◌≤◌, [], ◌∷◌, List, length, subst, sym, ap, arith, ◌∙◌}
 use Rattle.std.proofs.lemmas.List.{length-append}
-use Rattle.std.proofs.lemmas.Map.{count_at-update}
-use Rattle.row_table.specs.Hashes.{key_hash}
-use Rattle.row_table.specs.Tables.{Table}
-use Rattle.row_table.proofs.TableLaws.{inserted}
+use Rattle.row_table.specs.declared.table.TableRow.{TableRow}
+use Rattle.row_table.specs.Tables.{Table, IsIndex}
+use Rattle.row_table.proofs.TableLaws.{of_more}
+use Rattle.row_table.proofs.LargerLaws.{larger_of_more}
 use Rattle.row_table.proofs.table.RowTable.insert.Goals as goal
+
+pub add_some-requires-clause-index : goal.add_some-requires-clause-index
+add_some-requires-clause-index c =
+    let x = c.self.inside.index in
+    subst (λ (rs : List TableRow). IsIndex c.self.inside.seed rs x.size x.last.items x.earlier.items) (sym (c.deref.ensures.value ∙ c.push_reserved.ensures.items))
+    (of_more c.self.inside.seed c.self.inside.rows.items (c.args.row ∷ []) x.size x.last.items x.earlier.items c.self.invariant.0)
 
 pub invariant_of-self : goal.invariant_of-self
 invariant_of-self c =
-    let rs = c.self.inside.rows.items in
+    let s = c.self.inside in
+    let rs = s.rows.items in
     let r = c.args.row in
-    let last = c.self.inside.last in
-    let earlier = c.self.inside.earlier.items in
-    let hash = c.hash-hash.result in
-    let room : 1 ≤ c.self.inside.room = subst (λ (t : Table). 1 ≤ t.room) (sym c.self.view_is) c.requires in
-    let place : c.len-place.result ≡ length rs = search rules in
-    let old : c.unwrap.result ≡ get nat_eq last hash = rw c.unwrap.ensures at c.insert-linked.ensures.old in
-    let links : c.push_reserved.new.self.items ≡ earlier ++ unwrap_or (get nat_eq last hash) 0 ∷ [] =
-    c.push_reserved.ensures.items ∙ ap (λ n. earlier ++ n ∷ []) (c.unwrap_or.ensures ∙ ap (λ o. unwrap_or o 0) old) in
-    let updates = rw c.unwrap.ensures at c.insert-linked.ensures.updates in
-    let puts : (h : ℕ) → unwrap_or (get nat_eq c.insert-linked.new.self h) 0 ≡ cond (nat_eq hash h) (length rs + 1) (unwrap_or (get nat_eq last h) 0) =
-    λ h. ap (λ o. unwrap_or o 0) (updates.0 h) ∙ count_at-update nat_eq (get nat_eq last) hash (c.len-place.result + 1) h ∙ ap (λ n. cond (nat_eq hash h) (n + 1) (unwrap_or (get nat_eq last h) 0)) place in
-    let long = length-append rs (r ∷ []) in
-    let linked = length-append earlier (unwrap_or (get nat_eq last hash) 0 ∷ []) in (
-      inserted c.self.inside.seed rs r earlier last hash c.push_reserved-2.new.self.items c.push_reserved.new.self.items c.insert-linked.new.self c.self.invariant.0 (c.hash-hash.ensures ∙ ap (key_hash c.self.inside.seed) c.as_slice.ensures) c.push_reserved-2.ensures.items links puts,
-      omega (arith, room, long, ap length c.push_reserved-2.ensures.items, c.self.invariant.1),
-      omega (arith, room, long, ap length c.push_reserved-2.ensures.items, c.self.invariant.2),
-      omega (arith, room, linked, ap length links, c.self.invariant.3),
-      omega (arith, room, c.insert-linked.ensures.spare, c.self.invariant.4),
+    let x = c.add_some.new.self in
+    let room : 1 ≤ s.room = subst (λ (t : Table). 1 ≤ t.room) (sym c.self.view_is) c.requires in
+    let long : length c.push_reserved.new.self.items ≡ length rs + 1 = ap length c.push_reserved.ensures.items ∙ length-append rs (r ∷ []) in
+    let same = c.deref.ensures.value in (
+      subst (λ (xs : List TableRow). IsIndex s.seed xs x.size x.last.items x.earlier.items) same c.add_some.ensures.index,
+      omega (arith, long, ap length same, c.add_some.ensures.more, c.self.invariant.1),
+      λ _. c.add_some.ensures.whole.1,
+      larger_of_more s.seed rs s.room r s.larger c.push_reserved.new.self.items (s.room - 1) c.self.invariant.3 c.push_reserved.ensures.items (omega (arith, room)),
+      omega (arith, room, long, c.self.invariant.4),
+      omega (arith, room, long, c.self.invariant.5),
+      omega (arith, room, long, c.self.invariant.6),
     )

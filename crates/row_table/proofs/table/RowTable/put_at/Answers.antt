@@ -1,7 +1,9 @@
 use Rattle.std.proofs.Common.{sym, ap, arith, ◌∙◌}
+use Rattle.std.proofs.lemmas.List.{length-set}
 use Rattle.std.proofs.lemmas.Option.{slice_get_within}
 use Rattle.row_table.specs.Tables.{Table, place_of}
-use Rattle.row_table.proofs.TableLaws.{IsFound, found, replaced, same_length}
+use Rattle.row_table.proofs.TableLaws.{IsFound, found, replaced}
+use Rattle.row_table.proofs.LargerLaws.{larger_replaced}
 use Rattle.row_table.proofs.table.RowTable.put_at.Goals as goal
 use Rattle.row_table.proofs.table.RowTable.put_at.Goals.{After-self}
 
@@ -17,11 +19,16 @@ index_mut-requires c =
 pub invariant_of-self : goal.invariant_of-self
 invariant_of-self c =
     let f = there (goal.at.invariant_of-self c).After-self in
-    let rs = c.self.inside.rows.items in
-    let long = same_length rs c.in-Some.place c.args.row in (
-      replaced c.self.inside.seed rs c.self.inside.earlier.items c.self.inside.last c.in-Some.place f.row c.args.row c.self.invariant.0 f.at (sym f.key_is),
+    let s = c.self.inside in
+    let rs = s.rows.items in
+    let place = c.in-Some.place in
+    let r = c.args.row in
+    let long = length-set rs place r in (
+      replaced s.seed rs s.index.size s.index.last.items s.index.earlier.items place f.row r c.self.invariant.0 f.at (sym f.key_is),
       omega (arith, long, c.self.invariant.1),
-      omega (arith, long, c.self.invariant.2),
-      c.self.invariant.3,
-      c.self.invariant.4,
+      c.self.invariant.2,
+      larger_replaced s.seed rs s.room place f.row r s.larger c.self.invariant.3 f.at (sym f.key_is),
+      omega (arith, long, c.self.invariant.4),
+      omega (arith, long, c.self.invariant.5),
+      omega (arith, long, c.self.invariant.6),
     )
