@@ -20,7 +20,7 @@ ghost use Rattle.range_store.specs.TableRows.{IsHome};
 use crate::config::RangeConfig;
 use crate::context_test::ContextTest;
 use crate::receipt::{Accepted, Receipt};
-use crate::store::table_rows::{narrow_leaf, prepare_row};
+use crate::store::table_rows::{copy_key, narrow_leaf, prepare_row};
 use key_ring::HashedKey;
 use range_journal::{Journal, Source};
 use range_tree::Tree;
@@ -324,7 +324,8 @@ impl RangeStore {
         // Called for its clause alone: the version's clock is valid.
         let _valid = version.clock.pairs();
         self.journal.reserve(1)?;
-        let key = Bytes::copy_of(alloc, key)?;
+        let place = self.table.find(key);
+        let key = copy_key(alloc, &self.table, place, key)?;
         let receipt = Receipt {
             number: self.journal.len(),
             seat,
@@ -334,7 +335,7 @@ impl RangeStore {
         };
         let copy = copy_for(list, keep, &receipt)?;
         let row_version = version.try_clone()?;
-        let (place, row) = prepare_row(alloc, &mut self.table, leaf, &key, &version)?;
+        let row = prepare_row(alloc, &mut self.table, place, leaf, &key, &version)?;
         let tree_leaf = narrow_leaf(&self.config, leaf);
         self.tree.offer(alloc, tree_leaf, &key, row_version)?;
         self.journal.append_reserved(seat, source, key, version);

@@ -2,6 +2,7 @@
 use Rattle.std.proofs.Common.{◌≡◌, ◌≢◌, ℕ, zero, suc, ◌+◌, ◌-◌, ◌%◌, ◌<◌, ◌≤◌, Bool, true, false, cond, List, [], ◌∷◌, ◌++◌, length, Option, Some, None, refl, sym, ap, subst, arith, ◌∙◌, inl, inr, slice_get, slice_set, slice_index_or, replicate, eq-eqb, eqb-true, true≢false, add-one}
 use Rattle.std.specs.Prelude.{bytes_eq, nat_eq, unwrap_or, option_map}
 use Rattle.std.specs.List.{AllByRecursion, list_any}
+use Rattle.std.specs.Option.{IfSome}
 use Rattle.std.proofs.lemmas.Bool.{cases_lt, cases_Bool}
 use Rattle.std.proofs.lemmas.List.{length-append, length-set, length-replicate, get_or-replicate}
 use Rattle.std.proofs.lemmas.Nat.{mod_below}
@@ -330,6 +331,11 @@ found rs key place is = some_row key rs place (slice_get rs place) refl (last_ha
     at_before : (n : ℕ) → before n ≡ Some place → n ≡ suc place
     at_before zero h = absurd (let no : None ≡ Some place = h in cc)
     at_before (suc n) h = let same : n ≡ place = cc in ap suc same
+
+-- the place of a key's row is a place of the list
+pub place_within : (rs : List TableRow) (key : List ℕ) (place : Option ℕ) → place ≡ place_of rs key → IfSome place (λ p. p < length rs)
+place_within rs key None is = tt
+place_within rs key (Some p) is = let f = found rs key p (sym is) in slice_get_within rs p f.row f.at
 
 -- a row that is found is the one at its place
 pub found_is : (rs : List TableRow) (key : List ℕ) (place : ℕ) (r : TableRow) → place_of rs key ≡ Some place → slice_get rs place ≡ Some r → r.key ≡ key

@@ -58,6 +58,11 @@ set_in rs key = set_at rs (place_of rs key)
 abbrev pub with_room : Table → ℕ → Table
 with_room t rows = record t { room = max t.room rows }
 
+-- the table with room for a row at a place
+abbrev pub with_room_at : Table → Option ℕ → Table
+with_room_at t None = with_room t 1
+with_room_at t (Some place) = t
+
 abbrev pub with_row : Table → TableRow → Table
 with_row t r = record { seed = t.seed; rows = t.rows ++ r ∷ []; room = t.room - 1 }
 

@@ -3,7 +3,7 @@ ghost use Rattle.std.specs.Prelude.{◌≡◌, ◌+◌, ◌<◌, ◌≤◌, [], 
 ghost use Rattle.std.specs.Option.{option_copied};
 ghost use Rattle.vclock.specs.Answer.{Answers};
 ghost use Rattle.vclock.specs.Outcome.{Does, gives};
-ghost use Rattle.row_table.specs.Tables.{at_place, place_of, set_at, set_in, with_room, with_row, with_put, with_all};
+ghost use Rattle.row_table.specs.Tables.{at_place, place_of, set_at, set_in, with_room, with_room_at, with_row, with_put, with_all};
 
 use crate::index::Index;
 use crate::seed::Seed;
@@ -200,8 +200,7 @@ impl RowTable {
 
     /// Makes room for a row that is put at a place, which `find` returned. Refused: NoMemory.
     pub fn make_room_at(&mut self, place: Option<usize>) -> Result<(), Refusal>
-        ensures room { Answers result None (λ _. place ≡ None → 1 ≤ self.new.room) }
-        ensures same { self.new.rows ≡ self.old.rows }
+        ensures { Does result self.old self.new (gives tt (with_room_at self.old place)) }
     {
         if place.is_none() {
             self.reserve(1)?;

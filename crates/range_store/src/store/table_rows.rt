@@ -21,29 +21,45 @@ use std::alloc::Global;
 use vclock::{Bytes, Format, Refusal};
 use version_set::{Held, Version, VersionSet};
 
-/// Makes the row of a key with one more version, for which the key has room, and room for the row. Returns also the place
-/// of the key's row. Refused: NoMemory.
+/// Copies a key, or shares the key of its row, if it has one. Refused: NoMemory.
+pub(super) fn copy_key(
+    alloc: Global,
+    table: &RowTable,
+    place: Option<usize>,
+    key: &[u8],
+) -> Result<Bytes, Refusal>
+    requires { place ≡ place_of table.now.rows key.now }
+    ensures { Answers result None (λ copy. copy ≡ key.now) }
+{
+    match place {
+        Some(place) => Ok(table.rows()[place].key.try_clone()?),
+        None => Ok(Bytes::copy_of(alloc, key)?),
+    }
+}
+
+/// Makes the row of a key with one more version, for which the key has room, and room for the row at its place. Refused:
+/// NoMemory.
 pub(super) fn prepare_row(
     alloc: Global,
     table: &mut RowTable,
+    place: Option<usize>,
     leaf: u16,
     key: &Bytes,
     version: &Version,
-) -> Result<(Option<usize>, TableRow), Refusal>
-    requires { offer_fault version.now (set_in table.old.rows key.now) ≡ None }
-    ensures row { Answers result None (λ made. (made.0 ≡ place_of table.new.rows key.now)
-        × (made.0 ≡ None → 1 ≤ table.new.room)
-        × (made.1 ≡ record { key = key.now; leaf = leaf; set = offered version.now (set_in table.new.rows key.now) })) }
+) -> Result<TableRow, Refusal>
+    requires place { place ≡ place_of table.old.rows key.now }
+    requires fits { offer_fault version.now (set_in table.old.rows key.now) ≡ None }
+    ensures row { Answers result None (λ row. (place ≡ None → 1 ≤ table.new.room)
+        × (row ≡ record { key = key.now; leaf = leaf; set = offered version.now (set_in table.new.rows key.now) })) }
     ensures same { table.new.rows ≡ table.old.rows }
 {
-    let place = table.find(key.as_slice());
     let row = TableRow {
         key: key.try_clone()?,
         leaf,
         set: grown_set(alloc, &table.held_at(place), version)?,
     };
     table.make_room_at(place)?;
-    Ok((place, row))
+    Ok(row)
 }
 
 /// Returns a copy of versions, to which another one was offered, for which there is room. Refused: NoMemory.

@@ -11,7 +11,7 @@ use Rattle.hash_tree.specs.Leaves.{versions_in}
 use Rattle.snapshot.specs.RowMaps.{leaf_in}
 use Rattle.key_ring.specs.Places.{leaf_at, range_at}
 use Rattle.range_tree.specs.Trees.{RangeTree}
-use Rattle.row_table.specs.Tables.{set_in}
+use Rattle.row_table.specs.Tables.{place_of, set_in}
 use Rattle.vclock.specs.declared.format.Format.TheVariants.{Two}
 use Rattle.range_store.specs.Store as store
 use Rattle.range_store.specs.Store.{Store, IsSound, tree_in, rows_now, place_fault, full_fault, entry_of, journaled, knows}
@@ -38,8 +38,11 @@ offer-requires-clause-leaf c =
     let wide = subst (λ (u : Store). c.args.leaf ≡ leaf_at Two u.config.bits c.args.key.now) (sym c.self.view_is) c.requires.leaf_is in
     c.narrow_leaf-tree_leaf.ensures c.args.key.now wide ∙ ap (λ (u : Store). store.leaf_in u.config c.args.key.now) c.self.view_is ∙ (λ i. leaf_in (tree i).map (sym c.in_ok-key.ensures.1 i))
 
-pub prepare_row-requires : goal.prepare_row-requires
-prepare_row-requires c =
+pub prepare_row-requires-clause-place : goal.prepare_row-requires-clause-place
+prepare_row-requires-clause-place c = c.find-place.ensures.place ∙ ap (place_of c.self.inside.table.rows) (sym c.in_ok-key.ensures.1)
+
+pub prepare_row-requires-clause-fits : goal.prepare_row-requires-clause-fits
+prepare_row-requires-clause-fits c =
     let set = ap (set_in c.self.inside.table.rows) c.in_ok-key.ensures.1 ∙ c.self.invariant.3.sets c.args.key.now ∙ ap (λ (u : Store). held u.entries c.args.key.now) c.self.view_is in
     ap (offer_fault c.args.version) set ∙ c.requires.fits
 
@@ -68,7 +71,7 @@ invariant_of-self-in_err-offer c =
     let same = c.in_err-offer.ensures.0 in
     let back : record { config = c.self.inside.config; entries = c.reserve.new.self.entries; marks = c.offer.new.self.marks } ≡ before (goal.at.invariant_of-self-in_err-offer c).After-self =
     λ i. record { config = c.self.inside.config; entries = (log i).entries; marks = (same i).marks } in
-    let table = table_same c.self.inside.config.bits c.self.inside.config.range c.self.inside.journal.entries c.reserve.new.self.entries c.self.inside.table.rows c.prepare_row.new.table.rows c.self.invariant.3 (ap (λ (t : Log). t.entries) log) c.in_ok-place.ensures.same in
+    let table = table_same c.self.inside.config.bits c.self.inside.config.range c.self.inside.journal.entries c.reserve.new.self.entries c.self.inside.table.rows c.prepare_row.new.table.rows c.self.invariant.3 (ap (λ (t : Log). t.entries) log) c.in_ok-row.ensures.same in
     (subst IsSound (sym back) c.self.invariant.0, ap (λ (t : RangeTree). t.map) same ∙ c.self.invariant.1 ∙ ap rows_now (sym back), ap (λ (t : Log). t.limit) log ∙ c.self.invariant.2, table)
 
 pub returns-in_err-offer-clause-admits : goal.returns-in_err-offer-clause-admits
@@ -105,8 +108,8 @@ invariant_of-self-2 c =
     let log = c.append_reserved.ensures.added in
     let i = c.self.inside in
     let s : Store = record { config = i.config; entries = i.journal.entries; marks = i.tree.marks } in
-    let table = table_grown s c.args.self.now c.args.leaf c.args.key.now (entry at.After-append_reserved) c.append_reserved.new.self.entries i.table.rows c.prepare_row.new.table c.put_at.new.self c.in_ok-place.row
-    c.self.view_is c.self.invariant.3 c.in_ok-place.ensures.same c.requires c.in_ok-key.ensures.1 c.in_ok-place.ensures.row.1.2 (entries_are at.After-append_reserved) c.put_at.ensures in
+    let table = table_grown s c.args.self.now c.args.leaf c.args.key.now (entry at.After-append_reserved) c.append_reserved.new.self.entries i.table.rows c.prepare_row.new.table c.put_at.new.self c.in_ok-row.row
+    c.self.view_is c.self.invariant.3 c.in_ok-row.ensures.same c.requires c.in_ok-key.ensures.1 c.in_ok-row.ensures.row.1.1 (entries_are at.After-append_reserved) c.put_at.ensures in
     (is.right, is.rows, ap (λ (t : Log). t.limit) log ∙ ap (λ (t : Log). t.limit) (reserve_ok c.self.inside.journal _ 1 c.in_ok-reserve.ensures.reserves).is ∙ c.self.invariant.2, table)
 
 pub returns-clause-admits : goal.returns-clause-admits
