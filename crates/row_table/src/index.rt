@@ -71,6 +71,19 @@ impl Index {
         Ok(index)
     }
 
+    /// Returns an equal index, without room for more rows.
+    pub(crate) fn try_clone(&self, alloc: Global) -> Result<Index, AllocError>
+        ensures size { IfOk result (λ copy. copy.size ≡ self.now.size) }
+        ensures last { IfOk result (λ copy. copy.last.items ≡ self.now.last.items) }
+        ensures earlier { IfOk result (λ copy. copy.earlier.items ≡ self.now.earlier.items) }
+    {
+        Ok(Index {
+            size: self.size,
+            last: Vec::from_slice(alloc, &self.last)?,
+            earlier: Vec::from_slice(alloc, &self.earlier)?,
+        })
+    }
+
     /// The number of buckets.
     pub(crate) fn size(&self) -> usize
         ensures { result ≡ self.now.size }

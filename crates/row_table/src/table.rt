@@ -153,12 +153,18 @@ impl RowTable {
     pub fn try_clone(&self, alloc: Global) -> Result<RowTable, Refusal>
         ensures { Answers result None (λ copy. copy ≡ record self.now { room = 0 }) }
     {
-        let mut copy = RowTable::new(alloc, self.seed);
-        copy.reserve(self.rows.len() as u64)?;
+        let mut rows = Vec::with_capacity(alloc, self.rows.len())?;
         for row in &self.rows {
-            copy.insert(row.try_clone(alloc)?);
+            rows.push_reserved(row.try_clone(alloc)?);
         }
-        Ok(copy)
+        Ok(RowTable {
+            alloc,
+            seed: self.seed,
+            rows,
+            index: self.index.try_clone(alloc)?,
+            larger: None,
+            room: 0,
+        })
     }
 
     /// Makes room for `rows` more rows. Refused: NoMemory, also if the table would have over 4,294,967,295 rows.
