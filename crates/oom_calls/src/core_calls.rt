@@ -6,6 +6,7 @@ mod hints;
 mod histories;
 mod leaves;
 mod messages;
+mod moments;
 mod pairs;
 mod range_sessions;
 mod ranges;
@@ -45,5 +46,6 @@ pub(crate) fn show_all<R: Print + AllocGlobal + Threads + Sync>(rt: &R) -> io::R
     snapshots::show_all(rt, &both)?;
     sessions::show_all(rt, &both)?;
     range_sessions::show_all(rt, &both)?;
+    moments::show_all(rt, &both)?;
     receipts::show_all(rt, &both)
 }

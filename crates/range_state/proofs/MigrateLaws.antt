@@ -73,6 +73,7 @@ right_in_two s ok sound = record {
   few = omega (arith, ok.few, length-map s.records cancelled);
   few_open = omega (arith, none_open s.records);
   partners = All-weaker _ _ s.store.entries (λ (e : Entry) from source. still_from e s.records (from source)) ok.partners;
+  moment = tt;
 }
 
 -- ---- one record after another

@@ -12,6 +12,7 @@ use Rattle.range_store.proofs.HeldLaws.{grows}
 use Rattle.range_state.specs.declared.«record».Record.{Record}
 use Rattle.range_state.specs.Records.{IsKept}
 use Rattle.range_state.specs.State.{State, IsRight, IsFromPartner, with_store}
+use Rattle.range_state.proofs.MomentLaws.{moment_grows}
 
 kept_grows : (c : Config) (es fs : List Entry) (r : Record) → IsKept c es r → IsKept c (es ++ fs) r
 kept_grows c es fs r kept = record {
@@ -47,4 +48,5 @@ grown_right s t ok sound grown =
       few = ok.few;
       few_open = ok.few_open;
       partners = subst (AllByRecursion (λ (e : Entry). e.source ≡ Partner → IsFromPartner s.records e)) (sym grown.entries) old;
+      moment = moment_grows s.store t grown.more s.moment grown.config grown.entries ok.moment;
     }

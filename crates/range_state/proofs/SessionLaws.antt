@@ -1,6 +1,7 @@
 -- Sessions that are opened, go on and end.
-use Rattle.std.proofs.Common.{◌≡◌, ◌≢◌, ℕ, zero, suc, ◌+◌, ◌<◌, ◌≤◌, Bool, true, false, if◌then◌else◌, Some, None, List, [], ◌∷◌, ◌++◌, length, map, set, get_or, refl, sym, ap, subst, ◌∙◌, inl, inr, arith, Any}
+use Rattle.std.proofs.Common.{◌≡◌, ◌≢◌, ℕ, zero, suc, ◌+◌, ◌<◌, ◌≤◌, Bool, true, false, if◌then◌else◌, Option, Some, None, List, [], ◌∷◌, ◌++◌, length, map, set, get_or, refl, sym, ap, subst, ◌∙◌, inl, inr, arith, Any}
 use Rattle.std.specs.Prelude.{nat_le, ◌||◌}
+use Rattle.std.specs.Option.{IfSome}
 use Rattle.std.specs.List.{AllByRecursion, filter}
 use Rattle.std.proofs.lemmas.Bool.{cases_eq, cases_lt, or_parts, both_ways, le-leb}
 use Rattle.std.proofs.lemmas.List.{length-append, length-map, length-set, get_or_append_left, get_or_default, get_or-set_same, get_or-set_other}
@@ -12,6 +13,7 @@ use Rattle.range_journal.specs.Journal.{held}
 use Rattle.hash_tree.proofs.ChunkLaws.{all-set}
 use Rattle.hash_tree.proofs.KeyLaws.{all_get}
 use Rattle.tree_nodes.specs.Nodes.{Node}
+use Rattle.snapshot.specs.RowMaps.{RowMap, IsRowMap}
 use Rattle.sync_session.specs.Walks.{Walk, Held, first_asked}
 use Rattle.sync_session.specs.Steps.{state_by, started, cancelled_by}
 use Rattle.sync_session.specs.declared.state.SessionState.{SessionState}
@@ -21,14 +23,16 @@ use Rattle.sync_session.proofs.CountLaws.{orderly_started}
 use Rattle.sync_session.proofs.TraceLaws.{traced, traced_cancelled}
 use Rattle.range_state.specs.declared.«record».Record.{Record}
 use Rattle.range_store.specs.Config.{Config}
-use Rattle.range_store.specs.Rows.{rows_of, keys_from}
 use Rattle.range_state.specs.Records.{IsKept, is_open_state, is_open, open_count}
-use Rattle.range_state.specs.State.{State, IsRight, HasTaken}
+use Rattle.range_state.specs.declared.moment.Moment.{Moment}
+use Rattle.range_state.specs.State.{State, IsRight, HasTaken, rows_at, IsMomentOf}
 use Rattle.range_store.specs.Store.{Store, IsSound, rows_now}
 use Rattle.range_state.specs.Sessions.{standings, crowd_fault}
+use Rattle.range_state.specs.Moments.{moment_fault, front_of}
 use Rattle.row_bytes.proofs.LimitLaws.{no_fault}
+use Rattle.range_state.proofs.HeldRows.{rows_held}
+use Rattle.range_state.proofs.MomentLaws.{moment_grows, held_at}
 use Rattle.range_state.proofs.RecordLaws.{all_kept}
-use Rattle.range_store.proofs.HeldLaws.{itself}
 use Rattle.range_store.proofs.OfferLaws.{row_map_now}
 
 -- ---- lists
@@ -55,17 +59,6 @@ any-set P xs i x y is stays a = elim (cases_eq a.0 i) [
     a.4,
   )
 ]
-
--- ---- rows that are held
-
-held_rows : (es : List Entry) (ks : List (List ℕ)) → Held (map (λ k. record { key = k; versions = held es k }) ks) (held es)
-held_rows es [] = tt
-held_rows es (k ∷ ks) = (itself (held es k), held_rows es ks)
-
--- the rows of entries are held
-pub rows_held : (es : List Entry) → Held (rows_of es) (held es)
-unfolding rows_of
-rows_held es = held_rows es (keys_from [] es)
 
 -- ---- how many sessions are open
 
@@ -112,12 +105,13 @@ recorded_right s r ok room beside kept = record {
   few = omega (arith, room, length-append s.records (r ∷ []));
   few_open = omega (arith, beside, open_push s.records r);
   partners = All-weaker _ _ s.store.entries (λ e from source. any-append (λ (x : Record). HasTaken x.session e) s.records (r ∷ []) (from source)) ok.partners;
+  moment = ok.moment;
 }
 
 -- entries more, and a record in the place of another
 pub stepped_right : (s : State) (t : Store) (more : List Entry) (id : ℕ) (r new : Record) → IsRight s → IsSound t → t.config ≡ s.store.config → t.entries ≡ s.store.entries ++ more
     → r ≡ get_or s.records id r → (is_open new ≡ true → is_open r ≡ true) → IsKept s.store.config (s.store.entries ++ more) new → Keeps r.session new.session → AllByRecursion (λ (e : Entry). Any (λ (x : Record). HasTaken x.session e) (set s.records id new)) more
-    → IsRight (record { store = t; records = set s.records id new })
+    → IsRight (record { store = t; records = set s.records id new; moment = s.moment })
 stepped_right s t more id r new ok sound config entries was stays kept keeps come =
     let records = set s.records id new in
     let all = all-set (IsKept s.store.config (s.store.entries ++ more)) s.records id new kept (all_kept s.store.config s.store.entries more s.records ok.records) in
@@ -129,6 +123,7 @@ stepped_right s t more id r new ok sound config entries was stays kept keeps com
       partners = subst (AllByRecursion (λ (e : Entry). e.source ≡ Partner → Any (λ (x : Record). HasTaken x.session e) records)) (sym entries) (all-append _ s.store.entries more
           (All-weaker _ _ s.store.entries (λ e from source. any-set (λ (x : Record). HasTaken x.session e) s.records id r new was (keeps e) (from source)) ok.partners)
           (All-weaker _ _ more (λ e is source. is) come));
+      moment = moment_grows s.store t more s.moment config entries ok.moment;
     }
 
 -- a record in the place of another
@@ -139,6 +134,7 @@ replaced_right s id r new ok was stays kept keeps = record {
   few = omega (arith, ok.few, length-set s.records id new);
   few_open = omega (arith, ok.few_open, open_set s.records id r new was stays);
   partners = All-weaker _ _ s.store.entries (λ e from source. any-set (λ (x : Record). HasTaken x.session e) s.records id r new was (keeps e) (from source)) ok.partners;
+  moment = ok.moment;
 }
 
 -- ---- opening
@@ -178,19 +174,38 @@ pub none_left : (nodes : List Node) → state_by nodes ≢ Open → nodes ≡ []
 none_left [] off = refl
 none_left (n ∷ nodes) off = absurd (off refl)
 
--- a session with the rows now
-pub opened_right : (s : State) (partner : ℕ) (root : List ℕ) (r : Record) → IsRight s → (length s.records < 1024) × (open_count s.records < 64) → r ≡ record { partner = partner; session = started (rows_now s.store) root } → IsRight (record s { records = s.records ++ r ∷ [] })
-opened_right s partner root r ok room is =
-    let walked = walked_started (held s.store.entries) (rows_now s.store) root (row_map_now s.store ok.store) (rows_held s.store.entries) in
-    let orderly = orderly_started (rows_now s.store) root in
-    let kept : IsKept s.store.config s.store.entries (record { partner = partner; session = started (rows_now s.store) root }) = record {
-      here = record { bits = refl; range = refl };
-      format = λ opened. refl;
-      traced = traced (held s.store.entries) (started (rows_now s.store) root) walked orderly;
-      ended = none_left (first_asked (rows_now s.store) root);
+-- a session with rows of the range that are held
+begun_right : (s : State) (partner : ℕ) (root : List ℕ) (own : RowMap) (r : Record) → IsRight s → (length s.records < 1024) × (open_count s.records < 64) → IsRowMap own
+    → (own.format ≡ s.store.config.format) × (own.bits ≡ s.store.config.bits) × (own.range ≡ s.store.config.range) → Held own.rows (held s.store.entries) → r ≡ record { partner = partner; session = started own root } → IsRight (record s { records = s.records ++ r ∷ [] })
+begun_right s partner root own r ok room map here rows is =
+    let walked = walked_started (held s.store.entries) own root map rows in
+    let orderly = orderly_started own root in
+    let kept : IsKept s.store.config s.store.entries (record { partner = partner; session = started own root }) = record {
+      here = record { bits = here.1; range = here.2 };
+      format = λ opened. here.0;
+      traced = traced (held s.store.entries) (started own root) walked orderly;
+      ended = none_left (first_asked own root);
       going = inr (record { walked = walked; orderly = orderly });
     } in
     recorded_right s r ok room.0 room.1 (subst (IsKept s.store.config s.store.entries) (sym is) kept)
+
+-- a session with the rows now
+pub opened_right : (s : State) (partner : ℕ) (root : List ℕ) (r : Record) → IsRight s → (length s.records < 1024) × (open_count s.records < 64) → r ≡ record { partner = partner; session = started (rows_now s.store) root } → IsRight (record s { records = s.records ++ r ∷ [] })
+opened_right s partner root r ok room is = begun_right s partner root (rows_now s.store) r ok room (row_map_now s.store ok.store) (refl, refl, refl) (rows_held s.store.entries) is
+
+-- a session with the rows of a moment
+pub opened_at_right : (s : State) (m : Moment) (partner : ℕ) (root : List ℕ) (r : Record) → IsRight s → IsMomentOf s.store m → (length s.records < 1024) × (open_count s.records < 64) → r ≡ record { partner = partner; session = started (rows_at s.store m.front) root } → IsRight (record s { records = s.records ++ r ∷ [] })
+opened_at_right s m partner root r ok moment room is =
+    begun_right s partner root (rows_at s.store m.front) r ok room (subst IsRowMap moment.rows moment.right.rows) (refl, refl, refl) (held_at s.store m.front) is
+
+-- a session at the moment, if it is whole
+pub opened_when_whole : (s : State) (partner : ℕ) (root : List ℕ) (r : Record) → IsRight s → moment_fault s.moment ≡ None → (length s.records < 1024) × (open_count s.records < 64) → r ≡ record { partner = partner; session = started (rows_at s.store (front_of s.moment)) root }
+    → IsRight (record s { records = s.records ++ r ∷ [] })
+opened_when_whole s partner root r ok whole room is = by_moment s.moment ok.moment whole is
+  where
+    by_moment : (o : Option Moment) → IfSome o (IsMomentOf s.store) → moment_fault o ≡ None → r ≡ record { partner = partner; session = started (rows_at s.store (front_of o)) root } → IsRight (record s { records = s.records ++ r ∷ [] })
+    by_moment None moment whole is = absurd (cc)
+    by_moment (Some m) moment whole is = opened_at_right s m partner root r ok moment room is
 
 -- ---- ending
 

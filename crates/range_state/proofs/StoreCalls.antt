@@ -167,4 +167,4 @@ copies_sent n seat (o ∷ os) = ((λ from. absurd (let no : Copy ≡ Partner = f
 
 -- a store without sessions whose entries are copies
 pub right_renewed : (s : State) (seat limit : ℕ) → IsSound (renewed_by s seat limit).store → IsRight (renewed_by s seat limit)
-right_renewed s seat limit sound = record { store = sound; records = tt; few = omega arith; few_open = omega arith; partners = copies_sent 0 seat (held_offers s.store) }
+right_renewed s seat limit sound = record { store = sound; records = tt; few = omega arith; few_open = omega arith; partners = copies_sent 0 seat (held_offers s.store); moment = tt }

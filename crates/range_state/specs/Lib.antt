@@ -9,6 +9,7 @@ pub mod Loads
 pub mod Migrates
 pub mod Renewals
 pub mod Trees
+pub mod Moments
 pub mod Counts
 pub mod Run
 pub mod Judgements

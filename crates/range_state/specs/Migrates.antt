@@ -1,5 +1,5 @@
--- The migration of a range to format 2: its store's, and open sessions are cancelled.
-use Rattle.std.specs.Prelude.{map}
+-- The migration of a range to format 2: its store's, open sessions are cancelled, and the moment is dropped.
+use Rattle.std.specs.Prelude.{map, None}
 use Rattle.vclock.specs.Outcome.{Outcome, gives}
 use Rattle.vclock.specs.declared.format.Format.{Format}
 use Rattle.vclock.specs.declared.format.Format.TheVariants.{One, Two}
@@ -12,9 +12,9 @@ use Rattle.range_state.specs.State.{State}
 abbrev pub cancelled : Record → Record
 cancelled r = record r { session = cancelled_by r.session r.session.state }
 
--- the state in format 2: the entries are unchanged, no node is clean, and no session is open
+-- the state in format 2: the entries are unchanged, no node is clean, no session is open, and no moment is kept
 abbrev pub in_two : State → State
-in_two s = record { store = stores.in_two s.store; records = map cancelled s.records }
+in_two s = record { store = stores.in_two s.store; records = map cancelled s.records; moment = None }
 
 -- a state of format 1 is migrated, and one of format 2 is unchanged
 abbrev pub migrated_from : Format → State → State

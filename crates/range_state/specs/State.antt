@@ -1,5 +1,6 @@
--- The state of a range: its store, and the records of its sessions. Its calls on versions are those of the store.
-use Rattle.std.specs.Prelude.{◌≡◌, ℕ, ◌≤◌, List, [], length, Any, Contains}
+-- The state of a range: its store, the records of its sessions, and the moment that it keeps. Its calls on versions are
+-- those of the store.
+use Rattle.std.specs.Prelude.{◌≡◌, ℕ, ◌≤◌, List, [], length, take, Any, Contains, Option, None, IfSome}
 use Rattle.std.specs.List.{AllByRecursion}
 use Rattle.vclock.specs.Outcome.{Outcome, through}
 use Rattle.vclock.specs.Clock.{Pairs}
@@ -13,24 +14,29 @@ use Rattle.row_bytes.specs.Rows.{AreRows}
 use Rattle.row_bytes.specs.declared.row.Row.{Row}
 use Rattle.tree_nodes.specs.Nodes.{Node, tree_depth}
 use Rattle.hash_tree.specs.Texts.{leaf_text}
+use Rattle.snapshot.specs.RowMaps.{RowMap}
+use Rattle.range_tree.specs.Trees.{IsRangeTree}
 use Rattle.range_store.specs.declared.receipt.Accepted.{Accepted}
 use Rattle.range_store.specs.declared.context_test.ContextTest.{ContextTest}
 use Rattle.range_store.specs.Config.{Config}
 use Rattle.range_store.specs.Store.{Store, IsSound}
 use Rattle.range_store.specs.Store as stores
+use Rattle.range_store.specs.Rows.{rows_of}
 use Rattle.range_store.specs.ContextTests as tests
 use Rattle.sync_session.specs.Walks.{Walk, TakenText}
 use Rattle.range_state.specs.declared.«record».Record.{Record}
+use Rattle.range_state.specs.declared.moment.Moment.{Moment}
 use Rattle.range_state.specs.Records.{IsKept, open_count}
 
--- the store, and the records of the sessions, each at the place of its number
+-- the store, the records of the sessions, each at the place of its number, and the moment that is kept, if any
 pub record State : Type 0 where
   pub store : Store
   pub records : List Record
+  pub moment : Option Moment
 
 -- a range that has accepted nothing
 abbrev pub fresh : Config → State
-fresh c = record { store = stores.fresh c; records = [] }
+fresh c = record { store = stores.fresh c; records = []; moment = None }
 
 -- the state with another store
 abbrev pub with_store : State → Store → State
@@ -68,11 +74,23 @@ HasTaken w e = Any (IsLeafWith w.own.format e) w.taken
 abbrev pub IsFromPartner : List Record → Entry → Type 0
 IsFromPartner records e = Any (λ (r : Record). HasTaken r.session e) records
 
+-- the rows that the first entries made
+abbrev pub rows_at : Store → ℕ → RowMap
+rows_at s front = record { format = s.config.format; bits = s.config.bits; range = s.config.range; rows = rows_of (take front s.entries) }
+
+-- a moment of a store: the rows that its first entries made, and each clean node has the digest of its text for them
+pub record IsMomentOf (s : Store) (m : Moment) : Type 0 where
+  pub front : m.front ≤ length s.entries
+  pub rows : m.tree.map ≡ rows_at s m.front
+  pub right : IsRangeTree m.tree
+
 -- the facts of each state: its store is sound, each record is right for the entries, there are at most 1,024 records, at
--- most 64 of their sessions are open, and each version from a partner was in a text that a session took
+-- most 64 of their sessions are open, each version from a partner was in a text that a session took, and the moment is
+-- one of the store
 pub record IsRight (s : State) : Type 0 where
   pub store : IsSound s.store
   pub records : AllByRecursion (IsKept s.store.config s.store.entries) s.records
   pub few : length s.records ≤ 1024
   pub few_open : open_count s.records ≤ 64
   pub partners : AllByRecursion (λ (e : Entry). e.source ≡ Partner → IsFromPartner s.records e) s.store.entries
+  pub moment : IfSome s.moment (IsMomentOf s.store)

@@ -10,9 +10,9 @@ rehashed s = with_store s (stores.rehashed s.store)
 
 -- only the digests of nodes differ, and no node lost its digest
 abbrev pub IsSameRange : State → State → Type 0
-IsSameRange s t = stores.IsSameRange s.store t.store × (t.records ≡ s.records)
+IsSameRange s t = stores.IsSameRange s.store t.store × (t ≡ with_store s t.store)
 
 -- the first `most` of the dirty nodes whose children are clean, or all if there are fewer, are hashed, and nothing else
 -- changes; the result is the number of nodes that are dirty then
 abbrev pub HashesSome : Result ℕ Refusal → ℕ → State → State → Type 0
-HashesSome r most s t = stores.HashesSome r most s.store t.store × (t.records ≡ s.records)
+HashesSome r most s t = stores.HashesSome r most s.store t.store × (t ≡ with_store s t.store)

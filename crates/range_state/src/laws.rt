@@ -1,5 +1,5 @@
 //! Laws of sessions, proved from their definitions.
-ghost use Rattle.std.specs.Prelude.{◌≡◌, ◌≢◌, ◌≤◌, [], ℕ, List, None, Contains, true};
+ghost use Rattle.std.specs.Prelude.{◌≡◌, ◌≢◌, ◌≤◌, [], ℕ, List, length, None, Contains, true};
 ghost use Rattle.std.specs.List.{AllByRecursion};
 ghost use Rattle.version_set.specs.declared.version.Version.{Version};
 ghost use Rattle.version_set.specs.Version.{maximal, Ascends};
@@ -20,7 +20,9 @@ ghost use Rattle.range_state.specs.declared.event.Event.{Event};
 ghost use Rattle.range_state.specs.declared.event.Reply.{Reply};
 ghost use Rattle.range_state.specs.Records.{IsOver};
 ghost use Rattle.range_state.specs.Run.{Run};
-ghost use Rattle.range_state.specs.State.{State, IsRight, IsFromPartner};
+ghost use Rattle.range_state.specs.State.{State, IsRight, IsFromPartner, rows_at};
+ghost use Rattle.range_state.specs.Sessions.{opened};
+ghost use Rattle.range_state.specs.Moments.{opened_at};
 ghost use Rattle.range_state.specs.Syncs.{IsOfRange, synced};
 ghost use Rattle.range_state.specs.Unions.{union_of, offered_all};
 
@@ -32,6 +34,14 @@ pub fn finished_sessions_are_held()
     ensures { (s : State) → IsRight s → (r : Record) → Contains s.records r → r.session.state ≡ Finished
         → (other : RowMap) → IsPartners r.session other → NoTwoShareADigest r.session.own other r.session.taken
         → Held other.rows (held s.store.entries) }
+{}
+
+/// What the first entries of a journal held is held by all of them, or is below a version that is. So a session at a
+/// moment compares rows that are held, as one of the rows now does, and that is the case of all entries.
+pub fn what_was_held_stays_covered()
+    ensures held { (s : Store) (front : ℕ) → Held (rows_at s front).rows (held s.entries) }
+    ensures now { (s : State) (partner : ℕ) (root : List ℕ)
+        → opened_at s (length s.store.entries) partner root ≡ opened s partner root }
 {}
 
 /// Each version received from a partner is in a leaf's text that some session took, and that spells rows in the format

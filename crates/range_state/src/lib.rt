@@ -3,10 +3,12 @@
 //!
 //! - [`state`]: the state and its calls. Those of the store: `put`, `put_read`, `accept` and `get`, and `put_into` and
 //!   `accept_into` for receipts in a list; for the tree `take_job`, `take_jobs`, `install`, `digest_at`, `rehash`,
-//!   `rehash_here`, `rehash_some` and `snapshot`; `load_rows`, `load_into` and `load_format` for rows as bytes; `migrate`
-//!   to format 2; `renewed` for a new range that begins with the versions held; other reads are had by `store`. For
-//!   sessions with partners `open_session`, `outstanding`, `take_answer`, `take_answer_into`, `cancel_session`, `records`
-//!   and `open_sessions`, and `sync_with` for a whole session; `reconcile` for a session each way; `counts`.
+//!   `rehash_here`, `rehash_some` and `snapshot`; for a moment, whose rows are hashed while the range goes on,
+//!   `hold_moment`, `take_moment_jobs`, `install_moment`, `moment`, `open_session_at_moment` and `drop_moment`;
+//!   `load_rows`, `load_into` and `load_format` for rows as bytes; `migrate` to format 2; `renewed` for a new range
+//!   that begins with the versions held; other reads are had by `store`. For sessions with partners `open_session`,
+//!   `outstanding`, `take_answer`, `take_answer_into`, `cancel_session`, `records` and `open_sessions`, and `sync_with`
+//!   for a whole session; `reconcile` for a session each way; `counts`.
 //! - [`record`]: a session of a range, and its partner.
 //! - [`event`], [`run`]: the calls as events, and lists of events.
 //! - [`laws`]: laws proved from the definitions, such as that a range that finished a session holds the versions that
@@ -22,6 +24,7 @@
 
 pub mod event;
 pub mod laws;
+mod moment;
 pub mod record;
 pub mod run;
 pub mod state;

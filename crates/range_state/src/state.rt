@@ -9,6 +9,7 @@ ghost use Rattle.range_store.specs.Store.{is_sent, ask_fault};
 ghost use Rattle.range_store.specs.declared.context_test.ContextTest.TheVariants as tests;
 ghost use Rattle.range_state.specs.State.{IsRight, fresh, put, put_by, accept};
 
+use crate::moment::Moment;
 use crate::record::Record;
 use range_journal::{Journal, Source};
 use range_store::{Accepted, ContextTest, RangeConfig, RangeStore, Receipt, Seed};
@@ -22,6 +23,7 @@ pub mod counts;
 mod judgement;
 mod loading;
 mod migration;
+mod moments;
 mod receipts;
 pub mod reconciliation;
 mod renewal;
@@ -29,8 +31,8 @@ mod sessions;
 pub mod sync;
 mod tree;
 
-/// One replica of a range, for one thread: its store, which has the versions that it accepted, and the sessions with its
-/// partners.
+/// One replica of a range, for one thread: its store, which has the versions that it accepted, the sessions with its
+/// partners, and a moment, whose rows are offered while the range goes on.
 ///
 /// Threads that share a range keep it in `ring_node`'s `SharedRange`, which has `copy` in place of `accept`, workers in
 /// place of `rehash` and `sync_with`, and no `store` or `reconcile`.
@@ -44,6 +46,7 @@ mod tree;
 pub struct RangeState {
     store: RangeStore,
     records: Vec<Record>,
+    moment: Option<Moment>,
 }
 
 impl Model for RangeState {
@@ -51,9 +54,9 @@ impl Model for RangeState {
 
     ghost Value = { State };
 
-    ghost view = { λ r. record { store = r.store; records = r.records.items } };
+    ghost view = { λ r. record { store = r.store; records = r.records.items; moment = r.moment } };
 
-    ghost invariant = { λ r. IsRight (record { store = r.store; records = r.records.items }) };
+    ghost invariant = { λ r. IsRight (record { store = r.store; records = r.records.items; moment = r.moment }) };
 }
 
 impl RangeState {
@@ -71,6 +74,7 @@ impl RangeState {
         Ok(RangeState {
             store: RangeStore::seeded(alloc, config, seed)?,
             records: Vec::new(alloc),
+            moment: None,
         })
     }
 
@@ -205,6 +209,7 @@ impl Drop for RangeState {
         let RangeState {
             store: _store,
             records: _records,
+            moment: _moment,
         } = self;
     }
 }

@@ -145,6 +145,40 @@ pub(crate) fn install(state: &mut RangeState, job: Job) -> Result<(), Refusal> {
     state.install(node, &run_job(job))
 }
 
+/// Keeps the rows now as the moment of a range.
+pub(crate) fn hold_moment(alloc: Global, state: &mut RangeState) -> Result<(), Refusal> {
+    state.hold_moment(alloc)
+}
+
+/// Returns this number of jobs of a range's moment, or all if there are fewer.
+pub(crate) fn take_moment_jobs(
+    alloc: Global,
+    state: &RangeState,
+    most: usize,
+) -> Result<Vec<Job>, Refusal> {
+    state.take_moment_jobs(alloc, most)
+}
+
+/// Hashes a job of a range's moment, and installs its digest.
+pub(crate) fn install_in_moment(state: &mut RangeState, job: Job) -> Result<(), Refusal> {
+    let node = job.node();
+    state.install_moment(node, &run_job(job))
+}
+
+/// Returns the digest of the root of a range's moment.
+pub(crate) fn moment_root(alloc: Global, state: &RangeState) -> Result<Digest, Refusal> {
+    Ok(state.moment(alloc)?.root())
+}
+
+/// Opens a session with partner 7 at the moment of a range, and returns its number.
+pub(crate) fn open_at_moment(
+    alloc: Global,
+    state: &mut RangeState,
+    offer: Offer,
+) -> Result<u64, Refusal> {
+    state.open_session_at_moment(alloc, 7, offer)
+}
+
 /// Migrates a range to format 2.
 pub(crate) fn migrate(alloc: Global, state: &mut RangeState) -> Result<(), Refusal> {
     state.migrate(alloc)

@@ -10,6 +10,8 @@ mod loads;
 #[cfg(test)]
 mod migrations;
 #[cfg(test)]
+mod moments;
+#[cfg(test)]
 mod range_sessions;
 #[cfg(test)]
 mod range_trees;

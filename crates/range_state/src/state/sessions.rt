@@ -100,7 +100,7 @@ impl RangeState {
     }
 
     /// Tests that an offer is of this range, in its format.
-    fn check_offer(&self, offer: &Offer) -> Result<(), Refusal>
+    pub(super) fn check_offer(&self, offer: &Offer) -> Result<(), Refusal>
         ensures { AnswersAtOnce result (foreign_fault self.now.store.config offer.now) (λ _. ⊤) }
     {
         if offer.format != self.store.config().format().number() {

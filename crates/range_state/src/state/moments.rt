@@ -1,0 +1,113 @@
+//! The moment of a range: its rows at a time, which are hashed and offered while the range goes on.
+ghost use Rattle.std.specs.Prelude.{◌≡◌, None, IfSome};
+ghost use Rattle.std.specs.Arc.{arc_value};
+ghost use Rattle.vclock.specs.Answer.{Answers};
+ghost use Rattle.vclock.specs.Outcome.{Does, DoesAtOnce, gives};
+ghost use Rattle.range_state.specs.State.{rows_at};
+ghost use Rattle.range_state.specs.Moments.{with_moment, AreMomentJobs, with_digest, install_moment, moment_fault, front_of, open_at_moment};
+
+use crate::moment::Moment;
+use crate::record::Record;
+use crate::state::RangeState;
+use crate::state::sessions::check_crowd;
+use rehash::Job;
+use snapshot::Snapshot;
+use std::alloc::Global;
+use std::sync::Arc;
+use sync_session::Session;
+use tree_nodes::{Hashed, NodeAt};
+use vclock::Refusal;
+use walk_messages::Offer;
+
+impl RangeState {
+    /// Keeps the rows now, and the digests of their tree, as the moment of the range, in the place of another one. Shares
+    /// the leaves, and copies no row: while the moment is kept, the first change of a chunk of rows copies it.
+    ///
+    /// Refused: NoMemory. On error the state is unchanged.
+    pub fn hold_moment(&mut self, alloc: Global) -> Result<(), Refusal>
+        ensures { Does result self.old self.new (gives tt (with_moment self.old)) }
+    {
+        let tree = self.store.tree().share(alloc)?;
+        let front = self.store.journal().len();
+        self.moment = Some(Moment { tree, front });
+        Ok(())
+    }
+
+    /// Lets go of the moment, if there is one. Doesn't allocate.
+    pub fn drop_moment(&mut self)
+        ensures { self.new ≡ record self.old { moment = None } }
+    {
+        self.moment = None;
+    }
+
+    /// Returns jobs of different nodes of the moment: of all its dirty nodes whose children are clean, or of the first
+    /// `most` of them if there are more. Without a moment there are none. Refused: NoMemory.
+    pub fn take_moment_jobs(&self, alloc: Global, most: usize) -> Result<Vec<Job>, Refusal>
+        ensures { Answers result None (λ jobs. AreMomentJobs self.now.moment most jobs.items) }
+    {
+        match &self.moment {
+            Some(moment) => moment.tree.take_jobs(alloc, most),
+            None => Ok(Vec::new(alloc)),
+        }
+    }
+
+    /// Installs the digest of a text at a node of the moment, and at that node of the range's tree, if its children are
+    /// clean and this is its text now.
+    ///
+    /// Refused: Stale (there is no moment, its tree has no such node, one of its children is dirty, or the node has
+    /// another text). On error the state is unchanged. Doesn't allocate: the text is compared with the rows in place.
+    pub fn install_moment(&mut self, node: NodeAt, hashed: &Hashed) -> Result<(), Refusal>
+        ensures { DoesAtOnce result self.old self.new (install_moment self.old node hashed.now) }
+    {
+        let Some(mut moment) = self.moment.take() else {
+            return Err(Refusal::Stale);
+        };
+        let done = moment.tree.install(node, hashed);
+        self.moment = Some(moment);
+        if done.is_ok() {
+            self.install_if_current(node, hashed);
+        }
+        done
+    }
+
+    /// Installs the digest of a text at a node, if its children are clean and this is its text now.
+    fn install_if_current(&mut self, node: NodeAt, hashed: &Hashed)
+        ensures { self.new ≡ record self.old { store = with_digest self.old.store node hashed.now } }
+    {
+        let _changed = self.install(node, hashed);
+    }
+
+    /// Makes a snapshot of the moment, to offer to another replica. Copies no row. Refused, in order: Dirty (there is no
+    /// moment, or some node of it has no digest), NoMemory.
+    pub fn moment(&self, alloc: Global) -> Result<Arc<Snapshot, Global>, Refusal>
+        ensures { Answers result (moment_fault self.now.moment)
+            (λ snapshot. arc_value snapshot ≡ rows_at self.now.store (front_of self.now.moment)) }
+    {
+        match &self.moment {
+            Some(moment) => moment.tree.snapshot(alloc),
+            None => Err(Refusal::Dirty),
+        }
+    }
+
+    /// Opens a session with a partner's offer: the rows of the moment are compared with those under the offered root, so it
+    /// may ask for leaves that differ only because the range has gone on. Returns the number of the session, from 0.
+    ///
+    /// Refused, in order: OtherFormat, OtherRange, SessionsFull (64 sessions are open, or there are 1,024 records),
+    /// Dirty (there is no moment, or some node of it has no digest), NoMemory. On error the state is unchanged.
+    pub fn open_session_at_moment(
+        &mut self,
+        alloc: Global,
+        partner: u16,
+        offer: Offer,
+    ) -> Result<u64, Refusal>
+        ensures { Does result self.old self.new (open_at_moment self.old partner offer) }
+    {
+        self.check_offer(&offer)?;
+        check_crowd(&self.records)?;
+        let own = self.moment(alloc)?;
+        let session = Session::start(alloc, own, offer.root)?;
+        let id = self.records.len() as u64;
+        self.records.push(Record { partner, session })?;
+        Ok(id)
+    }
+}
