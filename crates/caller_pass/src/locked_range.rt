@@ -3,10 +3,11 @@ ghost use Rattle.std.specs.Prelude.{◌≡◌, ◌≤◌, [], None, IfErr, IsTru
 ghost use Rattle.std.specs.Arc.{arc_value};
 ghost use Rattle.vclock.specs.Answer.{Answers, AnswersAtOnce};
 ghost use Rattle.range_tree.specs.Jobs.{GivesJob};
-ghost use Rattle.vclock.specs.Outcome.{Does, DoesAtOnce, DoesOrNoMemory, through};
+ghost use Rattle.vclock.specs.Outcome.{Does, DoesAtOnce, DoesOrNoMemory, gives, through};
 ghost use Rattle.range_state.specs.Counts.{counts_of};
 ghost use Rattle.range_store.specs.Store.{is_sent, ask_fault, dirty_fault, rows_now, tree_in};
-ghost use Rattle.range_state.specs.State.{install};
+ghost use Rattle.range_state.specs.State.{install, rows_at};
+ghost use Rattle.range_state.specs.Moments.{with_moment, AreMomentJobs, install_moment, moment_fault, front_of, open_at_moment};
 ghost use Rattle.range_state.specs.Sessions.{open_session, cancel_session, unknown_fault};
 ghost use Rattle.range_state.specs.Migrates.{migrate};
 ghost use Rattle.range_state.specs.Syncs.{IsFirstOf};
@@ -307,6 +308,66 @@ impl<L: Ledger> LockedRange<L> {
             (through (moved self.old) (open_session self.old.state partner offer)) }
     {
         let id = self.state.open_session(alloc, partner, offer);
+        let _right = self.state.journal();
+        id
+    }
+
+    /// Keeps the rows now as the range's moment, as `RangeState::hold_moment` does. Refused: NoMemory. On error the range
+    /// is unchanged.
+    pub fn hold_moment(&mut self, alloc: Global) -> Result<(), Refusal>
+        ensures { Does result self.old self.new (gives tt (moved self.old (with_moment self.old.state))) }
+    {
+        let held = self.state.hold_moment(alloc);
+        let _right = self.state.journal();
+        held
+    }
+
+    /// Lets go of the moment, if there is one. Doesn't allocate.
+    pub fn drop_moment(&mut self)
+        ensures { self.new ≡ moved self.old (record self.old.state { moment = None }) }
+    {
+        self.state.drop_moment();
+        let _right = self.state.journal();
+    }
+
+    /// Returns jobs of the moment's nodes, as `RangeState::take_moment_jobs` does. Refused: NoMemory.
+    pub fn take_moment_jobs(&self, alloc: Global, most: usize) -> Result<Vec<Job>, Refusal>
+        ensures { Answers result None (λ jobs. AreMomentJobs self.now.state.moment most jobs.items) }
+    {
+        self.state.take_moment_jobs(alloc, most)
+    }
+
+    /// Installs the digest of a text at a node of the moment, as `RangeState::install_moment` does. Doesn't allocate.
+    /// Refused: Stale. On error the range is unchanged.
+    pub fn install_moment(&mut self, node: NodeAt, hashed: &Hashed) -> Result<(), Refusal>
+        ensures { DoesAtOnce result self.old self.new
+            (through (moved self.old) (install_moment self.old.state node hashed.now)) }
+    {
+        let installed = self.state.install_moment(node, hashed);
+        let _right = self.state.journal();
+        installed
+    }
+
+    /// Makes a snapshot of the moment, as `RangeState::moment` does. Refused, in order: Dirty, NoMemory.
+    pub fn moment(&self, alloc: Global) -> Result<Arc<Snapshot, Global>, Refusal>
+        ensures { Answers result (moment_fault self.now.state.moment)
+            (λ snapshot. arc_value snapshot ≡ rows_at self.now.state.store (front_of self.now.state.moment)) }
+    {
+        self.state.moment(alloc)
+    }
+
+    /// Opens a session at the moment, as `RangeState::open_session_at_moment` does, and returns its number. Refused as
+    /// that is. On error the range is unchanged.
+    pub fn open_session_at_moment(
+        &mut self,
+        alloc: Global,
+        partner: u16,
+        offer: Offer,
+    ) -> Result<u64, Refusal>
+        ensures { Does result self.old self.new
+            (through (moved self.old) (open_at_moment self.old.state partner offer)) }
+    {
+        let id = self.state.open_session_at_moment(alloc, partner, offer);
         let _right = self.state.journal();
         id
     }
