@@ -15,14 +15,15 @@ use Rattle.range_state.specs.declared.event.AnswerTaken.{AnswerTaken}
 use Rattle.range_state.specs.declared.event.AnswerCounted.{AnswerCounted}
 use Rattle.range_state.specs.State.{State}
 use Rattle.range_store.specs.Offers.{offers_of}
-use Rattle.range_state.specs.Sessions.{open_session, taken_in, Refuses, TakesInner, TakesLeaf, TakesFor}
+use Rattle.range_state.specs.Sessions.{taken_in, Refuses, TakesInner, TakesLeaf, TakesFor}
 use Rattle.caller_pass.specs.Passes.{PassView, with_receipts, seen_after}
 use Rattle.caller_pass.specs.Locks.{Locked, moved, IsRecorded, TellsAnswer}
 use Rattle.caller_pass.proofs.PassLaws.{seen_rises}
 use Rattle.ring_node.specs.Gains.{IsGain, Gains, GainsSome}
 use Rattle.ring_node.specs.Links.{IsLostExactly}
 use Rattle.ring_node.specs.Moments.{ChangedAtSomeMoment}
-use Rattle.ring_node.specs.Walks.{IsOpening, IsOpenRefusal, IsTakeRefusal}
+use Rattle.ring_node.specs.Walks.{IsOpeningBy, IsOpenRefusal, IsTakeRefusal, opening}
+use Rattle.ring_node.specs.declared.syncer.LocalRows.{LocalRows}
 use Rattle.walk_messages.specs.declared.message.Offer.{Offer}
 use Rattle.ring_node.proofs.BroughtLaws.{all_brought, seen_up}
 use Rattle.ring_node.proofs.GainLaws.{some_same}
@@ -108,8 +109,9 @@ take_keeps T before after e is same = same
 
 -- ---- with whom a session is opened
 
-pub session_opened : (Right : Locked → Type 0) (partner id : ℕ) (offer : Offer) → ChangedAtSomeMoment Right (λ before after. Does (Ok id) before after (through (moved before) (open_session before.state partner offer))) → ChangedAtSomeMoment Right (IsOpening id partner)
-session_opened Right partner id offer m = record { before = m.before; after = m.after; right = m.right; step = (offer, m.step) }
+pub session_opened : (Right : Locked → Type 0) (rows : LocalRows) (partner id : ℕ) (offer : Offer) → ChangedAtSomeMoment Right (λ before after. Does (Ok id) before after (through (moved before) (opening rows before.state partner offer)))
+    → ChangedAtSomeMoment Right (IsOpeningBy rows id partner)
+session_opened Right rows partner id offer m = record { before = m.before; after = m.after; right = m.right; step = (offer, m.step) }
 
 -- ---- how many came
 

@@ -8,7 +8,7 @@
 //! that at some moment there was a right value with this outcome.
 //!
 //! - [`range`], [`hints`], [`controller`], [`offers`]: the shared parts.
-//! - [`rehasher`], [`syncer`], [`delivery`]: background work, in turns.
+//! - [`rehasher`], [`moment_worker`], [`syncer`], [`delivery`]: background work, in turns.
 //! - [`link`]: the trait of a link to a partner. [`channel`], [`memory`]: links over channels, and to a pool in the
 //!   same memory.
 //! - [`gate`], [`scripted_link`], [`deed`]: gates and links for tests.
@@ -28,6 +28,7 @@ pub mod gate;
 pub mod hints;
 pub mod link;
 pub mod memory;
+pub mod moment_worker;
 pub mod offers;
 pub mod range;
 pub mod rehasher;
@@ -43,6 +44,7 @@ pub use gate::{Gate, OpenGate, Step};
 pub use hints::SharedHints;
 pub use link::{Link, Reached};
 pub use memory::MemoryLink;
+pub use moment_worker::MomentReport;
 pub use offers::{OfferCounts, OfferPool};
 pub use range::{NotClosed, RenewedRange, SharedRange};
 pub use rehasher::RehashReport;

@@ -4,12 +4,14 @@ ghost use Rattle.vclock.specs.Answer.{AnswersAtOnce};
 ghost use Rattle.vclock.specs.Outcome.{Does, through};
 ghost use Rattle.range_journal.specs.declared.journal.Source.{Source};
 ghost use Rattle.range_state.specs.Sessions.{open_session, unknown_fault};
+ghost use Rattle.range_state.specs.Moments.{open_at_moment};
 ghost use Rattle.range_state.specs.Syncs.{IsFirstOf};
 ghost use Rattle.caller_pass.specs.Locks.{IsLocked, moved, TellsAnswer};
 ghost use Rattle.ring_node.specs.Gains.{Gains, GainsSome};
 ghost use Rattle.ring_node.specs.Links.{IsLostExactly};
 ghost use Rattle.ring_node.specs.Moments.{FoundAtSomeMoment, ChangedAtSomeMoment};
-ghost use Rattle.ring_node.specs.Walks.{IsOfferRefusal, IsOpenRefusal, IsAskRefusal, IsTakeRefusal, IsWalkRefusal, IsEndIn, IsOpening, IsNextOrNone};
+ghost use Rattle.ring_node.specs.Walks.{IsOfferRefusal, IsOpenRefusal, IsAskRefusal, IsTakeRefusal, IsWalkRefusal, IsEndIn, IsOpening, IsOpeningBy, IsNextOrNone, opening};
+ghost use Rattle.ring_node.specs.declared.syncer.LocalRows.TheVariants as rows;
 
 use crate::link::{Link, Reached};
 use crate::range::SharedRange;
@@ -80,6 +82,15 @@ impl Walk {
     }
 }
 
+/// The local rows that a session compares with those of its partner.
+#[derive(Clone, Copy, Debug, PartialEq, Eq)]
+enum LocalRows {
+    /// The rows now.
+    Now,
+    /// The rows of the moment that the range keeps.
+    Moment,
+}
+
 /// The end of a session.
 #[derive(Clone, Copy, Debug, PartialEq, Eq)]
 struct End {
@@ -100,7 +111,6 @@ impl<L: Ledger> SharedRange<L> {
     /// message isn't an offer), OtherFormat, OtherRange, SessionsFull, Dirty (some node of the local tree has no
     /// digest), UnknownSession (no run meets it), Crowded, JournalFull, NoMemory. On error the versions accepted before
     /// stay, and the session is cancelled.
-    #[tactic(auto, using(crate::proofs::GainLaws::some_none, crate::proofs::GainLaws::some_same, crate::proofs::WalkLaws::gains_grow, crate::proofs::WalkLaws::gains_counted, crate::proofs::WalkLaws::open_keeps))]
     pub fn sync_worker<R: Wait, C: Ledger, K: Link>(
         &self,
         rt: &R,
@@ -121,9 +131,61 @@ impl<L: Ledger> SharedRange<L> {
         ensures refusal { IfErr result (λ e. ((IsOfferRefusal e ⊎ IsOpenRefusal e) × (pass.new ≡ pass.old))
             ⊎ IsWalkRefusal e) }
     {
+        self.sync_by(rt, alloc, link, pass, partner, turns, LocalRows::Now)
+    }
+
+    /// Syncs as `sync_worker` does, by a session that compares the rows of the moment that the range keeps. So it doesn't
+    /// wait until no node of the tree is dirty; it may ask for a leaf that differs only because the range has gone on.
+    ///
+    /// Refused as `sync_worker` is; Dirty if there is no moment, or some node of it has no digest.
+    pub fn sync_worker_at_moment<R: Wait, C: Ledger, K: Link>(
+        &self,
+        rt: &R,
+        alloc: Global,
+        _slot: &Slot<C>,
+        link: &mut K,
+        pass: &mut Pass<L>,
+        partner: u16,
+        turns: u64,
+    ) -> Result<SyncReport, Refusal>
+        ensures gains { IfOk result (λ report. Gains pass.old pass.new Source.Partner report.accepted) }
+        ensures turns { IfOk result (λ report. report.bad ≤ turns) }
+        ensures opened { IfOk result (λ report. ChangedAtSomeMoment (IsLocked L.parts) (IsOpeningBy rows.Moment report.id partner)) }
+        ensures end { IfOk result (λ report. FoundAtSomeMoment (IsLocked L.parts)
+            (λ locked. IsEndIn locked.state.records report.id report.state report.asked)) }
+        ensures some { OnErr result (GainsSome pass.old pass.new Source.Partner) }
+        ensures lost { IsLostExactly (K.failed link.old) (K.failed link.new) result }
+        ensures refusal { IfErr result (λ e. ((IsOfferRefusal e ⊎ IsOpenRefusal e) × (pass.new ≡ pass.old))
+            ⊎ IsWalkRefusal e) }
+    {
+        self.sync_by(rt, alloc, link, pass, partner, turns, LocalRows::Moment)
+    }
+
+    /// Runs a session that compares these local rows with those under the offer of a link's partner.
+    #[tactic(auto, using(crate::proofs::GainLaws::some_none, crate::proofs::GainLaws::some_same, crate::proofs::WalkLaws::gains_grow, crate::proofs::WalkLaws::gains_counted, crate::proofs::WalkLaws::open_keeps))]
+    fn sync_by<R: Wait, K: Link>(
+        &self,
+        rt: &R,
+        alloc: Global,
+        link: &mut K,
+        pass: &mut Pass<L>,
+        partner: u16,
+        turns: u64,
+        local: LocalRows,
+    ) -> Result<SyncReport, Refusal>
+        ensures gains { IfOk result (λ report. Gains pass.old pass.new Source.Partner report.accepted) }
+        ensures turns { IfOk result (λ report. report.bad ≤ turns) }
+        ensures opened { IfOk result (λ report. ChangedAtSomeMoment (IsLocked L.parts) (IsOpeningBy local report.id partner)) }
+        ensures end { IfOk result (λ report. FoundAtSomeMoment (IsLocked L.parts)
+            (λ locked. IsEndIn locked.state.records report.id report.state report.asked)) }
+        ensures some { OnErr result (GainsSome pass.old pass.new Source.Partner) }
+        ensures lost { IsLostExactly (K.failed link.old) (K.failed link.new) result }
+        ensures refusal { IfErr result (λ e. ((IsOfferRefusal e ⊎ IsOpenRefusal e) × (pass.new ≡ pass.old))
+            ⊎ IsWalkRefusal e) }
+    {
         let before = pass.receipts().len();
         let offer = reach_offer(rt, alloc, link)?;
-        let id = self.open_session(rt, alloc, partner, offer)?;
+        let id = self.open(rt, alloc, partner, offer, local)?;
         let walk = self.walk(rt, alloc, link, pass, id, offer.offer, turns);
         // After a refusal, too.
         let end = self.end_session(rt, id);
@@ -137,6 +199,25 @@ impl<L: Ledger> SharedRange<L> {
             known,
             bad,
         })
+    }
+
+    /// Opens a session that compares these local rows.
+    fn open<R: Wait>(
+        &self,
+        rt: &R,
+        alloc: Global,
+        partner: u16,
+        offer: Offer,
+        local: LocalRows,
+    ) -> Result<u64, Refusal>
+        ensures refusal { IfErr result IsOpenRefusal }
+        ensures moment { ChangedAtSomeMoment (IsLocked L.parts) (λ before after.
+            Does result before after (through (moved before) (opening local before.state partner offer))) }
+    {
+        match local {
+            LocalRows::Now => self.open_session(rt, alloc, partner, offer),
+            LocalRows::Moment => self.open_at_moment(rt, alloc, partner, offer),
+        }
     }
 
     /// Opens a session, as [`LockedRange::open_session`] does.
@@ -155,6 +236,24 @@ impl<L: Ledger> SharedRange<L> {
         // Called for its clause `valid` alone: the range is right.
         let _valid = range.store();
         range.open_session(alloc, partner, offer)
+    }
+
+    /// Opens a session at the moment, as [`LockedRange::open_session_at_moment`] does.
+    fn open_at_moment<R: Wait>(
+        &self,
+        rt: &R,
+        alloc: Global,
+        partner: u16,
+        offer: Offer,
+    ) -> Result<u64, Refusal>
+        ensures refusal { IfErr result IsOpenRefusal }
+        ensures moment { ChangedAtSomeMoment (IsLocked L.parts) (λ before after.
+            Does result before after (through (moved before) (open_at_moment before.state partner offer))) }
+    {
+        let mut range = self.range.lock(rt);
+        // Called for its clause `valid` alone: the range is right.
+        let _valid = range.store();
+        range.open_session_at_moment(alloc, partner, offer)
     }
 
     /// Runs the turns of a session with an offer of that number.

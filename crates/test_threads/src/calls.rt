@@ -5,7 +5,10 @@ use admission::Slot;
 use caller_pass::{LockedRange, Pass};
 use range_journal::Source;
 use range_state::{Accepted, Loaded, RangeConfig, RangeCounts};
-use ring_node::{Gate, Link, OfferPool, RehashReport, SharedController, SharedRange, SyncReport};
+use ring_node::{
+    Gate, Link, MomentReport, OfferPool, OpenGate, RehashReport, SharedController, SharedRange,
+    SyncReport,
+};
 use snapshot::Snapshot;
 use std::alloc::Global;
 use std::sync::ledger::Ledger;
@@ -182,6 +185,36 @@ pub fn sync<L: Ledger, C: Ledger, K: Link, R: Wait>(
 ) -> Result<SyncReport, Refusal> {
     let slot = lend(rt, slots)?;
     let report = range.sync_worker(rt, alloc, &slot, link, pass, PARTNER, turns);
+    slots.give_back(rt, slot);
+    report
+}
+
+/// Keeps a moment of a range and hashes it, in at most this number of turns.
+pub fn hash_moment<L: Ledger, C: Ledger, R: Wait>(
+    rt: &R,
+    alloc: Global,
+    range: &SharedRange<L>,
+    slots: &SharedController<C>,
+    turns: u64,
+) -> Result<MomentReport, Refusal> {
+    let slot = lend(rt, slots)?;
+    let report = range.moment_worker(rt, alloc, &slot, &OpenGate, turns);
+    slots.give_back(rt, slot);
+    report
+}
+
+/// Syncs a range at its moment over a link, in at most this number of turns.
+pub fn sync_at_moment<L: Ledger, C: Ledger, K: Link, R: Wait>(
+    rt: &R,
+    alloc: Global,
+    range: &SharedRange<L>,
+    slots: &SharedController<C>,
+    pass: &mut Pass<L>,
+    link: &mut K,
+    turns: u64,
+) -> Result<SyncReport, Refusal> {
+    let slot = lend(rt, slots)?;
+    let report = range.sync_worker_at_moment(rt, alloc, &slot, link, pass, PARTNER, turns);
     slots.give_back(rt, slot);
     report
 }

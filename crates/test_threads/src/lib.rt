@@ -23,6 +23,8 @@ mod loads;
 #[cfg(test)]
 mod locked;
 #[cfg(test)]
+mod moments;
+#[cfg(test)]
 mod nodes;
 #[cfg(test)]
 mod outcomes;
