@@ -19,6 +19,11 @@ pub(crate) enum LockedCall {
     Read(u8),
     /// A read of the store, for no pass.
     Look(u8),
+    HoldMoment,
+    /// `take_moment_jobs` and `install_moment`, until all nodes of the moment are clean.
+    HashMoment,
+    Moment,
+    OpenAtMoment,
     /// Loads a row of two versions.
     Load,
     Migrate,
@@ -44,6 +49,9 @@ pub(crate) enum SharedCall {
     Next,
     Deliver,
     Renew,
+    /// `hold_moment`, `moment_worker` and `moment`.
+    Moment,
+    SyncAtMoment,
     /// Loads a row of two versions.
     Load,
     Migrate,
@@ -57,7 +65,7 @@ pub(crate) enum Call {
 }
 
 /// The calls in order. Each list that grows by its calls grows at least twice.
-pub(crate) const CALLS: [Call; 51] = [
+pub(crate) const CALLS: [Call; 57] = [
     Call::Locked(LockedCall::Hash),
     Call::Locked(LockedCall::Snapshot),
     Call::Locked(LockedCall::OpenSession),
@@ -79,6 +87,10 @@ pub(crate) const CALLS: [Call; 51] = [
     Call::Locked(LockedCall::Get(b'b')),
     Call::Locked(LockedCall::Read(b'c')),
     Call::Locked(LockedCall::Look(b'b')),
+    Call::Locked(LockedCall::HoldMoment),
+    Call::Locked(LockedCall::HashMoment),
+    Call::Locked(LockedCall::Moment),
+    Call::Locked(LockedCall::OpenAtMoment),
     Call::Locked(LockedCall::Load),
     Call::Locked(LockedCall::Migrate),
     Call::Shared(SharedCall::Put(b'b')),
@@ -107,6 +119,8 @@ pub(crate) const CALLS: [Call; 51] = [
     Call::Shared(SharedCall::Keep(b'l')),
     Call::Shared(SharedCall::Keep(b'm')),
     Call::Shared(SharedCall::Renew),
+    Call::Shared(SharedCall::Moment),
+    Call::Shared(SharedCall::SyncAtMoment),
     Call::Shared(SharedCall::Load),
     Call::Shared(SharedCall::Migrate),
 ];
@@ -124,12 +138,14 @@ impl Call {
     pub(crate) fn is_in_steps(self) -> bool {
         matches!(
             self,
-            Call::Locked(LockedCall::Hash)
+            Call::Locked(LockedCall::Hash | LockedCall::HashMoment)
                 | Call::Shared(
                     SharedCall::Rehash
                         | SharedCall::Sync
                         | SharedCall::SyncByScript
                         | SharedCall::Deliver
+                        | SharedCall::Moment
+                        | SharedCall::SyncAtMoment
                 )
         )
     }
@@ -150,6 +166,10 @@ impl LockedCall {
             LockedCall::Get(_) => "LockedRange::get",
             LockedCall::Read(_) => "LockedRange::read",
             LockedCall::Look(_) => "RangeStore::get of a LockedRange",
+            LockedCall::HoldMoment => "LockedRange::hold_moment",
+            LockedCall::HashMoment => "LockedRange::take_moment_jobs and install_moment",
+            LockedCall::Moment => "LockedRange::moment",
+            LockedCall::OpenAtMoment => "LockedRange::open_session_at_moment",
             LockedCall::Load => "LockedRange::load_rows and LockedRange::load_read",
             LockedCall::Migrate => "LockedRange::migrate",
         }
@@ -173,6 +193,10 @@ impl SharedCall {
             SharedCall::Next => "SharedHints::next",
             SharedCall::Deliver => "deliver",
             SharedCall::Renew => "SharedHints::renew",
+            SharedCall::Moment => {
+                "SharedRange::hold_moment, SharedRange::moment_worker and SharedRange::moment"
+            }
+            SharedCall::SyncAtMoment => "SharedRange::sync_worker_at_moment",
             SharedCall::Load => "SharedRange::load_rows and SharedRange::load_rows_passing",
             SharedCall::Migrate => "SharedRange::migrate",
         }

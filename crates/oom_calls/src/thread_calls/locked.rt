@@ -73,6 +73,16 @@ impl<L: Ledger> Locked<L> {
             LockedCall::Get(key) => self.get(alloc, key),
             LockedCall::Read(key) => self.read(alloc, key),
             LockedCall::Look(key) => Ok(self.range.store().get(alloc, &[key])?.len() as u64),
+            LockedCall::HoldMoment => {
+                self.range.hold_moment(alloc)?;
+                Ok(0)
+            }
+            LockedCall::HashMoment => self.hash_moment(alloc),
+            LockedCall::Moment => Ok(u64::from(self.range.moment(alloc)?.format().number())),
+            LockedCall::OpenAtMoment => {
+                let offer = partner.snapshot.offer(1);
+                self.range.open_session_at_moment(alloc, 2, offer)
+            }
             LockedCall::Load => self.load(alloc),
             LockedCall::Migrate => self.migrate(alloc),
         }
@@ -87,6 +97,20 @@ impl<L: Ledger> Locked<L> {
             };
             let node = job.node();
             self.range.install(node, &run_job(job))?;
+            count = count.saturating_add(1);
+        }
+        Ok(count)
+    }
+
+    /// Hashes the dirty nodes of the moment, and returns their number.
+    fn hash_moment(&mut self, alloc: Global) -> Result<u64, Refusal> {
+        let mut count = 0u64;
+        for _ in 0..TURNS {
+            let Some(job) = self.range.take_moment_jobs(alloc, 1)?.pop() else {
+                break;
+            };
+            let node = job.node();
+            self.range.install_moment(node, &run_job(job))?;
             count = count.saturating_add(1);
         }
         Ok(count)

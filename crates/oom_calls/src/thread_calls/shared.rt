@@ -159,6 +159,11 @@ impl<L: Ledger, C: Ledger> Shared<L, C> {
             SharedCall::Next => self.next(rt, alloc),
             SharedCall::Deliver => self.deliver(rt, alloc),
             SharedCall::Renew => self.renew(rt, alloc),
+            SharedCall::Moment => self.hash_moment(rt, alloc),
+            SharedCall::SyncAtMoment => {
+                let mut link = MemoryLink::new(alloc, &partner.first);
+                self.sync_at_moment(rt, alloc, &mut link)
+            }
             SharedCall::Load => self.load(rt, alloc),
             SharedCall::Migrate => {
                 self.range.migrate(rt, alloc)?;
@@ -244,7 +249,7 @@ impl<L: Ledger, C: Ledger> Shared<L, C> {
         }
     }
 
-    /// Syncs over a link. A refused growth in the link makes it fail once; this returns NoMemory then too.
+    /// Syncs over a link.
     fn sync<K: Link, R: Wait>(
         &mut self,
         rt: &R,
@@ -259,11 +264,41 @@ impl<L: Ledger, C: Ledger> Shared<L, C> {
             None => Err(Refusal::Stranger),
         };
         self.slots.give_back(rt, slot);
-        match (synced, link.failures()) {
-            (Ok(report), 0) => Ok(digits(&report)),
-            (Err(Refusal::LinkLost), 1) => Err(Refusal::NoMemory),
-            (Err(Refusal::NoMemory), 0) => Err(Refusal::NoMemory),
-            _ => Err(Refusal::LinkLost),
+        outcome(synced, link.failures())
+    }
+
+    /// Syncs at the moment over a link, as `sync` does.
+    fn sync_at_moment<K: Link, R: Wait>(
+        &mut self,
+        rt: &R,
+        alloc: Global,
+        link: &mut K,
+    ) -> Result<u64, Refusal> {
+        let slot = self.slots.lend(rt)?;
+        let synced = match self.passes.get_mut(1) {
+            Some(pass) => self
+                .range
+                .sync_worker_at_moment(rt, alloc, &slot, link, pass, 2, TURNS),
+            None => Err(Refusal::Stranger),
+        };
+        self.slots.give_back(rt, slot);
+        outcome(synced, link.failures())
+    }
+
+    /// Keeps a moment and hashes it, and returns the number of its nodes that were dirty.
+    fn hash_moment<R: Wait>(&mut self, rt: &R, alloc: Global) -> Result<u64, Refusal> {
+        self.range.hold_moment(rt, alloc)?;
+        let slot = self.slots.lend(rt)?;
+        let report = self
+            .range
+            .moment_worker(rt, alloc, &slot, &self.counter, TURNS);
+        self.slots.give_back(rt, slot);
+        let report = report?;
+        self.range.moment(rt, alloc)?;
+        if report.snapshot.is_some() && report.stale == 0 {
+            Ok(report.installed)
+        } else {
+            Err(Refusal::Stale)
         }
     }
 
@@ -315,6 +350,17 @@ fn digits(report: &SyncReport) -> u64 {
         number = number.saturating_mul(10).saturating_add(count);
     }
     number
+}
+
+/// Returns the digits of the report of a sync over a link with this number of failures. A refused growth in the link
+/// makes it fail once: then that is NoMemory.
+fn outcome(synced: Result<SyncReport, Refusal>, failures: u64) -> Result<u64, Refusal> {
+    match (synced, failures) {
+        (Ok(report), 0) => Ok(digits(&report)),
+        (Err(Refusal::LinkLost), 1) => Err(Refusal::NoMemory),
+        (Err(Refusal::NoMemory), 0) => Err(Refusal::NoMemory),
+        _ => Err(Refusal::LinkLost),
+    }
 }
 
 impl<L: Ledger, C: Ledger> Drop for Shared<L, C> {
