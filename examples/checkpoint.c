@@ -4,7 +4,7 @@
 #include <stdlib.h>
 #include <string.h>
 
-enum { HEAD_LEN = 44 };
+enum { HEAD_LEN = 44, PORTION = 64 };
 
 static const uint8_t MAGIC[8] = {'a', 'n', 't', 'i', 'e', 'n', 't', 1};
 
@@ -15,8 +15,12 @@ static unsigned leaves(uint64_t format)
 
 void snapshot_of(struct antientropy_replica *replica, struct antientropy_snapshot *snapshot)
 {
-    want("rehash", antientropy_rehash(replica), ANTIENTROPY_OK);
-    want("snapshot", antientropy_snapshot(replica, snapshot), ANTIENTROPY_OK);
+    uint64_t left;
+    want("hold", antientropy_hold(replica), ANTIENTROPY_OK);
+    do
+        want("hash_moment", antientropy_hash_moment(replica, PORTION, &left), ANTIENTROPY_OK);
+    while (left > 0);
+    want("moment", antientropy_moment(replica, snapshot), ANTIENTROPY_OK);
 }
 
 /* Writes the root of a snapshot, of ANTIENTROPY_ROOT_LEN bytes. */

@@ -14,7 +14,8 @@ struct range {
 /* Places in the head of a checkpoint. */
 enum { CHECKPOINT_FORMAT_AT = 8, CHECKPOINT_ROOT_AT = 12 };
 
-/* Makes a snapshot of a replica's rows now. All nodes become clean. */
+/* Makes a snapshot of a replica's rows now: holds a moment, and hashes it in portions. Puts may come between the
+ * portions. */
 void snapshot_of(struct antientropy_replica *replica, struct antientropy_snapshot *snapshot);
 
 /* Makes the checkpoint of a snapshot. */

@@ -9,7 +9,7 @@
 
 /* A session takes each of the 4,369 nodes of a tree of format 2 at most once. Bad answers are counted apart: more than
  * a few mean that the link or the partner is at fault. */
-enum { OFFER = 7, MOST_ASKS = 10000, MOST_BAD = 8 };
+enum { OFFER = 7, MOST_ASKS = 10000, MOST_BAD = 8, PORTION = 64 };
 
 static uint8_t offer[ANTIENTROPY_OFFER_LEN], ask[ANTIENTROPY_ASK_LEN], text[ANTIENTROPY_VALUE_MAX_2];
 
@@ -55,12 +55,23 @@ static unsigned long long versions(struct antientropy_replica *replica, const ch
     return (unsigned long long)count;
 }
 
+/* Holds a replica's rows now as its moment, and hashes them in portions. Puts may come between the portions: they don't
+ * change the moment. */
+static void hold(struct antientropy_replica *replica)
+{
+    uint64_t left;
+    want("hold", antientropy_hold(replica), ANTIENTROPY_OK);
+    do
+        want("hash_moment", antientropy_hash_moment(replica, PORTION, &left), ANTIENTROPY_OK);
+    while (left > 0);
+}
+
 /* The message of the offer of a replica's rows now, under a number. */
 static uint64_t offer_now(struct antientropy_replica *replica, struct antientropy_snapshot *snapshot, uint32_t number)
 {
     uint64_t len;
-    want("rehash", antientropy_rehash(replica), ANTIENTROPY_OK);
-    want("snapshot", antientropy_snapshot(replica, snapshot), ANTIENTROPY_OK);
+    hold(replica);
+    want("moment", antientropy_moment(replica, snapshot), ANTIENTROPY_OK);
     want("offer", antientropy_offer(snapshot, number, offer, sizeof offer, &len), ANTIENTROPY_OK);
     return len;
 }
@@ -70,8 +81,8 @@ static void root_of(struct antientropy_replica *replica, uint8_t *root)
 {
     struct antientropy_snapshot snapshot = {0};
     uint64_t len;
-    want("rehash", antientropy_rehash(replica), ANTIENTROPY_OK);
-    want("snapshot", antientropy_snapshot(replica, &snapshot), ANTIENTROPY_OK);
+    hold(replica);
+    want("moment", antientropy_moment(replica, &snapshot), ANTIENTROPY_OK);
     want("root", antientropy_root(&snapshot, root, ANTIENTROPY_ROOT_LEN, &len), ANTIENTROPY_OK);
     antientropy_snapshot_free(&snapshot);
 }
@@ -116,8 +127,8 @@ static void sync(struct antientropy_replica *replica, struct antientropy_replica
     unsigned asks, bad = 0, crowded = 0;
     want("read_offer", antientropy_read_offer(offer, len, &parts), ANTIENTROPY_OK);
     uint32_t got, number = (uint32_t)parts.number;
-    want("rehash", antientropy_rehash(replica), ANTIENTROPY_OK);
-    want("open", antientropy_open(replica, 2, offer, len, &session), ANTIENTROPY_OK);
+    hold(replica);
+    want("open", antientropy_open_at_moment(replica, 2, offer, len, &session), ANTIENTROPY_OK);
     for (asks = 0; asks < MOST_ASKS && bad < MOST_BAD; asks++) {
         want("ask", antientropy_ask_at(replica, session, crowded, number, ask, sizeof ask, &len), ANTIENTROPY_OK);
         if (len == 0)

@@ -8,7 +8,7 @@
 #include <stdlib.h>
 #include <string.h>
 
-enum { OFFER = 7, CALLS = 32, NAME = 40, LOG = 1 << 16, ROOM = 1 << 14, KEYS = 12 };
+enum { OFFER = 7, CALLS = 40, NAME = 40, LOG = 1 << 16, ROOM = 1 << 14, KEYS = 12 };
 
 /* Makes a call until it isn't refused for memory. */
 #define DO(name, got) \
@@ -115,6 +115,37 @@ static void put(struct antientropy_replica *replica, uint64_t node, int key, con
     add(&receipt, sizeof receipt);
 }
 
+/* Hashes the moment of a replica. */
+static void hash_moment(struct antientropy_replica *replica)
+{
+    uint64_t left;
+    do
+        DO("antientropy_hash_moment", antientropy_hash_moment(replica, 2, &left));
+    while (left > 0);
+}
+
+/* Holds a moment of each replica, and opens a session at the one of b. */
+static void hold(void)
+{
+    struct antientropy_portion portion = {0};
+    struct antientropy_snapshot snapshot = {0};
+    uint8_t offer[ANTIENTROPY_OFFER_LEN];
+    uint64_t session, len;
+    DO("antientropy_hold", antientropy_hold(&a));
+    DO("antientropy_take_portion", antientropy_take_portion(&a, 2, &portion));
+    DO("antientropy_hash_portion", antientropy_hash_portion(&portion));
+    DO("antientropy_install_portion", antientropy_install_portion(&a, &portion, &len));
+    hash_moment(&a);
+    DO("antientropy_moment", antientropy_moment(&a, &snapshot));
+    DO("antientropy_offer", antientropy_offer(&snapshot, OFFER, offer, sizeof offer, &len));
+    DO("antientropy_hold", antientropy_hold(&b));
+    hash_moment(&b);
+    DO("antientropy_open_at_moment", antientropy_open_at_moment(&b, 1, offer, sizeof offer, &session));
+    DO("antientropy_drop_moment", antientropy_drop_moment(&b));
+    antientropy_cancel(&b, session);
+    antientropy_snapshot_free(&snapshot);
+}
+
 /* Lets replica b take what replica a has. */
 static void sync(void)
 {
@@ -184,6 +215,9 @@ static void run(void)
         put(n % 3 ? &a : &b, n % 3 ? 1 : 2, n / 2, six + 2, n % 5);
     DO("antientropy_accept", antientropy_accept(&b, key, 2, six, 6, ANTIENTROPY_LIVE, key, 2, &taken));
     sync();
+    put(&a, 1, KEYS, six, 1);
+    put(&b, 2, KEYS, six, 1);
+    hold();
     DO("antientropy_compare", antientropy_compare(six, 6, six + 1, 5, &order));
     DO("antientropy_merge", antientropy_merge(six, 6, six + 1, 5, merged, ANTIENTROPY_CLOCK_MAX, &need));
     add(merged, need * sizeof *merged);

@@ -371,11 +371,13 @@ static const char *log_synced(struct store *store)
 void store_sync(struct antientropy_replica *replica, struct antientropy_snapshot *partner)
 {
     static uint8_t offer[ANTIENTROPY_OFFER_LEN], ask[ANTIENTROPY_ASK_LEN], answer[1 << 16];
+    struct antientropy_snapshot local = {0};
     struct antientropy_taken taken;
     uint64_t len, session, state;
     want("offer", antientropy_offer(partner, OFFER, offer, sizeof offer, &len), ANTIENTROPY_OK);
-    want("rehash", antientropy_rehash(replica), ANTIENTROPY_OK);
-    want("open", antientropy_open(replica, PARTNER, offer, len, &session), ANTIENTROPY_OK);
+    snapshot_of(replica, &local);
+    antientropy_snapshot_free(&local);
+    want("open", antientropy_open_at_moment(replica, PARTNER, offer, len, &session), ANTIENTROPY_OK);
     for (;;) {
         want("ask", antientropy_ask(replica, session, OFFER, ask, sizeof ask, &len), ANTIENTROPY_OK);
         if (len == 0)

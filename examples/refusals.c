@@ -23,6 +23,7 @@ static uint8_t LONG[ANTIENTROPY_VALUE_MAX_2 + 1], out[ROOM];
 static struct antientropy_pair many[PAIRS], pairs[ANTIENTROPY_CLOCK_MAX];
 static struct antientropy_replica none, made;
 static struct antientropy_snapshot nothing;
+static struct antientropy_portion no_portion;
 static uint64_t need;
 
 /* Prints a refusal, or ends the program if it is another. */
@@ -98,6 +99,51 @@ static void makes(void)
     SEE(count, EMPTY, antientropy_count(&none, &counts));
     SEE(rehash, EMPTY, antientropy_rehash(&none));
     SEE(rehash_some, EMPTY, antientropy_rehash_some(&none, 1, &need));
+}
+
+/* Moments of a replica that has accepted some versions. */
+static void moments(void)
+{
+    struct antientropy_replica replica = {0};
+    struct antientropy_snapshot snapshot = {0};
+    struct antientropy_portion portion = {0};
+    struct antientropy_counts counts;
+    OK(antientropy_new(&replica, 2, 0, 0, 1000));
+    accept(&replica, 1, 2);
+    SEE(hold, EMPTY, antientropy_hold(&none));
+    SEE(drop_moment, EMPTY, antientropy_drop_moment(&none));
+    SEE(hash_moment, EMPTY, antientropy_hash_moment(&none, 1, &need));
+    SEE(moment, EMPTY, antientropy_moment(&none, &snapshot));
+    SEE(moment, DIRTY, antientropy_moment(&replica, &snapshot));
+    OK(antientropy_hold(&replica));
+    SEE(moment, DIRTY, antientropy_moment(&replica, &snapshot));
+    SEE(take_portion, EMPTY, antientropy_take_portion(&none, 1, &portion));
+    OK(antientropy_take_portion(&replica, 1, &portion));
+    SEE(take_portion, HELD, antientropy_take_portion(&replica, 1, &portion));
+    SEE(hash_portion, EMPTY, antientropy_hash_portion(&no_portion));
+    OK(antientropy_hash_portion(&portion));
+    SEE(install_portion, EMPTY, antientropy_install_portion(&none, &portion, &need));
+    SEE(install_portion, EMPTY, antientropy_install_portion(&replica, &no_portion, &need));
+    OK(antientropy_install_portion(&replica, &portion, &need));
+    is("a portion of one node was hashed", need == ANTIENTROPY_NODES_2 - 1 && !portion.held);
+    OK(antientropy_count(&replica, &counts));
+    is("no moment was whole", counts.front == 0);
+    while (need > 0)
+        OK(antientropy_hash_moment(&replica, 1000, &need));
+    OK(antientropy_moment(&replica, &snapshot));
+    SEE(moment, HELD, antientropy_moment(&replica, &snapshot));
+    OK(antientropy_count(&replica, &counts));
+    is("the moment has two entries", counts.front == 2 && counts.dirty == 0);
+    accept(&replica, 3, 1);
+    OK(antientropy_hold(&replica));
+    OK(antientropy_count(&replica, &counts));
+    is("the last whole moment has two entries", counts.front == 2 && counts.dirty == 4);
+    OK(antientropy_take_portion(&replica, 1, &portion));
+    antientropy_portion_free(&portion);
+    OK(antientropy_drop_moment(&replica));
+    SEE(moment, DIRTY, antientropy_moment(&replica, &nothing));
+    antientropy_snapshot_free(&snapshot);
+    antientropy_free(&replica);
 }
 
 /* One of the two puts, and its name. */
@@ -379,7 +425,21 @@ static void sessions(void)
     SEE(open, OTHER_FORMAT, antientropy_open(&one, 2, offer, sizeof offer, &session));
     SEE(open, OTHER_RANGE, antientropy_open(&half, 2, offer, sizeof offer, &session));
     SEE(open, DIRTY, antientropy_open(&replica, 2, offer, sizeof offer, &session));
-    OK(antientropy_rehash(&replica));
+    SEE(open_at_moment, EMPTY, antientropy_open_at_moment(&none, 2, offer, sizeof offer, &session));
+    SEE(open_at_moment, BAD_CLOCK,
+        antientropy_open_at_moment(&replica, ANTIENTROPY_NODE_MAX + 1, offer, sizeof offer - 1, &session));
+    SEE(open_at_moment, BAD_MESSAGE, antientropy_open_at_moment(&replica, 2, offer, sizeof offer - 1, &session));
+    SEE(open_at_moment, OTHER_FORMAT, antientropy_open_at_moment(&one, 2, offer, sizeof offer, &session));
+    SEE(open_at_moment, OTHER_RANGE, antientropy_open_at_moment(&half, 2, offer, sizeof offer, &session));
+    SEE(open_at_moment, DIRTY, antientropy_open_at_moment(&replica, 2, offer, sizeof offer, &session));
+    OK(antientropy_hold(&replica));
+    SEE(open_at_moment, DIRTY, antientropy_open_at_moment(&replica, 2, offer, sizeof offer, &session));
+    OK(antientropy_hash_moment(&replica, ANTIENTROPY_LEAVES_2, &need));
+    is("two levels are left", need == 1 + 16 + 256);
+    while (need > 0)
+        OK(antientropy_hash_moment(&replica, ANTIENTROPY_LEAVES_2, &need));
+    OK(antientropy_open_at_moment(&replica, 2, offer, sizeof offer, &session));
+    OK(antientropy_cancel(&replica, session));
     OK(antientropy_open(&replica, 2, offer, sizeof offer, &session));
     SEE(outstanding, EMPTY, antientropy_outstanding(&none, session, &count));
     SEE(outstanding, UNKNOWN_SESSION, antientropy_outstanding(&replica, session + 1, &count));
@@ -406,6 +466,7 @@ static void sessions(void)
     for (unsigned n = 1; n < ANTIENTROPY_OPEN_SESSIONS_MAX; n++)
         OK(antientropy_open(&replica, 2, offer, sizeof offer, &session));
     SEE(open, SESSIONS_FULL, antientropy_open(&replica, 2, offer, sizeof offer, &session));
+    SEE(open_at_moment, SESSIONS_FULL, antientropy_open_at_moment(&replica, 2, offer, sizeof offer, &session));
 
     OK(antientropy_new(&full, 2, 0, 0, 1000));
     OK(antientropy_new(&small, 2, 0, 0, 1));
@@ -583,10 +644,14 @@ static void empty_replicas(struct results *at)
     EMPTY(antientropy_top_counter(&empty, 1, KEY, 4, 1, &at->number));
     EMPTY(antientropy_rehash(&empty));
     EMPTY(antientropy_rehash_some(&empty, 1, &at->number));
+    EMPTY(antientropy_hold(&empty));
+    EMPTY(antientropy_drop_moment(&empty));
+    EMPTY(antientropy_hash_moment(&empty, 1, &at->number));
     EMPTY(antientropy_migrate(&empty));
     EMPTY(antientropy_load(&empty, VALUE, 4, &at->loaded));
     EMPTY(antientropy_load_format(&empty, 2, VALUE, 4, &at->loaded));
     EMPTY(antientropy_open(&empty, 1, VALUE, 4, &at->number));
+    EMPTY(antientropy_open_at_moment(&empty, 1, VALUE, 4, &at->number));
     EMPTY(antientropy_outstanding(&empty, 0, &at->number));
     EMPTY(antientropy_ask_at(&empty, 0, 0, OFFER, at->bytes, sizeof at->bytes, &at->number));
     EMPTY(antientropy_ask(&empty, 0, OFFER, at->bytes, sizeof at->bytes, &at->number));
@@ -599,12 +664,14 @@ static void empty_replicas(struct results *at)
 static void empty_others(struct results *at)
 {
     static struct antientropy_snapshot snapshot;
+    static struct antientropy_portion portion;
     static struct antientropy_hints hints;
     static struct antientropy_slots slots;
     EMPTY(antientropy_root(&snapshot, at->bytes, sizeof at->bytes, &at->number));
     EMPTY(antientropy_offer(&snapshot, OFFER, at->bytes, sizeof at->bytes, &at->number));
     EMPTY(antientropy_serve(&snapshot, OFFER, VALUE, 4, at->bytes, sizeof at->bytes, &at->number));
     EMPTY(antientropy_rows(&snapshot, 0, at->bytes, sizeof at->bytes, &at->number));
+    EMPTY(antientropy_hash_portion(&portion));
     EMPTY(antientropy_hint_keep(&hints, 2, KEY, 4, many, 1, 0, VALUE, 4, &at->number));
     EMPTY(antientropy_hint_next(&hints, 2, 0, &at->number));
     EMPTY(antientropy_hint_owner(&hints, 1, &at->number));
@@ -620,7 +687,7 @@ static void empty_others(struct results *at)
     EMPTY(antientropy_slots_adjust(&slots, 1, &at->percentile));
     EMPTY(antientropy_slots_set_target(&slots, 1));
     EMPTY(antientropy_slots_count(&slots, &at->slot_counts));
-    is("the snapshot, the hints and the slots are empty", !snapshot.held && !hints.held && !slots.held);
+    is("the handles are empty", !snapshot.held && !portion.held && !hints.held && !slots.held);
 }
 
 /* Reads the root of a snapshot. */
@@ -635,6 +702,7 @@ static void empty_handles(void)
 {
     struct antientropy_replica empty = {0}, full = {0}, before;
     struct antientropy_snapshot snapshot = {0}, now = {0}, kept;
+    struct antientropy_portion portion = {0};
     struct antientropy_counts counts;
     static struct results blank;
     uint8_t root[ANTIENTROPY_ROOT_LEN], after[ANTIENTROPY_ROOT_LEN];
@@ -653,8 +721,15 @@ static void empty_handles(void)
     kept = snapshot;
     EMPTY(antientropy_renew(&empty, &full, 1000));
     EMPTY(antientropy_snapshot(&empty, &snapshot));
+    EMPTY(antientropy_moment(&empty, &snapshot));
+    EMPTY(antientropy_take_portion(&empty, 1, &portion));
+    EMPTY(antientropy_install_portion(&full, &portion, &results.number));
     is("the handles are unchanged", full.held && full.at == before.at && snapshot.held && snapshot.at == kept.at
-                                        && !empty.held);
+                                        && !empty.held && !portion.held);
+    OK(antientropy_take_portion(&full, 1, &portion));
+    EMPTY(antientropy_install_portion(&empty, &portion, &results.number));
+    is("the portion is kept", portion.held && memcmp(&results, &blank, sizeof results) == 0);
+    antientropy_portion_free(&portion);
     OK(antientropy_count(&full, &counts));
     is("the replica is unchanged", counts.entries == 2 && counts.dirty == 0);
     root_of(&snapshot, after);
@@ -673,6 +748,7 @@ int main(void)
         many[n] = (struct antientropy_pair){n + 1, 1};
     memset(LONG, 'k', sizeof LONG);
     makes();
+    moments();
     puts_and_accepts();
     reads();
     clocks();

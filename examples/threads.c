@@ -1,6 +1,6 @@
 /* A replica and its snapshots in several threads. Four threads put into one replica, which a mutex guards. A fifth
- * makes snapshots of it under the mutex, and syncs another replica from them without it. The main thread goes on with
- * that replica. It ends with status 1 if a call returns another number than the one wanted. */
+ * makes snapshots of it, whose nodes it hashes without the mutex, and syncs another replica from them. The main thread
+ * goes on with that replica. It ends with status 1 if a call returns another number than the one wanted. */
 #define _POSIX_C_SOURCE 200809L
 #include "antientropy.h"
 
@@ -54,25 +54,32 @@ static void *write_keys(void *name)
     return NULL;
 }
 
-/* Hashes the shared replica's tree in portions, so that writers needn't wait for all of it. */
-static void rehash_in_portions(void)
+/* Hashes a portion of the shared replica's moment, without the lock. When nothing is left, it makes the snapshot under
+ * the same lock, since another thread may hold another moment later. Returns true if it made it. */
+static bool hash_portion(struct antientropy_snapshot *snapshot)
 {
+    struct antientropy_portion portion = {0};
     uint64_t left;
-    do {
-        pthread_mutex_lock(&lock);
-        want("rehash_some", antientropy_rehash_some(&shared, PORTION, &left), ANTIENTROPY_OK);
-        pthread_mutex_unlock(&lock);
-    } while (left > PORTION);
+    pthread_mutex_lock(&lock);
+    want("take_portion", antientropy_take_portion(&shared, PORTION, &portion), ANTIENTROPY_OK);
+    pthread_mutex_unlock(&lock);
+    want("hash_portion", antientropy_hash_portion(&portion), ANTIENTROPY_OK);
+    pthread_mutex_lock(&lock);
+    want("install_portion", antientropy_install_portion(&shared, &portion, &left), ANTIENTROPY_OK);
+    if (left == 0)
+        want("moment", antientropy_moment(&shared, snapshot), ANTIENTROPY_OK);
+    pthread_mutex_unlock(&lock);
+    return left == 0;
 }
 
-/* Makes a snapshot of the shared replica. What the writers made dirty since the last portion is hashed with it. */
+/* Makes a snapshot of the shared replica: holds a moment, and hashes it while the writers go on. */
 static void publish(struct antientropy_snapshot *snapshot)
 {
-    rehash_in_portions();
     pthread_mutex_lock(&lock);
-    want("rehash", antientropy_rehash(&shared), ANTIENTROPY_OK);
-    want("snapshot", antientropy_snapshot(&shared, snapshot), ANTIENTROPY_OK);
+    want("hold", antientropy_hold(&shared), ANTIENTROPY_OK);
     pthread_mutex_unlock(&lock);
+    while (!hash_portion(snapshot))
+        ;
 }
 
 /* Takes what a snapshot has into another replica, and frees the snapshot. */

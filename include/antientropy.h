@@ -24,13 +24,13 @@
  * - Each pointer is valid, aligned and not NULL, even if its length is 0; a call that frees accepts NULL. Memory for
  *   out, need and the like is the caller's, and doesn't overlap the call's other arguments. No call gets one handle
  *   twice. The library keeps no pointer that it is passed.
- * - A handle (struct antientropy_replica, antientropy_snapshot, antientropy_hints, antientropy_slots) is initialised
- *   with `= {0}`, and its fields are left alone. It may be moved in memory between calls; of copies only one is used.
- *   All bytes zero means that it holds nothing.
+ * - A handle (struct antientropy_replica, antientropy_snapshot, antientropy_portion, antientropy_hints,
+ *   antientropy_slots) is initialised with `= {0}`, and its fields are left alone. It may be moved in memory between
+ *   calls; of copies only one is used. All bytes zero means that it holds nothing.
  * - ONE CALL AT A TIME ON A HANDLE, READS TOO. A reader-writer lock isn't enough: two concurrent reads can leave the
  *   replica empty for good. A handle may go to another thread if the program orders that: by a lock, by a thread's
- *   start or join, or by a sequentially consistent atomic. Different handles may be used at once, even a replica and
- *   its snapshots.
+ *   start or join, or by a sequentially consistent atomic. Different handles may be used at once, even a replica, its
+ *   snapshots and its portions.
  * - No call from a signal handler, or from the forked child of a process with threads.
  * - malloc, realloc and free are of one allocator, which aligns blocks to 16 bytes.
  * - A put that follows a read is antientropy_put_read, which replaces only versions that its client has read. Before
@@ -42,8 +42,8 @@
  *   then lost silently. So responses, copies, hints and offers go out only after the versions in them are on disk. A
  *   clock has at most 32 pairs, and a number that was used stays in it. See docs/EMBEDDING_C.md, "Restarts", and
  *   examples/restart.c.
- * - What was made is freed: antientropy_free, antientropy_snapshot_free, antientropy_hints_free,
- *   antientropy_slots_free. A snapshot may outlive its replica.
+ * - What was made is freed: antientropy_free, antientropy_snapshot_free, antientropy_portion_free,
+ *   antientropy_hints_free, antientropy_slots_free. A snapshot or a portion may outlive its replica.
  */
 #ifndef ANTIENTROPY_H
 #define ANTIENTROPY_H
@@ -99,7 +99,7 @@ enum {
     ANTIENTROPY_CROWDED = 7,          /* the key would have over 64 versions */
     ANTIENTROPY_JOURNAL_FULL = 8,     /* the journal has no room for the entries */
     ANTIENTROPY_OTHER_RANGE = 9,      /* a key or an offer is of another range, or the rows are of two leaves */
-    ANTIENTROPY_DIRTY = 10,           /* some node of the tree has no digest: rehash */
+    ANTIENTROPY_DIRTY = 10,           /* some node has no digest, or there is no moment */
     ANTIENTROPY_UNKNOWN_SESSION = 12, /* no session has this number */
     ANTIENTROPY_NOT_ASKED = 13,       /* the node isn't outstanding */
     ANTIENTROPY_WRONG_DIGEST = 14,    /* the text's digest isn't the expected one */
@@ -156,6 +156,12 @@ struct antientropy_snapshot {
     bool held;
 };
 typedef struct antientropy_snapshot antientropy_offered;
+
+/* A handle of a portion of the nodes of a replica's moment. It may hold nothing. */
+struct antientropy_portion {
+    void *at;
+    bool held;
+};
 
 /* A handle of the hints that a node carries for others. It may hold nothing. */
 struct antientropy_hints {
@@ -226,7 +232,7 @@ struct antientropy_counts {
     uint64_t sessions;      /* sessions, ever: at 1,024 no other can be opened */
     uint64_t open_sessions; /* open sessions: at 64 no other can be opened until one has ended */
     uint64_t first;         /* 0; reserved for journals that are trimmed */
-    uint64_t front;         /* 0; reserved for journals that are trimmed */
+    uint64_t front;         /* entries at the last whole moment: 0 if there is none, or after it is dropped */
 };
 
 /* Counts of hints. */
@@ -452,6 +458,52 @@ uint32_t antientropy_rehash(struct antientropy_replica *replica);
  * node is hashed. Refused, in order: EMPTY, NO_MEMORY. */
 uint32_t antientropy_rehash_some(struct antientropy_replica *replica, uint64_t most, uint64_t *left);
 
+/* ---- moments: the rows at a time, which are hashed and offered while the replica goes on */
+
+/* A busy replica may never have a digest at each node at once. So it keeps one moment: its rows at the time of
+ * antientropy_hold, which no later call changes. A moment is whole when each of its nodes has a digest; then
+ * antientropy_moment makes its snapshot, and antientropy_open_at_moment compares it with a partner's offer. */
+
+/* Keeps the rows now as the replica's moment, in the place of another one. Copies no row, and keeps the digests that the
+ * nodes have: so only nodes that have changed since they were hashed are to be hashed. While the moment is kept, the
+ * first change of each block of some rows copies the block.
+ * Refused, in order: EMPTY, NO_MEMORY. */
+uint32_t antientropy_hold(struct antientropy_replica *replica);
+
+/* Lets go of the replica's moment, if there is one. Snapshots of it stay. antientropy_migrate does that, too.
+ * Refused: EMPTY. */
+uint32_t antientropy_drop_moment(struct antientropy_replica *replica);
+
+/* Hashes at most `most` of the moment's nodes that have no digest though all their children have one, and returns the
+ * number of its nodes that have none then: 0 if it is whole, or if there is no moment. A program that repeats it until
+ * that is 0 can make other calls between; with `most` 0 no node is hashed. A node that no put has changed since gets its
+ * digest in the replica's tree, too. Refused, in order: EMPTY, NO_MEMORY. */
+uint32_t antientropy_hash_moment(struct antientropy_replica *replica, uint64_t most, uint64_t *left);
+
+/* Takes a portion of the moment's nodes, those that antientropy_hash_moment would hash, so that another thread can hash
+ * them by antientropy_hash_portion while the replica is in other calls. If nothing is left to hash, or if there is no
+ * moment, the portion has no node. Refused, in order: EMPTY (the replica), HELD (the portion holds one already),
+ * NO_MEMORY. */
+uint32_t antientropy_take_portion(struct antientropy_replica *replica, uint64_t most,
+                                  struct antientropy_portion *portion);
+
+/* Hashes the nodes of a portion. It uses no replica, and takes no memory. Refused: EMPTY. */
+uint32_t antientropy_hash_portion(struct antientropy_portion *portion);
+
+/* Installs the digests of a portion in the moment, as antientropy_hash_moment does, and returns the number of the
+ * moment's nodes that have none then. The portion holds nothing then. Nodes that antientropy_hash_portion has not hashed
+ * are hashed here. Digests of another moment's nodes are left out if the node's text is another one.
+ * Refused: EMPTY (the replica or the portion). */
+uint32_t antientropy_install_portion(struct antientropy_replica *replica, struct antientropy_portion *portion,
+                                     uint64_t *left);
+
+/* Frees the portion that a handle holds, if it holds one. */
+void antientropy_portion_free(struct antientropy_portion *portion);
+
+/* Makes a snapshot of the moment, as antientropy_snapshot does of the rows now. Refused, in order: EMPTY (the replica),
+ * HELD (the snapshot holds one already), DIRTY (there is no moment, or it isn't whole), NO_MEMORY. */
+uint32_t antientropy_moment(struct antientropy_replica *replica, struct antientropy_snapshot *snapshot);
+
 /* ---- offers */
 
 /* Makes a snapshot of the rows now. It shares them with the replica, which copies those that it changes later.
@@ -509,6 +561,14 @@ uint32_t antientropy_load_format(struct antientropy_replica *replica, uint64_t f
  * SESSIONS_FULL, DIRTY, NO_MEMORY. NO_MEMORY may be returned instead of BAD_MESSAGE. */
 uint32_t antientropy_open(struct antientropy_replica *replica, uint64_t partner, const uint8_t *offer, size_t offer_len,
                           uint64_t *session);
+
+/* Opens a session as antientropy_open does, but compares the rows of the replica's moment with the offer, so it doesn't
+ * wait until each node of the tree has a digest. It may ask for leaves that differ only because the replica has gone on.
+ * Refused, in order: EMPTY, BAD_CLOCK (the partner is over 65,535), BAD_MESSAGE, OTHER_FORMAT, OTHER_RANGE,
+ * SESSIONS_FULL, DIRTY (there is no moment, or it isn't whole), NO_MEMORY. NO_MEMORY may be returned instead of
+ * BAD_MESSAGE. */
+uint32_t antientropy_open_at_moment(struct antientropy_replica *replica, uint64_t partner, const uint8_t *offer,
+                                    size_t offer_len, uint64_t *session);
 
 /* Returns the number of nodes that a session has outstanding: 0 if it has ended.
  * Refused, in order: EMPTY, UNKNOWN_SESSION. */
@@ -649,11 +709,13 @@ uint32_t antientropy_slots_count(struct antientropy_slots *slots, struct antient
     }
 ANTIENTROPY_ACCEPTS_NULL(antientropy_free, antientropy_replica)
 ANTIENTROPY_ACCEPTS_NULL(antientropy_snapshot_free, antientropy_snapshot)
+ANTIENTROPY_ACCEPTS_NULL(antientropy_portion_free, antientropy_portion)
 ANTIENTROPY_ACCEPTS_NULL(antientropy_hints_free, antientropy_hints)
 ANTIENTROPY_ACCEPTS_NULL(antientropy_slots_free, antientropy_slots)
 #undef ANTIENTROPY_ACCEPTS_NULL
 #define antientropy_free(replica) antientropy_free_any(replica)
 #define antientropy_snapshot_free(snapshot) antientropy_snapshot_free_any(snapshot)
+#define antientropy_portion_free(portion) antientropy_portion_free_any(portion)
 #define antientropy_hints_free(hints) antientropy_hints_free_any(hints)
 #define antientropy_slots_free(slots) antientropy_slots_free_any(slots)
 

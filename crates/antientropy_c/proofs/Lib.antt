@@ -5,6 +5,8 @@ pub mod HintNumberLaws
 pub mod HintsWord
 pub mod PlaceWord
 pub mod PublicationWord
+pub mod PortionLaws
+pub mod PortionWord
 pub mod ReplicaWord
 mod Sent
 pub mod KeyLaws

@@ -7,6 +7,7 @@ use Rattle.vclock.specs.declared.refusal.Refusal.{Refusal}
 use Rattle.walk_messages.specs.Messages.{Decodes}
 use Rattle.walk_messages.specs.declared.message.Message.{Message}
 use Rattle.tree_nodes.specs.Nodes.{dirty_count}
+use Rattle.range_state.specs.Moments.{last_whole}
 use Rattle.range_state.specs.Records.{open_count}
 use Rattle.antientropy_c.specs.declared.counts.Counts.{Counts}
 
@@ -34,4 +35,4 @@ pub record Reads (bytes : List ℕ) (Right : Result Message Refusal → Type 0) 
   pub right : Right decoded
 
 abbrev pub counts_of : State → Counts
-counts_of s = record { entries = length s.store.entries; limit = s.store.config.limit; dirty = dirty_count s.store.marks; sessions = length s.records; open_sessions = open_count s.records; first = 0; front = 0 }
+counts_of s = record { entries = length s.store.entries; limit = s.store.config.limit; dirty = dirty_count s.store.marks; sessions = length s.records; open_sessions = open_count s.records; first = 0; front = last_whole s.moment }

@@ -7,6 +7,8 @@ pub mod Merges
 pub mod Offers
 pub mod Pairs
 pub mod Publications
+pub mod PortionHandles
+pub mod Portions
 pub mod Puts
 pub mod Sessions
 pub mod Shows

@@ -10,27 +10,29 @@ use Rattle.tree_nodes.specs.Nodes.{Node, contains_node}
 use Rattle.sync_session.specs.declared.state.SessionState.{SessionState}
 use Rattle.sync_session.specs.declared.state.SessionState.TheVariants.{Open, Finished, Failed, Cancelled}
 use Rattle.range_state.specs.State.{State}
-use Rattle.range_state.specs.Sessions.{open_session, TakesAnswer}
+use Rattle.range_state.specs.Moments.{opening}
+use Rattle.range_state.specs.Sessions.{TakesAnswer}
+use Rattle.range_state.specs.declared.local_rows.LocalRows.{LocalRows}
 use Rattle.range_state.specs.declared.«record».Record.{Record}
 use Rattle.range_state.specs.declared.event.AnswerTaken.{AnswerTaken}
 use Rattle.antientropy_c.specs.Calls.{Reads}
 use Rattle.antientropy_c.specs.declared.sessions.TakenReceipt.{TakenReceipt}
 
--- a session is opened by a decoded message, if it is an offer
-abbrev pub Opens : State → ℕ → Result ℕ Refusal → State → Result Message Refusal → Type 0
-Opens s partner r t (Ok (messages.Offer offer)) = Does r s t (open_session s partner offer)
-Opens s partner r t (Ok (messages.Ask ask)) = (r ≡ Err BadMessage) × (t ≡ s)
-Opens s partner r t (Ok (messages.Answer answer)) = (r ≡ Err BadMessage) × (t ≡ s)
-Opens s partner r t (Err e) = (r ≡ Err e) × (t ≡ s)
+-- a session that compares the rows now, or those of the moment, is opened by a decoded message, if it is an offer
+abbrev pub Opens : LocalRows → State → ℕ → Result ℕ Refusal → State → Result Message Refusal → Type 0
+Opens rows s partner r t (Ok (messages.Offer offer)) = Does r s t (opening rows s partner offer)
+Opens rows s partner r t (Ok (messages.Ask ask)) = (r ≡ Err BadMessage) × (t ≡ s)
+Opens rows s partner r t (Ok (messages.Answer answer)) = (r ≡ Err BadMessage) × (t ≡ s)
+Opens rows s partner r t (Err e) = (r ≡ Err e) × (t ≡ s)
 
 -- the fault of a number that no partner has: it is over 65,535
 abbrev pub partner_fault : ℕ → Option Refusal
 partner_fault partner = if nat_le partner 65535 then None else Some BadClock
 
 -- a session is opened by the bytes of a message, unless there is a cause before they are decoded
-abbrev pub OpensUnless : Option Refusal → State → ℕ → List ℕ → Result ℕ Refusal → State → Type 0
-OpensUnless None s partner bytes r t = Reads bytes (Opens s partner r t)
-OpensUnless (Some e) s partner bytes r t = (r ≡ Err e) × (t ≡ s)
+abbrev pub OpensUnless : Option Refusal → LocalRows → State → ℕ → List ℕ → Result ℕ Refusal → State → Type 0
+OpensUnless None rows s partner bytes r t = Reads bytes (Opens rows s partner r t)
+OpensUnless (Some e) rows s partner bytes r t = (r ≡ Err e) × (t ≡ s)
 
 -- the caller's number is that of the result, if it has one
 abbrev pub TellsNumber : Result ℕ Refusal → ℕ → ℕ → Type 0

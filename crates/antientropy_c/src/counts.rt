@@ -23,7 +23,7 @@ pub struct Counts {
     pub open_sessions: u64,
     /// 0; reserved for journals that are trimmed.
     pub first: u64,
-    /// 0; reserved for journals that are trimmed.
+    /// The number of entries that the journal had at the last moment that was whole; 0 if there was none.
     pub front: u64,
 }
 
@@ -57,6 +57,6 @@ fn count(state: &RangeState) -> Counts
         sessions: state.records().len() as u64,
         open_sessions: state.open_sessions() as u64,
         first: 0,
-        front: 0,
+        front: state.whole_front(),
     }
 }

@@ -5,6 +5,7 @@ ghost use Rattle.walk_messages.specs.Messages.{message_text};
 ghost use Rattle.walk_messages.specs.declared.message.Message.TheVariants as messages;
 ghost use Rattle.snapshot.specs.RowMaps.{root_of};
 ghost use Rattle.range_store.specs.Store.{rows_now, dirty_fault};
+ghost use Rattle.range_state.specs.Moments.{shown_fault, shown_rows};
 ghost use Rattle.antientropy_c.specs.Calls.{Calls, Reads};
 ghost use Rattle.antientropy_c.specs.Hands.{HandsNothing, HandsOut, HandsOutRight};
 ghost use Rattle.antientropy_c.specs.Offers.{ShowsRows, Publishes, TakesRows, offer_numbered, ServesAsk, Serves};
@@ -14,7 +15,7 @@ use crate::output::{copy_out, hand_out};
 use crate::publication::Publication;
 use crate::published::Published;
 use crate::replica::Replica;
-use range_state::RangeState;
+use range_state::{LocalRows, RangeState};
 use snapshot::Snapshot;
 use std::alloc::Global;
 use tree_nodes::Text;
@@ -36,38 +37,52 @@ pub extern "C" fn antientropy_snapshot(
     let Some(state) = replica.take(alloc) else {
         return EMPTY;
     };
-    let number = publish(alloc, &state, publication);
+    let number = publish(alloc, &state, LocalRows::Now, publication);
     replica.hold(state);
     number
 }
 
-/// Publishes the rows of a replica.
+/// Publishes the rows now or those of the moment.
 #[tactic(auto, using(crate::proofs::MakeLaws::already, crate::proofs::MakeLaws::made))]
-fn publish(alloc: Global, state: &RangeState, publication: &mut Publication) -> u32
-    ensures { Publishes result publication.old publication.new (dirty_fault state.now.store) (rows_now state.now.store) }
+pub(crate) fn publish(
+    alloc: Global,
+    state: &RangeState,
+    local: LocalRows,
+    publication: &mut Publication,
+) -> u32
+    ensures { Publishes result publication.old publication.new (shown_fault local state.now) (shown_rows local state.now) }
 {
     if let Some(rows) = publication.take(alloc) {
         publication.hold(rows);
         return HELD;
     }
-    code(&make(alloc, state, publication))
+    code(&make(alloc, state, local, publication))
 }
 
-/// Publishes the rows of a replica in an empty publication.
-fn make(alloc: Global, state: &RangeState, publication: &mut Publication) -> Result<(), Refusal>
+/// Publishes them in an empty publication.
+fn make(
+    alloc: Global,
+    state: &RangeState,
+    local: LocalRows,
+    publication: &mut Publication,
+) -> Result<(), Refusal>
     requires { publication.old.held ≡ false }
-    ensures { TakesRows publication.new (dirty_fault state.now.store) (rows_now state.now.store) result }
+    ensures { TakesRows publication.new (shown_fault local state.now) (shown_rows local state.now) result }
 {
-    let rows = boxed(alloc, state)?;
+    let rows = boxed(alloc, state, local)?;
     publication.hold(rows);
     Ok(())
 }
 
-/// Makes a box with the rows of a replica now.
-fn boxed(alloc: Global, state: &RangeState) -> Result<Box<Published, Global>, Refusal>
-    ensures { Answers result (dirty_fault state.now.store) (λ rows. rows.value ≡ rows_now state.now.store) }
+/// Makes a box with them.
+fn boxed(
+    alloc: Global,
+    state: &RangeState,
+    local: LocalRows,
+) -> Result<Box<Published, Global>, Refusal>
+    ensures { Answers result (shown_fault local state.now) (λ rows. rows.value ≡ shown_rows local state.now) }
 {
-    let snapshot = state.snapshot(alloc)?;
+    let snapshot = state.snapshot_of(alloc, local)?;
     Ok(Box::new(alloc, Published::new(snapshot))?)
 }
 

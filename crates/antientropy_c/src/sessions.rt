@@ -6,13 +6,14 @@ ghost use Rattle.vclock.specs.declared.refusal.Refusal.{Refusal};
 ghost use Rattle.tree_nodes.specs.Nodes.{contains_node};
 ghost use Rattle.range_state.specs.Sessions.{cancel_session, unknown_fault};
 ghost use Rattle.range_state.specs.declared.event.AnswerTaken.{AnswerTaken};
+ghost use Rattle.range_state.specs.declared.local_rows.LocalRows.TheVariants as rows;
 ghost use Rattle.antientropy_c.specs.Numbers.{Returns};
 ghost use Rattle.antientropy_c.specs.Calls.{Calls, Reads};
 ghost use Rattle.antientropy_c.specs.Sessions.{Opens, OpensUnless, partner_fault, asked_fault, TellsNumber, TakesWith, TakesMessage, TellsTaken, number_of_state, session_seen};
 
 use crate::numbers::{EMPTY, code};
 use crate::replica::Replica;
-use range_state::{AnswerTaken, RangeState, Record};
+use range_state::{AnswerTaken, LocalRows, RangeState, Record};
 use std::alloc::Global;
 use sync_session::SessionState;
 use tree_nodes::{NodeAt, hash};
@@ -36,25 +37,58 @@ pub extern "C" fn antientropy_open(
 ) -> u32
     ensures { Calls result replica.old replica.new (session.new ≡ session.old)
         (λ s t. Returns result (λ (r : Result ℕ Refusal).
-        OpensUnless (partner_fault partner) s partner offer.now r t × TellsNumber r session.old session.new)) }
+        OpensUnless (partner_fault partner) rows.Now s partner offer.now r t × TellsNumber r session.old session.new)) }
 {
     let Some(mut state) = replica.take(alloc) else {
         return EMPTY;
     };
-    let outcome = open(alloc, &mut state, partner, offer);
+    let outcome = open(alloc, &mut state, LocalRows::Now, partner, offer);
+    replica.hold(state);
+    tell_number(&outcome, session);
+    code(&outcome)
+}
+
+/// Opens a session as [`antientropy_open`] does, but one that compares the rows of the moment that the replica keeps: it
+/// may ask for leaves that differ only because the replica has gone on.
+///
+/// Refused as [`antientropy_open`] is; Dirty if there is no moment, or some node of it has no digest. On error the
+/// replica and the stored number are unchanged.
+#[unsafe(no_mangle)]
+#[tactic(auto, using(crate::proofs::CallLaws::empty, crate::proofs::CallLaws::held, crate::proofs::CallLaws::returns))]
+pub extern "C" fn antientropy_open_at_moment(
+    alloc: Global,
+    replica: &mut Replica,
+    partner: u64,
+    offer: &[u8],
+    session: &mut u64,
+) -> u32
+    ensures { Calls result replica.old replica.new (session.new ≡ session.old)
+        (λ s t. Returns result (λ (r : Result ℕ Refusal).
+        OpensUnless (partner_fault partner) rows.Moment s partner offer.now r t × TellsNumber r session.old session.new)) }
+{
+    let Some(mut state) = replica.take(alloc) else {
+        return EMPTY;
+    };
+    let outcome = open(alloc, &mut state, LocalRows::Moment, partner, offer);
     replica.hold(state);
     tell_number(&outcome, session);
     code(&outcome)
 }
 
 /// Opens a session by the bytes of an offer, if the partner's number isn't over 65,535.
-fn open(alloc: Global, state: &mut RangeState, partner: u64, bytes: &[u8]) -> Result<u64, Refusal>
-    ensures { OpensUnless (partner_fault partner) state.old partner bytes.now result state.new }
+fn open(
+    alloc: Global,
+    state: &mut RangeState,
+    local: LocalRows,
+    partner: u64,
+    bytes: &[u8],
+) -> Result<u64, Refusal>
+    ensures { OpensUnless (partner_fault partner) local state.old partner bytes.now result state.new }
 {
     if partner > NODE_MAX {
         return Err(Refusal::BadClock);
     }
-    open_bytes(alloc, state, partner as u16, bytes)
+    open_bytes(alloc, state, local, partner as u16, bytes)
 }
 
 /// Opens a session by the bytes of an offer.
@@ -62,26 +96,28 @@ fn open(alloc: Global, state: &mut RangeState, partner: u64, bytes: &[u8]) -> Re
 fn open_bytes(
     alloc: Global,
     state: &mut RangeState,
+    local: LocalRows,
     partner: u16,
     bytes: &[u8],
 ) -> Result<u64, Refusal>
-    ensures { Reads bytes.now (Opens state.old partner result state.new) }
+    ensures { Reads bytes.now (Opens local state.old partner result state.new) }
 {
     let decoded = decode(alloc, bytes);
-    open_decoded(alloc, state, partner, decoded)
+    open_decoded(alloc, state, local, partner, decoded)
 }
 
 /// Opens a session by a decoded message, if it is an offer.
 fn open_decoded(
     alloc: Global,
     state: &mut RangeState,
+    local: LocalRows,
     partner: u16,
     decoded: Result<Message, Refusal>,
 ) -> Result<u64, Refusal>
-    ensures { Opens state.old partner result state.new decoded }
+    ensures { Opens local state.old partner result state.new decoded }
 {
     match decoded {
-        Ok(Message::Offer(offer)) => state.open_session(alloc, partner, offer),
+        Ok(Message::Offer(offer)) => state.open_session_by(alloc, local, partner, offer),
         Ok(Message::Ask(_) | Message::Answer(_)) => Err(Refusal::BadMessage),
         Err(refusal) => Err(refusal),
     }

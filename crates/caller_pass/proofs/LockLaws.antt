@@ -36,9 +36,9 @@ hashed_beside s t node text (Ok x) h = by_moment s.moment h
     by_text true u = refl
     by_text false u = refl
 
-    by_test : (m : Moment) (b : Bool) → through (with_hashed s node text m.front) (cond b (gives tt (trees.installed m.tree node text)) (refuses Stale)) ≡ gives x t → t.store.entries ≡ s.store.entries
+    by_test : (m : Moment) (b : Bool) → through (with_hashed s node text m) (cond b (gives tt (trees.installed m.tree node text)) (refuses Stale)) ≡ gives x t → t.store.entries ≡ s.store.entries
     by_test m true e =
-        let now : with_hashed s node text m.front (trees.installed m.tree node text) ≡ t = cc in
+        let now : with_hashed s node text m (trees.installed m.tree node text) ≡ t = cc in
         ap (λ (y : State). y.store.entries) (sym now) ∙ by_text (trees.is_current (tree_in s.store) node text) (trees.installed (tree_in s.store) node text)
     by_test m false e = absurd (cc)
 

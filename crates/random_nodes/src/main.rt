@@ -15,6 +15,7 @@ mod lies;
 mod lists;
 mod loads;
 mod mirror;
+mod moments;
 mod node;
 mod pairs;
 mod partner;

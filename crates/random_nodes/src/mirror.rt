@@ -57,6 +57,10 @@ pub(crate) struct Mirror {
     pub(crate) is_down: bool,
     /// The number of rehash workers that were started.
     pub(crate) workers: u64,
+    /// The number of entries at the moment that the range keeps, if it keeps one.
+    pub(crate) moment: Option<usize>,
+    /// The number of times that a moment was held or let go of.
+    pub(crate) moments: u64,
     reads: Vec<Read>,
     trouble: Option<Trouble>,
 }
@@ -75,6 +79,8 @@ impl Mirror {
             hints: Vec::new(alloc),
             is_down: false,
             workers: 0,
+            moment: None,
+            moments: 0,
             reads: Vec::new(alloc),
             trouble: None,
         }
@@ -198,6 +204,28 @@ impl Mirror {
         count
     }
 
+    /// Holds a moment with this number of entries, or lets go of it.
+    pub(crate) fn set_moment(&mut self, moment: Option<usize>) {
+        self.moment = moment;
+        self.moments = self.moments.wrapping_add(1);
+    }
+
+    /// Returns the tree of the moment.
+    pub(crate) fn moment_tree(&self, alloc: Global) -> Result<Tree, Trouble> {
+        let Some(front) = self.moment else {
+            return Err(Trouble::Differs("whether a range has a moment"));
+        };
+        let mut entries = self.plain.entries.clone()?;
+        entries.truncate(front);
+        let plain = PlainRange {
+            format: self.plain.format,
+            part: self.plain.part,
+            limit: self.plain.limit,
+            entries,
+        };
+        Ok(Tree::new(alloc, &plain)?)
+    }
+
     /// Returns the tree that was offered under a root, if there is one.
     pub(crate) fn with_root(&self, root: &Digest) -> Result<Option<Arc<Tree, Global>>, Trouble> {
         for published in &self.published {
@@ -230,6 +258,7 @@ impl Mirror {
     pub(crate) fn migrate(&mut self) {
         if self.plain.format == Format::One {
             self.plain.format = Format::Two;
+            self.set_moment(None);
             for walk in self.walks.iter_mut() {
                 walk.end(SessionState::Cancelled);
             }
@@ -240,6 +269,7 @@ impl Mirror {
     pub(crate) fn renew(&mut self, alloc: Global, seat: u16, limit: u64) -> Result<(), Trouble> {
         self.plain.entries = self.plain.held_entries(alloc, seat)?;
         self.plain.limit = limit;
+        self.set_moment(None);
         self.walks = Vec::new(alloc);
         self.partners = Vec::new(alloc);
         self.hints.retain(|hint| hint.is_pending);
@@ -261,6 +291,8 @@ impl Drop for Mirror {
             hints: _hints,
             is_down: _is_down,
             workers: _workers,
+            moment: _moment,
+            moments: _moments,
             reads: _reads,
             trouble: _trouble,
         } = self;

@@ -13,7 +13,7 @@ use plain_model::trees::Tree;
 use plain_model::trouble::{Trouble, expect};
 use range_journal::Source;
 use range_state::RangeState;
-use ring_node::{OfferPool, SharedHints, SharedRange};
+use ring_node::{MomentReport, OfferPool, SharedHints, SharedRange};
 use snapshot::Snapshot;
 use std::alloc::Global;
 use std::sync::ledger::{Blank, Ledger};
@@ -272,19 +272,92 @@ impl<L: Ledger> Node<L> {
         };
         expect(is_clean, "whether there is a snapshot")?;
         let tree = Tree::new(alloc, &mirror.plain)?;
+        self.publish_tree(rt, alloc, &mut *mirror, &snapshot, tree, times)
+    }
+
+    /// Publishes the snapshot of a tree this number of times.
+    fn publish_tree<R: Wait>(
+        &self,
+        rt: &R,
+        alloc: Global,
+        mirror: &mut Mirror,
+        snapshot: &Arc<Snapshot, Global>,
+        tree: Tree,
+        times: u8,
+    ) -> Result<(), Trouble> {
         expect(snapshot.root() == tree.root(), "the root of a snapshot")?;
         let first = mirror.newest.saturating_add(1);
         for _ in 0..times {
             mirror.newest = mirror.newest.saturating_add(1);
-            let offer = publish_in(rt, &self.pool, &snapshot)?;
-            check_published(&mirror, &tree, &offer)?;
+            let offer = publish_in(rt, &self.pool, snapshot)?;
+            check_published(mirror, &tree, &offer)?;
         }
         let (last, tree) = (mirror.newest, Arc::new(alloc, tree)?);
         mirror.published.push(Published { first, last, tree })?;
         let counts = self.pool.counts(rt);
         let same = counts.kept == mirror.kept_count() && counts.newest == last;
         expect(same, "the counts of a pool")?;
-        self.check_counts(rt, &mirror)
+        self.check_counts(rt, mirror)
+    }
+
+    /// Notes that the range holds a moment. Returns the number of times that it held one or let go of it.
+    pub(crate) fn note_moment<R: Wait>(&self, rt: &R) -> u64 {
+        let mut mirror = self.mirror.lock(rt);
+        let front = mirror.plain.entries.len();
+        mirror.set_moment(Some(front));
+        mirror.moments
+    }
+
+    /// Compares the report of a moment worker, and publishes its snapshot, if there is one. `moments` is the number that
+    /// `note_moment` returned.
+    pub(crate) fn take_moment<R: Wait>(
+        &self,
+        rt: &R,
+        alloc: Global,
+        report: &MomentReport,
+        turns: u64,
+        moments: u64,
+    ) -> Result<(), Trouble> {
+        let mut mirror = self.mirror.lock(rt);
+        let is_late = report.stale > 0;
+        expect(
+            !is_late || mirror.moments > moments,
+            "whether a digest of a moment is late",
+        )?;
+        let jobs = report.installed.wrapping_add(report.stale);
+        match &report.snapshot {
+            Some(snapshot) => {
+                let tree = mirror.moment_tree(alloc)?;
+                self.publish_tree(rt, alloc, &mut *mirror, snapshot, tree, 1)
+            }
+            None => expect(
+                jobs == turns || mirror.moment.is_none(),
+                "whether a moment is whole",
+            ),
+        }
+    }
+
+    /// Compares the moment, and returns true if there is one that is whole.
+    pub(crate) fn has_moment<R: Wait>(&self, rt: &R, alloc: Global) -> Result<bool, Trouble> {
+        let mirror = self.mirror.lock(rt);
+        match self.range.moment(rt, alloc) {
+            Ok(snapshot) => {
+                let tree = mirror.moment_tree(alloc)?;
+                expect(snapshot.root() == tree.root(), "the root of a moment")?;
+                Ok(true)
+            }
+            Err(refusal) => {
+                expect(Fault::Dirty.is(&refusal), "the refusal of a moment")?;
+                Ok(false)
+            }
+        }
+    }
+
+    /// Lets go of the moment.
+    pub(crate) fn drop_moment<R: Wait>(&self, rt: &R) {
+        let mut mirror = self.mirror.lock(rt);
+        self.range.drop_moment(rt);
+        mirror.set_moment(None);
     }
 
     /// Migrates the range to format 2.

@@ -92,8 +92,14 @@ pub(crate) enum Deed {
     Publish(u8),
     /// Syncs with the other node in this number of turns. Once in `lies` calls the link fails or lies.
     Sync { turns: u64, lies: u64 },
+    /// Syncs so by the rows of the node's moment.
+    SyncAtMoment { turns: u64, lies: u64 },
     /// Syncs with a forger.
     SyncForged { turns: u64 },
+    /// Holds a moment, hashes it in this number of turns, and publishes it if it is whole then.
+    Hold(u64),
+    /// Lets go of the moment.
+    DropMoment,
     /// Migrates to format 2.
     Migrate,
     /// Keeps a sample of this number of microseconds, this number of milliseconds after the last one.
@@ -171,8 +177,8 @@ impl Setup {
         }
     }
 
-    /// Draws the steps of a list: in a quarter of the draws a whole round of a sync, and rarely a load that a migration
-    /// overtakes.
+    /// Draws the steps of a list: in a quarter of the draws a whole round of a sync, which is seldom one at moments, and
+    /// rarely a load that a migration overtakes.
     pub(crate) fn draw_steps(
         &self,
         alloc: Global,
@@ -183,11 +189,16 @@ impl Setup {
         for _ in 0..count {
             let here = Side::draw(random);
             let there = here.draw_other(random);
-            if random.once_in(4) {
+            if random.once_in(5) {
                 steps.push(drawn(random, (there, here), WHOLE))?;
                 steps.push(drawn(random, (there, here), Deed::Publish(1)))?;
                 steps.push(drawn(random, (here, there), WHOLE))?;
                 let deed = draw_sync(random);
+                steps.push(drawn(random, (here, there), deed))?;
+            } else if random.once_in(12) {
+                steps.push(drawn(random, (there, here), Deed::Hold(40)))?;
+                steps.push(drawn(random, (here, there), Deed::Hold(40)))?;
+                let deed = draw_sync_at_moment(random);
                 steps.push(drawn(random, (here, there), deed))?;
             } else if random.once_in(250) {
                 steps.push(drawn(random, (there, here), WHOLE))?;
@@ -210,9 +221,11 @@ impl Setup {
             0..=9 => self.draw_put(random),
             10..=12 => Deed::Copy(random.below(12)),
             13..=14 => Deed::Get(self.key(random)),
-            15..=20 => draw_work(random),
-            21..=24 => Deed::Publish(if random.once_in(12) { 17 } else { 1 }),
-            25..=31 => draw_sync(random),
+            15..=18 => draw_work(random),
+            19..=20 => Deed::Hold(draw_turns(random)),
+            21..=23 => Deed::Publish(if random.once_in(12) { 17 } else { 1 }),
+            24..=29 => draw_sync(random),
+            30..=31 => draw_sync_at_moment(random),
             32 => Deed::Keep(random.below(12)),
             33 => Deed::Deliver(if random.once_in(4) { 2 } else { 100 }),
             34 => draw_sample(random),
@@ -248,7 +261,11 @@ impl Setup {
     /// Draws a deed that is seldom.
     fn draw_rare(&self, random: &mut Random) -> Deed {
         match random.below(16) {
-            0 if random.once_in(2) => Deed::Migrate,
+            0 => if random.once_in(2) {
+                Deed::Migrate
+            } else {
+                Deed::DropMoment
+            },
             1..=3 => Deed::Renew(draw_renewal(random)),
             4..=6 => Deed::Switch,
             7..=8 => Deed::Adjust(random.below(40_000)),
@@ -280,10 +297,27 @@ fn drawn(random: &mut Random, (side, other): (Side, Side), deed: Deed) -> Step {
 fn draw_work(random: &mut Random) -> Deed {
     Deed::Rehash {
         skip: random.below(3),
-        turns: match random.below(8) {
-            0 => random.below(6),
-            _ => 40,
+        turns: draw_turns(random),
+    }
+}
+
+/// Draws the number of turns of a worker that hashes: seldom too few.
+fn draw_turns(random: &mut Random) -> u64 {
+    match random.below(8) {
+        0 => random.below(6),
+        _ => 40,
+    }
+}
+
+/// Draws a sync by the rows of a moment: over a link that lies seldom or never.
+fn draw_sync_at_moment(random: &mut Random) -> Deed {
+    Deed::SyncAtMoment {
+        turns: if random.once_in(8) {
+            random.below(40)
+        } else {
+            300
         },
+        lies: if random.once_in(4) { 6 } else { 0 },
     }
 }
 
@@ -390,7 +424,12 @@ impl fmt::Display for Deed {
             Deed::Rehash { skip, turns } => write!(f, "rehash, skip {skip}, {turns} turns"),
             Deed::Publish(times) => write!(f, "publish, {times} times"),
             Deed::Sync { turns, lies } => write!(f, "sync, {turns} turns, lies 1 in {lies}"),
+            Deed::SyncAtMoment { turns, lies } => {
+                write!(f, "sync at a moment, {turns} turns, lies 1 in {lies}")
+            }
             Deed::SyncForged { turns } => write!(f, "sync with a forger, {turns} turns"),
+            Deed::Hold(turns) => write!(f, "moment, {turns} turns"),
+            Deed::DropMoment => write!(f, "no moment"),
             Deed::Migrate => write!(f, "migrate"),
             Deed::Sample { after, micros } => write!(f, "sample {micros} after {after}"),
             Deed::Adjust(after) => write!(f, "adjust after {after}"),

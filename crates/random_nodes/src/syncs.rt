@@ -13,18 +13,21 @@ use caller_pass::Pass;
 use plain_model::plain::Fault;
 use plain_model::random::Random;
 use plain_model::trouble::Trouble;
+use range_state::LocalRows;
 use ring_node::{Gate, Link, Reached, ScriptedLink, SyncReport};
 use std::alloc::Global;
 use std::sync::Wait;
 use std::sync::ledger::Ledger;
 use vclock::Refusal;
 
-/// A sync: the number of its turns, and how often its link lies: once in this number of calls, or never if it is 0.
+/// A sync: the number of its turns, how often its link lies (once in this number of calls, or never if it is 0), and the
+/// rows that it compares.
 #[derive(Clone, Copy)]
 pub(crate) struct Plan {
     pub(crate) turns: u64,
     pub(crate) lies: u64,
     pub(crate) is_forged: bool,
+    pub(crate) local: LocalRows,
 }
 
 /// The ends of a link: the node that syncs, and its partner.
@@ -54,9 +57,12 @@ impl<'a, L: Ledger, M: Ledger, G: Gate> Ends<'a, L, M, G> {
             Some(root) => self.there.mirror().lock(rt).with_root(&root)?,
             None => None,
         };
-        let dirty = self.here.dirty(rt);
+        let has_rows = match self.progress.local() {
+            LocalRows::Now => self.here.dirty(rt) == 0,
+            LocalRows::Moment => self.here.has_moment(rt, self.alloc)?,
+        };
         let mut here = self.here.mirror().lock(rt);
-        self.progress.settle(self.alloc, &mut *here, tree, dirty)
+        self.progress.settle(self.alloc, &mut *here, tree, has_rows)
     }
 
     /// Has the node take the link's last reply, and compares an ask.
@@ -192,7 +198,7 @@ pub(crate) fn run_sync<L: Ledger, M: Ledger, C: Ledger, G: Gate, R: Wait>(
             there,
             gate,
             points: Points::of(step),
-            progress: Progress::new(seat, partner, plan.turns, forged),
+            progress: Progress::new(seat, partner, plan.turns, plan.local, forged),
             trouble: None,
         },
         link: ScriptedLink::new(alloc, Partner::new(alloc, there, forger), deeds),
@@ -225,6 +231,11 @@ fn sync_in<L: Ledger, C: Ledger, K: Link, R: Wait>(
     partner: u16,
     plan: Plan,
 ) -> Result<SyncReport, Refusal> {
-    node.range()
-        .sync_worker(rt, alloc, slot, link, pass, partner, plan.turns)
+    let (range, turns) = (node.range(), plan.turns);
+    match plan.local {
+        LocalRows::Now => range.sync_worker(rt, alloc, slot, link, pass, partner, turns),
+        LocalRows::Moment => {
+            range.sync_worker_at_moment(rt, alloc, slot, link, pass, partner, turns)
+        }
+    }
 }

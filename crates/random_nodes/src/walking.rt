@@ -7,6 +7,7 @@ use plain_model::plain::Fault;
 use plain_model::trees::Tree;
 use plain_model::trouble::{Trouble, expect};
 use plain_model::walks::{Offering, Sent, Walk};
+use range_state::LocalRows;
 use ring_node::SyncReport;
 use std::alloc::Global;
 use std::mem::replace;
@@ -44,6 +45,7 @@ pub(crate) struct Progress {
     seat: u16,
     partner: u16,
     turns: u64,
+    local: LocalRows,
     /// The text of the root, if the partner is a forger.
     forged: Option<Vec<u8>>,
     pending: Pending,
@@ -58,11 +60,18 @@ pub(crate) struct Progress {
 
 impl Progress {
     /// Returns a sync that has fetched nothing.
-    pub(crate) fn new(seat: u16, partner: u16, turns: u64, forged: Option<Vec<u8>>) -> Progress {
+    pub(crate) fn new(
+        seat: u16,
+        partner: u16,
+        turns: u64,
+        local: LocalRows,
+        forged: Option<Vec<u8>>,
+    ) -> Progress {
         Progress {
             seat,
             partner,
             turns,
+            local,
             forged,
             pending: Pending::Nothing,
             opened: None,
@@ -72,6 +81,11 @@ impl Progress {
             bad: 0,
             refused: None,
         }
+    }
+
+    /// Returns which local rows the sync compares.
+    pub(crate) fn local(&self) -> LocalRows {
+        self.local
     }
 
     /// Keeps the link's reply. The range takes it before the next call.
@@ -93,17 +107,17 @@ impl Progress {
     }
 
     /// Has the node take the pending reply. `tree` is the partner's tree with the offered root, if there is one, and
-    /// `dirty` the number of the node's dirty nodes.
+    /// `has_rows` is true if each node of the local rows' tree has a digest.
     pub(crate) fn settle(
         &mut self,
         alloc: Global,
         here: &mut Mirror,
         tree: Option<Arc<Tree, Global>>,
-        dirty: u64,
+        has_rows: bool,
     ) -> Result<(), Trouble> {
         match replace(&mut self.pending, Pending::Nothing) {
             Pending::Nothing => Ok(()),
-            Pending::Offer(bytes) => self.open(alloc, here, tree, &bytes, dirty),
+            Pending::Offer(bytes) => self.open(alloc, here, tree, &bytes, has_rows),
             Pending::Answer(bytes) => self.take(alloc, here, &bytes),
         }
     }
@@ -115,13 +129,13 @@ impl Progress {
         here: &mut Mirror,
         tree: Option<Arc<Tree, Global>>,
         bytes: &[u8],
-        dirty: u64,
+        has_rows: bool,
     ) -> Result<(), Trouble> {
         let Some(offer) = read_offer(bytes) else {
             self.refuse(Fault::BadMessage);
             return Ok(());
         };
-        if let Some(fault) = offer_fault(here, &offer, dirty) {
+        if let Some(fault) = offer_fault(here, &offer, has_rows) {
             self.refuse(fault);
             return Ok(());
         }
@@ -130,7 +144,10 @@ impl Progress {
             root: offer.root,
             forged: self.forged.take(),
         };
-        let own = Tree::new(alloc, &here.plain)?;
+        let own = match self.local {
+            LocalRows::Now => Tree::new(alloc, &here.plain)?,
+            LocalRows::Moment => here.moment_tree(alloc)?,
+        };
         let walk = Walk::new(alloc, here.plain.format, own, partner)?;
         self.opened = Some((here.walks.len(), offer.number));
         here.walks.push(walk)?;
@@ -265,14 +282,14 @@ impl Progress {
 }
 
 /// Returns the reason why an offer is refused, if there is one.
-fn offer_fault(here: &Mirror, offer: &PlainOffer, dirty: u64) -> Option<Fault> {
+fn offer_fault(here: &Mirror, offer: &PlainOffer, has_rows: bool) -> Option<Fault> {
     if offer.format != format_number(here.plain.format) {
         Some(Fault::OtherFormat)
     } else if offer.range != here.plain.part.number() {
         Some(Fault::OtherRange)
     } else if here.open_count() >= OPEN_MAX || here.walks.len() >= SESSIONS_MAX {
         Some(Fault::SessionsFull)
-    } else if dirty > 0 {
+    } else if !has_rows {
         Some(Fault::Dirty)
     } else {
         None

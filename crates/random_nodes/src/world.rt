@@ -2,6 +2,7 @@
 
 use crate::deliveries::deliver_hints;
 use crate::loads::run_load;
+use crate::moments::run_moment;
 use crate::node::{Made, Node};
 use crate::rehashes::run_rehash;
 use crate::schedule::Schedule;
@@ -10,6 +11,7 @@ use crate::steps::{Deed, Side, Step};
 use crate::syncs::{Plan, run_sync};
 use admission::Slot;
 use plain_model::trouble::Trouble;
+use range_state::LocalRows;
 use ring_node::Gate;
 use std::alloc::Global;
 use std::sync::Wait;
@@ -56,8 +58,12 @@ impl<L: Ledger, M: Ledger, N: Ledger, C: Ledger> World<L, M, N, C> {
             return Ok(());
         }
         match step.deed {
-            Deed::Rehash { .. } | Deed::Sync { .. } | Deed::SyncForged { .. } | Deed::Deliver(_) =>
-                self.work(rt, depth, step, gate, (here, there)),
+            Deed::Rehash { .. }
+            | Deed::Hold(_)
+            | Deed::Sync { .. }
+            | Deed::SyncAtMoment { .. }
+            | Deed::SyncForged { .. }
+            | Deed::Deliver(_) => self.work(rt, depth, step, gate, (here, there)),
             Deed::Load(key) => run_load(rt, self.alloc, (here, there), depth, gate, step, key),
             _ => self.call(rt, depth, step.deed, (here, there)),
         }
@@ -99,15 +105,26 @@ impl<L: Ledger, M: Ledger, N: Ledger, C: Ledger> World<L, M, N, C> {
             Deed::Deliver(turns) => {
                 return deliver_hints(rt, self.alloc, (there, here), depth, slot, turns);
             }
+            Deed::Hold(turns) => {
+                return run_moment(rt, self.alloc, here, slot, gate, step, turns);
+            }
             Deed::SyncForged { turns } => Plan {
                 turns,
                 lies: 0,
                 is_forged: true,
+                local: LocalRows::Now,
             },
             Deed::Sync { turns, lies } => Plan {
                 turns,
                 lies,
                 is_forged: false,
+                local: LocalRows::Now,
+            },
+            Deed::SyncAtMoment { turns, lies } => Plan {
+                turns,
+                lies,
+                is_forged: false,
+                local: LocalRows::Moment,
             },
             _ => return Ok(()),
         };
@@ -143,6 +160,10 @@ impl<L: Ledger, M: Ledger, N: Ledger, C: Ledger> World<L, M, N, C> {
             Deed::Look(key) => here.look(rt, alloc, key),
             Deed::Publish(times) => here.publish(rt, alloc, times),
             Deed::Migrate => here.migrate(rt, alloc),
+            Deed::DropMoment => {
+                here.drop_moment(rt);
+                Ok(())
+            }
             Deed::Sample { after, micros } => self.slots.sample(rt, after, micros),
             Deed::Adjust(after) => self.slots.adjust(rt, after),
             Deed::Switch => {

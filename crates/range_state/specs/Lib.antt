@@ -10,6 +10,7 @@ pub mod Migrates
 pub mod Renewals
 pub mod Trees
 pub mod Moments
+pub mod Portions
 pub mod Counts
 pub mod Run
 pub mod Judgements

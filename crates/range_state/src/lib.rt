@@ -4,11 +4,14 @@
 //! - [`state`]: the state and its calls. Those of the store: `put`, `put_read`, `accept` and `get`, and `put_into` and
 //!   `accept_into` for receipts in a list; for the tree `take_job`, `take_jobs`, `install`, `digest_at`, `rehash`,
 //!   `rehash_here`, `rehash_some` and `snapshot`; for a moment, whose rows are hashed while the range goes on,
-//!   `hold_moment`, `take_moment_jobs`, `install_moment`, `moment`, `open_session_at_moment` and `drop_moment`;
+//!   `hold_moment`, `take_moment_jobs` and `install_moment`, or `hash_moment`, `take_portion` and `install_portion` for
+//!   many of its nodes, `moment`, `open_session_at_moment`, `whole_front` and `drop_moment`;
 //!   `load_rows`, `load_into` and `load_format` for rows as bytes; `migrate` to format 2; `renewed` for a new range
 //!   that begins with the versions held; other reads are had by `store`. For sessions with partners `open_session`,
 //!   `outstanding`, `take_answer`, `take_answer_into`, `cancel_session`, `records` and `open_sessions`, and `sync_with`
 //!   for a whole session; `reconcile` for a session each way; `counts`.
+//! - [`local_rows`]: the choice of the rows now or those of the moment, for `snapshot_of` and `open_session_by`.
+//! - [`portion`]: nodes of a moment that any thread hashes.
 //! - [`record`]: a session of a range, and its partner.
 //! - [`event`], [`run`]: the calls as events, and lists of events.
 //! - [`laws`]: laws proved from the definitions, such as that a range that finished a session holds the versions that
@@ -24,7 +27,9 @@
 
 pub mod event;
 pub mod laws;
+pub mod local_rows;
 mod moment;
+pub mod portion;
 pub mod record;
 pub mod run;
 pub mod state;
@@ -33,6 +38,8 @@ pub use event::{
     AcceptEvent, AnswerCounted, AnswerEvent, AnswerTaken, Event, InstallEvent, OpenEvent, PutEvent,
     Reply,
 };
+pub use local_rows::LocalRows;
+pub use portion::Portion;
 pub use range_store::{Accepted, ContextTest, LeafRows, Loaded, RangeConfig, Receipt, Seed};
 pub use record::Record;
 pub use state::RangeState;

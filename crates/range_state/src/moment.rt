@@ -1,13 +1,16 @@
 //! Moments of a range.
 use range_tree::Tree;
 
-/// The rows that a range had at a moment, and the digests of their tree. They stay as they are while the range goes on, so
-/// their nodes can be hashed beside it.
+/// The rows that a range had at a moment, and the digests of their tree. They stay as they are while the range goes on,
+/// so their nodes can be hashed beside it.
 pub struct Moment {
     /// The rows, and the digests of the clean nodes of their tree.
     pub(crate) tree: Tree,
     /// The number of entries that the journal had.
     pub(crate) front: u64,
+    /// The number of entries at the last moment before that was whole: that had a digest at each node. 0 if there was
+    /// none.
+    pub(crate) whole: u64,
 }
 
 impl Drop for Moment {
@@ -16,6 +19,7 @@ impl Drop for Moment {
         let Moment {
             tree: _tree,
             front: _front,
+            whole: _whole,
         } = self;
     }
 }

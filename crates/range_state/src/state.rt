@@ -24,6 +24,7 @@ mod judgement;
 mod loading;
 mod migration;
 mod moments;
+mod portions;
 mod receipts;
 pub mod reconciliation;
 mod renewal;

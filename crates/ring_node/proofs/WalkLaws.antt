@@ -22,8 +22,9 @@ use Rattle.caller_pass.proofs.PassLaws.{seen_rises}
 use Rattle.ring_node.specs.Gains.{IsGain, Gains, GainsSome}
 use Rattle.ring_node.specs.Links.{IsLostExactly}
 use Rattle.ring_node.specs.Moments.{ChangedAtSomeMoment}
-use Rattle.ring_node.specs.Walks.{IsOpeningBy, IsOpenRefusal, IsTakeRefusal, opening}
-use Rattle.ring_node.specs.declared.syncer.LocalRows.{LocalRows}
+use Rattle.range_state.specs.Moments.{opening}
+use Rattle.ring_node.specs.Walks.{IsOpeningBy, IsOpenRefusal, IsTakeRefusal}
+use Rattle.range_state.specs.declared.local_rows.LocalRows.{LocalRows}
 use Rattle.walk_messages.specs.declared.message.Offer.{Offer}
 use Rattle.ring_node.proofs.BroughtLaws.{all_brought, seen_up}
 use Rattle.ring_node.proofs.GainLaws.{some_same}

@@ -1,6 +1,6 @@
 -- Sync workers: their refusals and their reports.
 use Rattle.std.specs.Prelude.{◌≡◌, ◌≢◌, ℕ, length, slice_get, List, Option, Some, None, MatchOption}
-use Rattle.vclock.specs.Outcome.{Outcome, gives, through}
+use Rattle.vclock.specs.Outcome.{gives, through}
 use Rattle.vclock.specs.declared.refusal.Refusal.{Refusal}
 use Rattle.vclock.specs.declared.refusal.Refusal.TheVariants.{Crowded, JournalFull, OtherRange, Dirty, UnknownSession, NotAsked, WrongDigest, NotCanonical, OtherFormat, SessionsFull, Gone, LinkLost, BadMessage, NoMemory}
 use Rattle.tree_nodes.specs.Nodes.{Node}
@@ -9,12 +9,11 @@ use Rattle.sync_session.specs.declared.state.SessionState.TheVariants.{Open}
 use Rattle.walk_messages.specs.declared.message.Offer.{Offer}
 use Rattle.range_state.specs.State.{State}
 use Rattle.range_state.specs.Sessions.{open_session}
-use Rattle.range_state.specs.Moments.{open_at_moment}
+use Rattle.range_state.specs.Moments.{opening}
 use Rattle.range_state.specs.Syncs.{IsFirstOf}
+use Rattle.range_state.specs.declared.local_rows.LocalRows.{LocalRows}
 use Rattle.range_state.specs.declared.«record».Record.{Record}
 use Rattle.caller_pass.specs.Locks.{Locked, moved}
-use Rattle.ring_node.specs.declared.syncer.LocalRows.{LocalRows}
-use Rattle.ring_node.specs.declared.syncer.LocalRows.TheVariants.{Now, Moment}
 
 -- the refusals of fetching a partner's offer
 abbrev pub IsOfferRefusal : Refusal → Type 0
@@ -65,12 +64,7 @@ IsWalkRefusal e = ⊥
 abbrev pub IsOpening : ℕ → ℕ → Locked → Locked → Type 0
 IsOpening id partner before after = (offer : Offer) × (through (moved before) (open_session before.state partner offer) ≡ gives id after)
 
--- a session that compares these local rows is opened
-abbrev pub opening : LocalRows → State → ℕ → Offer → Outcome ℕ State
-opening Now s partner offer = open_session s partner offer
-opening Moment s partner offer = open_at_moment s partner offer
-
--- such a session with that partner is opened under that number, by some offer
+-- a session with that partner, that compares these local rows, is opened under that number, by some offer
 abbrev pub IsOpeningBy : LocalRows → ℕ → ℕ → Locked → Locked → Type 0
 IsOpeningBy rows id partner before after = (offer : Offer) × (through (moved before) (opening rows before.state partner offer) ≡ gives id after)
 

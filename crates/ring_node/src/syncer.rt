@@ -4,21 +4,21 @@ ghost use Rattle.vclock.specs.Answer.{AnswersAtOnce};
 ghost use Rattle.vclock.specs.Outcome.{Does, through};
 ghost use Rattle.range_journal.specs.declared.journal.Source.{Source};
 ghost use Rattle.range_state.specs.Sessions.{open_session, unknown_fault};
-ghost use Rattle.range_state.specs.Moments.{open_at_moment};
+ghost use Rattle.range_state.specs.Moments.{open_at_moment, opening};
 ghost use Rattle.range_state.specs.Syncs.{IsFirstOf};
 ghost use Rattle.caller_pass.specs.Locks.{IsLocked, moved, TellsAnswer};
 ghost use Rattle.ring_node.specs.Gains.{Gains, GainsSome};
 ghost use Rattle.ring_node.specs.Links.{IsLostExactly};
 ghost use Rattle.ring_node.specs.Moments.{FoundAtSomeMoment, ChangedAtSomeMoment};
-ghost use Rattle.ring_node.specs.Walks.{IsOfferRefusal, IsOpenRefusal, IsAskRefusal, IsTakeRefusal, IsWalkRefusal, IsEndIn, IsOpening, IsOpeningBy, IsNextOrNone, opening};
-ghost use Rattle.ring_node.specs.declared.syncer.LocalRows.TheVariants as rows;
+ghost use Rattle.ring_node.specs.Walks.{IsOfferRefusal, IsOpenRefusal, IsAskRefusal, IsTakeRefusal, IsWalkRefusal, IsEndIn, IsOpening, IsOpeningBy, IsNextOrNone};
+ghost use Rattle.range_state.specs.declared.local_rows.LocalRows.TheVariants as rows;
 
 use crate::link::{Link, Reached};
 use crate::range::SharedRange;
 use admission::Slot;
 use caller_pass::Pass;
 use range_journal::Source;
-use range_state::AnswerCounted;
+use range_state::{AnswerCounted, LocalRows};
 use std::alloc::Global;
 use std::sync::Wait;
 use std::sync::ledger::Ledger;
@@ -80,15 +80,6 @@ impl Walk {
             Err(refusal) => Err(refusal),
         }
     }
-}
-
-/// The local rows that a session compares with those of its partner.
-#[derive(Clone, Copy, Debug, PartialEq, Eq)]
-enum LocalRows {
-    /// The rows now.
-    Now,
-    /// The rows of the moment that the range keeps.
-    Moment,
 }
 
 /// The end of a session.

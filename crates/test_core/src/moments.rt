@@ -21,6 +21,13 @@ fn hash_ready(alloc: Global, state: &mut RangeState) -> Result<usize, Fail> {
     Ok(ready)
 }
 
+/// Hashes a portion of a range's moment, and returns the number of the moment's nodes that are dirty then.
+fn hash_portion(alloc: Global, state: &mut RangeState) -> Result<usize, Fail> {
+    let mut portion = state.take_portion(alloc, 20)?;
+    portion.run(alloc);
+    Ok(state.install_portion(portion))
+}
+
 /// Asserts that a moment of a range with `a` gets its digests after `b` was put, and that the range gets all but those of
 /// the nodes above `b`.
 fn expect_whole(alloc: Global, state: &mut RangeState, root: Digest) -> Result<(), Fail> {
@@ -47,7 +54,33 @@ fn a_moment_is_hashed_while_puts_go_on(rt: HostRuntime) -> Result<(), Fail> {
     let mut state = new_range(alloc, 1, 1_000)?;
     put_a(alloc, &mut state, &[])?;
     hold_moment(alloc, &mut state)?;
-    expect_whole(alloc, &mut state, root)
+    expect_whole(alloc, &mut state, root)?;
+    expect(state.whole_front() == 1, "one entry was journaled by then")?;
+    hold_moment(alloc, &mut state)?;
+    expect(
+        state.whole_front() == 1,
+        "the second moment isn't whole yet",
+    )
+}
+
+#[test]
+fn a_portion_is_hashed_beside_the_range(rt: HostRuntime) -> Result<(), Fail> {
+    let alloc = rt.alloc();
+    let mut state = clean_range(&rt, alloc)?;
+    put_a(alloc, &mut state, &[])?;
+    hold_moment(alloc, &mut state)?;
+    expect(hash_portion(alloc, &mut state)? == 2, "the leaf is hashed")?;
+    let late = state.take_portion(alloc, 1)?;
+    put(alloc, &mut state, 2, &[], b"a", b"y")?;
+    hold_moment(alloc, &mut state)?;
+    expect(
+        state.install_portion(late) == 3,
+        "the node above it waits for its leaf in the new moment",
+    )?;
+    expect(hash_portion(alloc, &mut state)? == 2, "the leaf again")?;
+    expect(hash_portion(alloc, &mut state)? == 1, "the node above it")?;
+    expect(hash_portion(alloc, &mut state)? == 0, "the root")?;
+    expect(state.counts().dirty == 0, "the range got the digests, too")
 }
 
 #[test]

@@ -2,7 +2,7 @@
 use crate::core_calls::ranges::put_at;
 use crate::core_calls::snapshots::{Snapshots, clean_range};
 use crate::lines::{show, unchanged};
-use range_state::RangeState;
+use range_state::{LocalRows, RangeState};
 use snapshot::Snapshot;
 use std::alloc::Global;
 use std::io;
@@ -17,10 +17,19 @@ pub(crate) fn show_all<R: Print + AllocGlobal + Threads + Sync>(
     let (alloc, partner) = (rt.alloc(), &both.partner);
     show(rt, "RangeState::hold_moment", hold(rt, alloc))?;
     show(rt, "RangeState::take_moment_jobs", take_jobs(rt, alloc))?;
-    show(rt, "RangeState::moment", offer(rt, alloc))?;
     show(
         rt,
-        "RangeState::open_session_at_moment",
+        "RangeState::take_portion and RangeState::hash_moment",
+        hash(rt, alloc),
+    )?;
+    show(
+        rt,
+        "RangeState::snapshot_of and RangeState::moment",
+        offer(rt, alloc),
+    )?;
+    show(
+        rt,
+        "RangeState::open_session_by and RangeState::open_session_at_moment",
         open(rt, alloc, partner),
     )
 }
@@ -51,25 +60,44 @@ fn hold(rt: &(impl Threads + Sync), alloc: Global) -> Result<u64, Refusal> {
     }
 }
 
-/// Returns the number of jobs of a moment whose leaf and the nodes above it are dirty.
-fn take_jobs(rt: &(impl Threads + Sync), alloc: Global) -> Result<u64, Refusal> {
+/// Returns a range that keeps a moment whose leaf and the nodes above it are dirty.
+fn dirty_moment(rt: &(impl Threads + Sync), alloc: Global) -> Result<RangeState, Refusal> {
     let mut state = clean_range(rt, alloc)?;
     put_at(alloc, &mut state, 2)?;
     state.hold_moment(alloc)?;
+    Ok(state)
+}
+
+/// Returns the number of jobs of such a moment.
+fn take_jobs(rt: &(impl Threads + Sync), alloc: Global) -> Result<u64, Refusal> {
+    let state = dirty_moment(rt, alloc)?;
     Ok(state.take_moment_jobs(alloc, 20)?.len() as u64)
+}
+
+/// Hashes the leaf of such a moment as a portion, and then the node above it. Returns the number of nodes that are dirty
+/// then.
+fn hash(rt: &(impl Threads + Sync), alloc: Global) -> Result<u64, Refusal> {
+    let mut state = dirty_moment(rt, alloc)?;
+    let mut portion = state.take_portion(alloc, 20)?;
+    portion.run(alloc);
+    let left = state.install_portion(portion);
+    match state.hash_moment(alloc, 20) {
+        Ok(left) => Ok(left as u64),
+        Err(refusal) => Err(unchanged(refusal, Ok(left == 2))),
+    }
 }
 
 /// Offers a moment, and returns the number of its ring's bits.
 fn offer(rt: &(impl Threads + Sync), alloc: Global) -> Result<u64, Refusal> {
     let state = held_range(rt, alloc)?;
-    Ok(u64::from(state.moment(alloc)?.bits()))
+    Ok(u64::from(state.snapshot_of(alloc, LocalRows::Moment)?.bits()))
 }
 
 /// Opens sessions at the moment of a range until its records have had to grow.
 fn open(rt: &(impl Threads + Sync), alloc: Global, partner: &Snapshot) -> Result<u64, Refusal> {
     let mut state = held_range(rt, alloc)?;
     for sessions in 0..6usize {
-        if let Err(refusal) = state.open_session_at_moment(alloc, 2, partner.offer(1)) {
+        if let Err(refusal) = state.open_session_by(alloc, LocalRows::Moment, 2, partner.offer(1)) {
             return Err(unchanged(refusal, Ok(state.records().len() == sessions)));
         }
     }

@@ -1,11 +1,12 @@
 //! The moment of a range: its rows at a time, which are hashed and offered while the range goes on.
-ghost use Rattle.std.specs.Prelude.{◌≡◌, None, IfSome};
+ghost use Rattle.std.specs.Prelude.{◌≡◌, None};
 ghost use Rattle.std.specs.Arc.{arc_value};
 ghost use Rattle.vclock.specs.Answer.{Answers};
 ghost use Rattle.vclock.specs.Outcome.{Does, DoesAtOnce, gives};
 ghost use Rattle.range_state.specs.State.{rows_at};
-ghost use Rattle.range_state.specs.Moments.{with_moment, AreMomentJobs, with_digest, install_moment, moment_fault, front_of, open_at_moment};
+ghost use Rattle.range_state.specs.Moments.{with_moment, AreMomentJobs, with_digest, install_moment, moment_fault, front_of, open_at_moment, shown_fault, shown_rows, opening};
 
+use crate::local_rows::LocalRows;
 use crate::moment::Moment;
 use crate::record::Record;
 use crate::state::RangeState;
@@ -20,8 +21,8 @@ use vclock::Refusal;
 use walk_messages::Offer;
 
 impl RangeState {
-    /// Keeps the rows now, and the digests of their tree, as the moment of the range, in the place of another one. Shares
-    /// the leaves, and copies no row: while the moment is kept, the first change of a chunk of rows copies it.
+    /// Keeps the rows now, and the digests of their tree, as the moment of the range, in the place of another one.
+    /// Shares the leaves, and copies no row: while the moment is kept, the first change of a chunk of rows copies it.
     ///
     /// Refused: NoMemory. On error the state is unchanged.
     pub fn hold_moment(&mut self, alloc: Global) -> Result<(), Refusal>
@@ -29,7 +30,8 @@ impl RangeState {
     {
         let tree = self.store.tree().share(alloc)?;
         let front = self.store.journal().len();
-        self.moment = Some(Moment { tree, front });
+        let whole = self.whole_front();
+        self.moment = Some(Moment { tree, front, whole });
         Ok(())
     }
 
@@ -89,8 +91,40 @@ impl RangeState {
         }
     }
 
-    /// Opens a session with a partner's offer: the rows of the moment are compared with those under the offered root, so it
-    /// may ask for leaves that differ only because the range has gone on. Returns the number of the session, from 0.
+    /// Makes a snapshot of the rows now, as `snapshot` does, or of the moment, as `moment` does.
+    pub fn snapshot_of(
+        &self,
+        alloc: Global,
+        rows: LocalRows,
+    ) -> Result<Arc<Snapshot, Global>, Refusal>
+        ensures { Answers result (shown_fault rows self.now) (λ snapshot. arc_value snapshot ≡ shown_rows rows self.now) }
+    {
+        match rows {
+            LocalRows::Now => self.snapshot(alloc),
+            LocalRows::Moment => self.moment(alloc),
+        }
+    }
+
+    /// Opens a session that compares the rows now, as `open_session` does, or those of the moment, as
+    /// `open_session_at_moment` does.
+    pub fn open_session_by(
+        &mut self,
+        alloc: Global,
+        rows: LocalRows,
+        partner: u16,
+        offer: Offer,
+    ) -> Result<u64, Refusal>
+        ensures { Does result self.old self.new (opening rows self.old partner offer) }
+    {
+        match rows {
+            LocalRows::Now => self.open_session(alloc, partner, offer),
+            LocalRows::Moment => self.open_session_at_moment(alloc, partner, offer),
+        }
+    }
+
+    /// Opens a session with a partner's offer: the rows of the moment are compared with those under the offered root,
+    /// so it may ask for leaves that differ only because the range has gone on. Returns the number of the session, from
+    /// 0.
     ///
     /// Refused, in order: OtherFormat, OtherRange, SessionsFull (64 sessions are open, or there are 1,024 records),
     /// Dirty (there is no moment, or some node of it has no digest), NoMemory. On error the state is unchanged.

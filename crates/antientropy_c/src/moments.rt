@@ -1,0 +1,101 @@
+//! The moment of a replica: its rows at a time, which are hashed and offered while it goes on.
+ghost use Rattle.std.specs.Prelude.{◌≡◌, ℕ, None, Result, ⊤};
+ghost use Rattle.vclock.specs.Outcome.{Does, gives};
+ghost use Rattle.vclock.specs.declared.refusal.Refusal.{Refusal};
+ghost use Rattle.range_state.specs.Moments.{with_moment, moment_fault, front_of};
+ghost use Rattle.range_state.specs.Portions.{HashesMoment};
+ghost use Rattle.range_state.specs.State.{rows_at};
+ghost use Rattle.antientropy_c.specs.Calls.{Calls};
+ghost use Rattle.antientropy_c.specs.Numbers.{Returns};
+ghost use Rattle.antientropy_c.specs.Offers.{Publishes};
+ghost use Rattle.antientropy_c.specs.Sessions.{TellsNumber};
+
+use crate::numbers::{EMPTY, code};
+use crate::offers::publish;
+use crate::publication::Publication;
+use crate::replica::Replica;
+use crate::sessions::tell_number;
+use range_state::{LocalRows, RangeState};
+use std::alloc::Global;
+use vclock::Refusal;
+
+/// Keeps the rows now as the moment of a replica, in the place of another one. Copies no row. Refused, in order: EMPTY,
+/// NoMemory. On error the replica is unchanged.
+#[unsafe(no_mangle)]
+#[tactic(auto, using(crate::proofs::CallLaws::empty, crate::proofs::CallLaws::held, crate::proofs::CallLaws::returns))]
+pub extern "C" fn antientropy_hold(alloc: Global, replica: &mut Replica) -> u32
+    ensures { Calls result replica.old replica.new ⊤ (λ s t. Returns result (λ (r : Result (Unit {0}) Refusal).
+        Does r s t (gives tt (with_moment s)))) }
+{
+    let Some(mut state) = replica.take(alloc) else {
+        return EMPTY;
+    };
+    let outcome = state.hold_moment(alloc);
+    replica.hold(state);
+    code(&outcome)
+}
+
+/// Lets go of the moment of a replica, if there is one. Refused: EMPTY.
+#[unsafe(no_mangle)]
+#[tactic(auto, using(crate::proofs::CallLaws::empty, crate::proofs::CallLaws::held))]
+pub extern "C" fn antientropy_drop_moment(alloc: Global, replica: &mut Replica) -> u32
+    ensures { Calls result replica.old replica.new ⊤ (λ s t. (result ≡ 0) × (t ≡ record s { moment = None })) }
+{
+    let Some(mut state) = replica.take(alloc) else {
+        return EMPTY;
+    };
+    state.drop_moment();
+    replica.hold(state);
+    0
+}
+
+/// Hashes at most `most` of the moment's dirty nodes whose children are clean, and stores the number of its nodes that are
+/// dirty then: 0 without a moment. Refused, in order: EMPTY, NoMemory. On error the replica is unchanged.
+#[unsafe(no_mangle)]
+#[tactic(auto, using(crate::proofs::CallLaws::empty, crate::proofs::CallLaws::held, crate::proofs::CallLaws::returns))]
+pub extern "C" fn antientropy_hash_moment(
+    alloc: Global,
+    replica: &mut Replica,
+    most: u64,
+    left: &mut u64,
+) -> u32
+    ensures { Calls result replica.old replica.new (left.new ≡ left.old) (λ s t. Returns result (λ (r : Result ℕ Refusal).
+        HashesMoment r most s t × TellsNumber r left.old left.new)) }
+{
+    let Some(mut state) = replica.take(alloc) else {
+        return EMPTY;
+    };
+    let outcome = hash_moment(alloc, &mut state, most);
+    replica.hold(state);
+    tell_number(&outcome, left);
+    code(&outcome)
+}
+
+/// Hashes at most `most` of the moment's dirty nodes whose children are clean, and returns the number of its nodes that
+/// are dirty then.
+fn hash_moment(alloc: Global, state: &mut RangeState, most: u64) -> Result<u64, Refusal>
+    ensures { HashesMoment result most state.old state.new }
+{
+    Ok(state.hash_moment(alloc, most as usize)? as u64)
+}
+
+/// Publishes the rows of the moment of a replica. Refused, in order: EMPTY, HELD (the publication holds a snapshot
+/// already), Dirty (there is no moment, or some node of it has no digest), NoMemory. On error the publication is
+/// unchanged.
+#[unsafe(no_mangle)]
+#[tactic(auto, using(crate::proofs::CallLaws::empty, crate::proofs::CallLaws::held))]
+pub extern "C" fn antientropy_moment(
+    alloc: Global,
+    replica: &mut Replica,
+    publication: &mut Publication,
+) -> u32
+    ensures { Calls result replica.old replica.new (publication.new ≡ publication.old) (λ s t. (t ≡ s)
+        × Publishes result publication.old publication.new (moment_fault s.moment) (rows_at s.store (front_of s.moment))) }
+{
+    let Some(state) = replica.take(alloc) else {
+        return EMPTY;
+    };
+    let number = publish(alloc, &state, LocalRows::Moment, publication);
+    replica.hold(state);
+    number
+}

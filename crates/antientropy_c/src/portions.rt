@@ -1,0 +1,137 @@
+//! Portions of a replica's moment, which are hashed while the replica is in other calls.
+ghost use Rattle.std.specs.Prelude.{◌≡◌, false, None, ⊤};
+ghost use Rattle.vclock.specs.Answer.{Answers};
+ghost use Rattle.range_state.specs.Moments.{AreMomentJobs};
+ghost use Rattle.antientropy_c.specs.Calls.{Calls, CallsOn};
+ghost use Rattle.antientropy_c.specs.Makes.{MakesIn, Takes};
+ghost use Rattle.antientropy_c.specs.Portions.{nodes_in, Installs};
+
+use crate::numbers::{EMPTY, HELD, code};
+use crate::portion_handle::PortionHandle;
+use crate::replica::Replica;
+use range_state::{Portion, RangeState};
+use std::alloc::Global;
+use vclock::Refusal;
+
+/// Takes a portion of the dirty nodes of a replica's moment: those whose children are clean, or the first `most` of them
+/// if there are more. Without a moment it has no node.
+///
+/// Refused, in order: EMPTY (the replica), HELD (the handle holds a portion already), NoMemory. On error the handle is
+/// unchanged.
+#[unsafe(no_mangle)]
+#[tactic(auto, using(crate::proofs::CallLaws::empty, crate::proofs::CallLaws::held))]
+pub extern "C" fn antientropy_take_portion(
+    alloc: Global,
+    replica: &mut Replica,
+    most: u64,
+    portion: &mut PortionHandle,
+) -> u32
+    ensures { Calls result replica.old replica.new (portion.new ≡ portion.old) (λ s t. (t ≡ s)
+        × MakesIn result (nodes_in portion.old) (nodes_in portion.new) None (AreMomentJobs s.moment most)) }
+{
+    let Some(state) = replica.take(alloc) else {
+        return EMPTY;
+    };
+    let number = take_portion(alloc, &state, most, portion);
+    replica.hold(state);
+    number
+}
+
+/// Takes a portion into a handle.
+#[tactic(auto, using(crate::proofs::MakeLaws::already, crate::proofs::MakeLaws::made))]
+fn take_portion(alloc: Global, state: &RangeState, most: u64, portion: &mut PortionHandle) -> u32
+    ensures { MakesIn result (nodes_in portion.old) (nodes_in portion.new) None (AreMomentJobs state.now.moment most) }
+{
+    if let Some(held) = portion.take(alloc) {
+        portion.hold(held);
+        return HELD;
+    }
+    code(&make(alloc, state, most, portion))
+}
+
+/// Takes a portion into an empty handle.
+fn make(
+    alloc: Global,
+    state: &RangeState,
+    most: u64,
+    portion: &mut PortionHandle,
+) -> Result<(), Refusal>
+    requires { portion.old.held ≡ false }
+    ensures { Takes (nodes_in portion.new) None (AreMomentJobs state.now.moment most) result }
+{
+    let taken = boxed(alloc, state, most)?;
+    portion.hold(taken);
+    Ok(())
+}
+
+/// Makes a box with a portion.
+fn boxed(alloc: Global, state: &RangeState, most: u64) -> Result<Box<Portion, Global>, Refusal>
+    ensures { Answers result None (λ portion. AreMomentJobs state.now.moment most portion.value) }
+{
+    let portion = state.take_portion(alloc, most as usize)?;
+    Ok(Box::new(alloc, portion)?)
+}
+
+/// Hashes the nodes of a portion; those that are hashed stay so. It uses no replica. Refused: EMPTY.
+#[unsafe(no_mangle)]
+#[tactic(auto, using(crate::proofs::CallLaws::empty, crate::proofs::CallLaws::held))]
+pub extern "C" fn antientropy_hash_portion(alloc: Global, portion: &mut PortionHandle) -> u32
+    ensures { CallsOn result (nodes_in portion.old) (nodes_in portion.new) ⊤ (λ nodes after. (result ≡ 0) × (after ≡ nodes)) }
+{
+    let Some(mut nodes) = portion.take(alloc) else {
+        return EMPTY;
+    };
+    nodes.run(alloc);
+    portion.hold(nodes);
+    0
+}
+
+/// Installs the digests of a portion in the moment of its replica, and where the replica's node has that text now, in the
+/// replica's tree. Leaves out those of nodes that aren't in the moment, or have another text there: of a moment before
+/// it. Hashes the nodes that aren't hashed yet. The portion's handle is empty then. Stores the number of the moment's
+/// nodes that are dirty then: 0 without a moment.
+///
+/// Refused: EMPTY (the replica or the portion). Then nothing changes.
+#[unsafe(no_mangle)]
+#[tactic(auto, using(crate::proofs::CallLaws::empty, crate::proofs::CallLaws::held))]
+pub extern "C" fn antientropy_install_portion(
+    alloc: Global,
+    replica: &mut Replica,
+    portion: &mut PortionHandle,
+    left: &mut u64,
+) -> u32
+    ensures { Calls result replica.old replica.new ((portion.new ≡ portion.old) × (left.new ≡ left.old)) (λ s t.
+        Installs result (nodes_in portion.old) (nodes_in portion.new) s t left.old left.new) }
+{
+    let Some(mut state) = replica.take(alloc) else {
+        return EMPTY;
+    };
+    let number = install(alloc, &mut state, portion, left);
+    replica.hold(state);
+    number
+}
+
+/// Installs the digests of a portion, if there is one.
+#[tactic(auto, using(crate::proofs::PortionLaws::installed, crate::proofs::PortionLaws::none))]
+fn install(
+    alloc: Global,
+    state: &mut RangeState,
+    portion: &mut PortionHandle,
+    left: &mut u64,
+) -> u32
+    ensures { Installs result (nodes_in portion.old) (nodes_in portion.new) state.old state.new left.old left.new }
+{
+    let Some(nodes) = portion.take(alloc) else {
+        return EMPTY;
+    };
+    *left = state.install_portion(Box::into_inner(nodes)) as u64;
+    0
+}
+
+/// Frees the portion of a handle, if any.
+#[unsafe(no_mangle)]
+pub extern "C" fn antientropy_portion_free(alloc: Global, portion: &mut PortionHandle)
+    ensures { portion.new.held ≡ false }
+{
+    let _nodes = portion.take(alloc);
+}

@@ -1,0 +1,25 @@
+-- Portions of a moment's nodes, whose digests are installed together.
+use Rattle.std.specs.Prelude.{◌≡◌, ℕ, List, [], ◌∷◌, None, Result, IfErr, OnOk}
+use Rattle.vclock.specs.Answer.{Answers}
+use Rattle.vclock.specs.Outcome.{Outcome, gives, refuses}
+use Rattle.vclock.specs.declared.refusal.Refusal.{Refusal}
+use Rattle.rehash.specs.Jobs.{NodeText}
+use Rattle.range_state.specs.State.{State}
+use Rattle.range_state.specs.Moments.{AreMomentJobs, install_moment, dirty_in}
+
+-- the state after an install: the same, if it was refused
+abbrev pub after_install : State → Outcome (Unit {0}) State → State
+after_install s (gives x t) = t
+after_install s (refuses e) = s
+
+-- the state after the digest of each text was installed in its turn at its node of the moment
+abbrev pub installed_all : State → List NodeText → State
+installed_all s [] = s
+installed_all s (x ∷ texts) = installed_all (after_install s (install_moment s x.node x.text)) texts
+
+-- The digests of some jobs of the moment's dirty nodes whose children are clean are installed: of the first `most`, or of
+-- all if there are fewer. The result is the number of its nodes that are dirty then.
+pub record HashesMoment (r : Result ℕ Refusal) (most : ℕ) (s t : State) : Type 0 where
+  pub left : Answers r None (λ n. n ≡ dirty_in t.moment)
+  pub jobs : OnOk r ((texts : List NodeText) × AreMomentJobs s.moment most texts × (t ≡ installed_all s texts))
+  pub err : IfErr r (λ _. t ≡ s)

@@ -1,0 +1,80 @@
+//! Portions of the moment of a range.
+ghost use Rattle.std.specs.Prelude.{◌≡◌, None};
+ghost use Rattle.vclock.specs.Answer.{Answers};
+ghost use Rattle.range_state.specs.Moments.{AreMomentJobs, install_moment, dirty_in, last_whole};
+ghost use Rattle.range_state.specs.Portions.{after_install, installed_all, HashesMoment};
+
+use crate::portion::Portion;
+use crate::state::RangeState;
+use std::alloc::Global;
+use tree_nodes::{Hashed, NodeAt};
+use vclock::Refusal;
+
+impl RangeState {
+    /// Hashes at most `most` of the moment's dirty nodes whose children are clean, in the order of their places, in the
+    /// caller's thread, and returns the number of its nodes that are dirty then: 0 without a moment. A caller that
+    /// repeats it until that number is 0 can do other work between.
+    ///
+    /// Refused: NoMemory. Then the state is unchanged.
+    pub fn hash_moment(&mut self, alloc: Global, most: usize) -> Result<usize, Refusal>
+        ensures { HashesMoment result most self.old self.new }
+    {
+        let portion = self.take_portion(alloc, most)?;
+        Ok(self.install_portion(portion))
+    }
+
+    /// Returns a portion of the moment's dirty nodes whose children are clean: all of them, or the first `most` if there
+    /// are more. It has room for their digests. Without a moment it has no node. Refused: NoMemory.
+    pub fn take_portion(&self, alloc: Global, most: usize) -> Result<Portion, Refusal>
+        ensures { Answers result None (AreMomentJobs self.now.moment most) }
+    {
+        Portion::of(alloc, self.take_moment_jobs(alloc, most)?)
+    }
+
+    /// Installs the digests of a portion, each as `install_moment` does; those that are Stale are left out. Hashes the
+    /// nodes that aren't hashed yet. Returns the number of the moment's nodes that are dirty then: 0 without a moment.
+    /// Doesn't allocate.
+    pub fn install_portion(&mut self, portion: Portion) -> usize
+        ensures installed { self.new ≡ installed_all self.old portion }
+        ensures left { result ≡ dirty_in self.new.moment }
+    {
+        for it in portion.into_hashed() {
+            self.install_unless_stale(it.node, &it.hashed);
+        }
+        self.dirty_in_moment()
+    }
+
+    /// Installs the digest of a text at a node of the moment, unless it is Stale.
+    fn install_unless_stale(&mut self, node: NodeAt, hashed: &Hashed)
+        ensures { self.new ≡ after_install self.old (install_moment self.old node hashed.now) }
+    {
+        let _done = self.install_moment(node, hashed);
+    }
+
+    /// Returns the number of the moment's nodes that are dirty: 0 without a moment. Doesn't allocate.
+    fn dirty_in_moment(&self) -> usize
+        ensures { result ≡ dirty_in self.now.moment }
+    {
+        match &self.moment {
+            Some(moment) => moment.tree.dirty_count(),
+            None => 0,
+        }
+    }
+
+    /// Returns the number of entries that the journal had at the last moment that was whole: that had a digest at each
+    /// node. Returns 0 if there was none, or if the moments were dropped. Doesn't allocate.
+    pub fn whole_front(&self) -> u64
+        ensures { result ≡ last_whole self.now.moment }
+    {
+        match &self.moment {
+            Some(moment) => {
+                if moment.tree.dirty_count() == 0 {
+                    moment.front
+                } else {
+                    moment.whole
+                }
+            }
+            None => 0,
+        }
+    }
+}
