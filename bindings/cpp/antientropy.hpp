@@ -17,10 +17,11 @@
 /// and of slots have 32 bits: -Wconversion warns if one is cut before the call. Text and bytes go in as
 /// std::string_view, and come out as std::string.
 ///
-/// THREADS. No class takes a lock: **one call at a time on an object, reads too**, so none of them is const. A
+/// THREADS. No class has a lock: **one call at a time on an object, reads too**, so none of them is const. A
 /// reader-writer lock isn't enough: two concurrent reads can leave a replica empty for good. A `Session` and a
-/// `Sequence` of a replica count as the replica, a `Loan` as its slots. A replica and its snapshots are apart, and may
-/// be used at once. Call nothing in a signal handler, or in the forked child of a process with threads.
+/// `Sequence` of a replica count as the replica, a `Loan` as its slots. A replica, its snapshots and its portions are
+/// apart, and may be used at once. `snapshot_beside` and `sync_beside` take the program's lock of a replica, and free
+/// it while they hash. Call nothing in a signal handler, or in the forked child of a process with threads.
 #ifndef ANTIENTROPY_HPP
 #define ANTIENTROPY_HPP
 
@@ -47,6 +48,7 @@
 #include <istream>
 #include <iterator>
 #include <memory>
+#include <mutex>
 #include <optional>
 #include <ostream>
 #include <stdexcept>
@@ -352,8 +354,8 @@ using Receipt = c::antientropy_receipt;
 /// The `range` and the `leaf` of a key.
 using Spot = c::antientropy_spot;
 
-/// Counts of a replica: `entries`, their `limit`, `dirty` nodes, `sessions` ever, and `open_sessions`. `first` and
-/// `front` are 0.
+/// Counts of a replica: `entries`, their `limit`, `dirty` nodes, `sessions` ever, and `open_sessions`. `front` is the
+/// number of entries at the last moment that was whole: 0 if there is none. `first` is 0.
 using Counts = c::antientropy_counts;
 
 /// Counts of hints: `pending` and `delivered`.
@@ -880,7 +882,7 @@ inline Result<OfferParts> read_offer(std::string_view offer) {
 // ---- snapshots
 
 /// The rows of a replica at one moment. It serves a partner's asks while the replica goes on, and may outlive it.
-/// `Replica::snapshot` makes it.
+/// `Replica::snapshot`, `snapshot_beside` and `moment` make it.
 class Snapshot {
 public:
     /// Frees the memory now.
@@ -961,11 +963,33 @@ private:
     std::uint64_t format_, bits_, range_, entries_ = 0;
 };
 
+// ---- portions
+
+/// Some nodes of a replica's moment that have no digest. It needs no replica, and may outlive it: so a thread hashes it
+/// while others use the replica. `Replica::take_portion` makes it.
+class Portion {
+public:
+    /// Frees the memory now.
+    void close() noexcept { handle_.close(); }
+
+    /// Hashes the nodes.
+    Result<void> hash() { return detail::done(c::antientropy_hash_portion(at())); }
+
+private:
+    friend class Replica;
+
+    Portion() = default;
+
+    c::antientropy_portion *at() { return handle_.get(); }
+
+    detail::Owner<c::antientropy_portion, c::antientropy_portion_free> handle_;
+};
+
 // ---- sessions
 
 /// A session of a replica with a partner's offer. Its calls are calls of the replica. It stays valid if the replica is
 /// moved; once the replica is freed they are refused as Empty. The destructor cancels the session if it is open.
-/// `Replica::open` makes it.
+/// `Replica::open` and `open_at_moment` make it.
 class Session {
 public:
     Session(Session &&) noexcept = default;
@@ -1063,12 +1087,23 @@ private:
 
 namespace detail {
 
-/// A sync in progress: a session, its partner, and the counts.
+/// The lock of a replica that one thread uses.
+struct NoLock {
+    void lock() {}
+    void unlock() {}
+};
+
+/// A sync in progress: a session, the lock of its replica, its partner, and the counts.
+template <class Lock>
 class Run {
 public:
-    Run(Session session, const Reach &reach, std::size_t in_flight, std::uint64_t most_bad)
-        : session_(std::move(session)), reach_(reach), in_flight_(std::max<std::size_t>(in_flight, 1)),
+    Run(Session session, Lock &lock, const Reach &reach, std::size_t in_flight, std::uint64_t most_bad)
+        : session_(std::move(session)), lock_(lock), reach_(reach), in_flight_(std::max<std::size_t>(in_flight, 1)),
           most_bad_(most_bad) {}
+    ~Run() {
+        const std::lock_guard<Lock> guard(lock_);
+        const Session ended = std::move(session_);
+    }
 
     Result<Synced> finish() {
         while (true) {
@@ -1090,11 +1125,16 @@ private:
     /// The asks for the nodes that may still be taken: none after too many bad answers.
     Result<std::vector<std::string>> open_asks() {
         if (gives_up()) return std::vector<std::string>();
-        auto asks = session_.asks();
+        auto asks = all_asks();
         if (!asks) return asks;
         const auto crowded = [&](const std::string &ask) { return is_crowded(ask); };
         asks->erase(std::remove_if(asks->begin(), asks->end(), crowded), asks->end());
         return asks;
+    }
+
+    Result<std::vector<std::string>> all_asks() {
+        const std::lock_guard<Lock> guard(lock_);
+        return session_.asks();
     }
 
     /// Exchanges all asks, `in_flight_` of them at a time.
@@ -1125,11 +1165,16 @@ private:
             synced_.bad++;
             return {};
         }
-        const auto taken = session_.take(*answer);
+        const auto taken = take_locked(*answer);
         if (!taken) return pass(*answer, taken.refusal());
         synced_.accepted += taken->accepted;
         synced_.known += taken->known;
         return {};
+    }
+
+    Result<Taken> take_locked(const std::string &answer) {
+        const std::lock_guard<Lock> guard(lock_);
+        return session_.take(answer);
     }
 
     /// Goes on after a crowded leaf and after a bad answer. Other refusals end the sync.
@@ -1155,6 +1200,7 @@ private:
     }
 
     Result<Synced> end() {
+        const std::lock_guard<Lock> guard(lock_);
         const auto cancelled = session_.cancel();
         if (!cancelled) return cancelled.refusal();
         const auto state = session_.state();
@@ -1166,6 +1212,7 @@ private:
     static constexpr char ask_kind = 2;
 
     Session session_;
+    Lock &lock_;
     const Reach &reach_;
     std::size_t in_flight_;
     std::uint64_t most_bad_;
@@ -1231,7 +1278,8 @@ public:
         return detail::result(number, std::move(made));
     }
 
-    /// Converts a replica of format 1 to format 2. All nodes become dirty, and open sessions are cancelled.
+    /// Converts a replica of format 1 to format 2. All nodes become dirty, open sessions are cancelled, and the moment
+    /// is dropped.
     Result<void> migrate() {
         const auto migrated = detail::done(c::antientropy_migrate(at()));
         if (migrated) format_ = 2;
@@ -1381,7 +1429,7 @@ public:
 
     // ---- the tree, offers and checkpoints
 
-    /// Hashes all nodes of the tree that have no digest.
+    /// Hashes all nodes of the tree that have no digest. Only `snapshot` and `open` without `hash` need it.
     Result<void> rehash() { return detail::done(c::antientropy_rehash(at())); }
 
     /// Hashes at most `most` of the nodes that have no digest though all their children have one. Returns the number of
@@ -1392,22 +1440,23 @@ public:
         return detail::result(number, left);
     }
 
-    /// Returns a snapshot of the rows now, after a rehash unless `rehash` is false.
-    /// Refused: Dirty (a node has no digest, and `rehash` is false).
-    Result<Snapshot> snapshot(bool rehash = true) {
-        const auto hashed = rehash ? this->rehash() : Result<void>();
-        if (!hashed) return hashed.refusal();
-        Snapshot made(format_, bits_, range_);
-        const auto number = c::antientropy_snapshot(at(), made.at());
-        if (number != c::ANTIENTROPY_OK) return static_cast<Refusal>(number);
-        const auto counts = count();
-        if (!counts) return counts.refusal();
-        made.entries_ = counts->entries;
-        return made;
+    /// Returns a snapshot of the rows now, which are the replica's moment then. Hashes the nodes that have no digest,
+    /// unless `hash` is false. Refused: Dirty (a node has no digest, and `hash` is false).
+    Result<Snapshot> snapshot(bool hash = true) {
+        detail::NoLock none;
+        if (hash) return snapshot_beside(none);
+        return snapshot_by([&](auto... into) { return c::antientropy_snapshot(at(), into...); }, &Counts::entries);
     }
 
-    /// Returns the digest of the root now, after a rehash: 32 bytes. Replicas of a range with equal roots hold the same
-    /// versions.
+    /// Returns a snapshot as `snapshot` does, of a replica that threads share by a lock: a std::mutex, say. The caller
+    /// doesn't hold it. It is free while nodes are hashed, so other threads put. The rows are those of a moment of the
+    /// call: offer them when the entries that the snapshot counts are on the disk.
+    template <class Lock>
+    Result<Snapshot> snapshot_beside(Lock &lock) {
+        return at_moment(lock, [&] { return moment(); });
+    }
+
+    /// Returns the digest of the root now: 32 bytes. Replicas of a range with equal roots hold the same versions.
     Result<std::string> root() {
         auto now = snapshot();
         if (!now) return now.refusal();
@@ -1445,21 +1494,64 @@ public:
         return now->save(path);
     }
 
+    // ---- the moment: the rows at a time, which are hashed and offered while the replica goes on
+
+    /// Keeps the rows now as the replica's moment, in the place of another one. No later call changes it. Copies no
+    /// row, and keeps the digests that the nodes have. While the moment is kept, the first change of each block of some
+    /// rows copies the block. `snapshot`, `root`, `save`, `open` and `sync` hold and hash a moment in one call.
+    Result<void> hold() { return detail::done(c::antientropy_hold(at())); }
+
+    /// Lets go of the moment, if there is one. Snapshots of it stay.
+    Result<void> drop_moment() { return detail::done(c::antientropy_drop_moment(at())); }
+
+    /// Hashes at most `most` of the moment's nodes that have no digest though all their children have one. Returns the
+    /// number of its nodes that have none then: 0 if it is whole, or if there is no moment. Repeat it until that is 0:
+    /// other calls may be made between.
+    Result<std::uint64_t> hash_moment(std::uint64_t most) {
+        std::uint64_t left = 0;
+        const auto number = c::antientropy_hash_moment(at(), most, &left);
+        return detail::result(number, left);
+    }
+
+    /// Takes a portion of the moment's nodes, those that `hash_moment` would hash: any thread hashes them. It has no
+    /// node if the moment is whole, or if there is none.
+    Result<Portion> take_portion(std::uint64_t most) {
+        Portion taken;
+        const auto number = c::antientropy_take_portion(at(), most, taken.at());
+        return detail::result(number, std::move(taken));
+    }
+
+    /// Installs the digests of a portion in the moment, and returns the number of the moment's nodes that have none
+    /// then, as `hash_moment` does. Nodes that aren't hashed yet are hashed here. Digests of another moment's nodes are
+    /// left out if the node's text is another one.
+    Result<std::uint64_t> install_portion(Portion portion) {
+        std::uint64_t left = 0;
+        const auto number = c::antientropy_install_portion(at(), portion.at(), &left);
+        return detail::result(number, left);
+    }
+
+    /// Returns a snapshot of the moment. Refused: Dirty (there is none, or it isn't whole).
+    Result<Snapshot> moment() {
+        return snapshot_by([&](auto... into) { return c::antientropy_moment(at(), into...); }, &Counts::front);
+    }
+
     // ---- sessions
 
-    /// Opens a session with a partner's offer, after a rehash unless `rehash` is false. The partner's number is
-    /// recorded. A session's record is never freed before its replica, so compare roots first.
+    /// Opens a session with a partner's offer. The rows now are the replica's moment then: hashes the nodes that have
+    /// no digest, unless `hash` is false. The partner's number is recorded. A session's record is never freed before
+    /// its replica, so compare roots first.
     /// Refused, in order: BadMessage, BadClock (the partner is over 65,535), OtherFormat, OtherRange, SessionsFull,
-    /// Dirty (`rehash` is false).
-    Result<Session> open(std::uint64_t partner, std::string_view offer, bool rehash = true) {
-        const auto hashed = rehash ? this->rehash() : Result<void>();
-        if (!hashed) return hashed.refusal();
-        const auto parts = read_offer(offer);
-        if (!parts) return parts.refusal();
-        std::uint64_t session = 0;
-        const auto number = c::antientropy_open(at(), partner, detail::data(offer), offer.size(), &session);
-        if (number != c::ANTIENTROPY_OK) return static_cast<Refusal>(number);
-        return Session(handle_.share(), session, static_cast<std::uint32_t>(parts->number));
+    /// Dirty (`hash` is false).
+    Result<Session> open(std::uint64_t partner, std::string_view offer, bool hash = true) {
+        detail::NoLock none;
+        if (hash) return at_moment(none, [&] { return open_at_moment(partner, offer); });
+        return open_by([&](auto... in) { return c::antientropy_open(at(), partner, in...); }, offer);
+    }
+
+    /// Opens a session with a partner's offer, and compares the rows of the moment with it. It may ask for leaves that
+    /// differ only because the replica has gone on. Refused as `open`; Dirty (there is no moment, or it isn't whole).
+    Result<Session> open_at_moment(std::uint64_t partner, std::string_view offer) {
+        return open_by([&](auto... in) { return c::antientropy_open_at_moment(at(), partner, in...); }, offer);
     }
 
     /// Takes the versions of a partner's offer that this replica lacks. If the roots are equal it opens no session.
@@ -1470,23 +1562,100 @@ public:
     /// later NotCanonical or JournalFull.
     Result<Synced> sync(std::uint64_t partner, std::string_view offer, const Reach &reach, std::size_t in_flight = 256,
                         std::uint64_t most_bad = 8) {
-        const auto here = root();
-        if (!here) return here.refusal();
-        const auto there = read_offer(offer);
-        if (!there) return there.refusal();
-        if (there->format == format_ && there->range == range_ && there->root == *here) return Synced{};
-        auto session = open(partner, offer);
+        detail::NoLock none;
+        return sync_beside(none, partner, offer, reach, in_flight, most_bad);
+    }
+
+    /// Takes versions as `sync` does, of a replica that threads share by a lock: a std::mutex, say. The caller doesn't
+    /// hold it. It is free while nodes are hashed and while `reach` waits, so other threads put. Refused as `sync`.
+    template <class Lock>
+    Result<Synced> sync_beside(Lock &lock, std::uint64_t partner, std::string_view offer, const Reach &reach,
+                               std::size_t in_flight = 256, std::uint64_t most_bad = 8) {
+        auto session = at_moment(lock, [&] { return open_unless_equal(partner, offer); });
         if (!session) return session.refusal();
-        return detail::Run(std::move(*session), reach, in_flight, most_bad).finish();
+        if (!*session) return Synced{};
+        return detail::Run<Lock>(std::move(**session), lock, reach, in_flight, most_bad).finish();
     }
 
 private:
+    /// Maximum number of nodes in a portion.
+    static constexpr std::uint64_t portion_max = 64;
+
     Replica(std::uint64_t format, std::uint64_t bits, std::uint64_t range)
         : format_(format), bits_(bits), range_(range) {}
 
     detail::ReplicaHandle *at() { return handle_.get(); }
 
     static FileError refused(Refusal refusal) { return {Fault::Refused, refusal}; }
+
+    /// Holds a moment, hashes it without the lock, and makes a call as soon as it is whole, before the lock is free.
+    template <class Lock, class Call>
+    auto at_moment(Lock &lock, Call call) -> decltype(call()) {
+        auto portion = first_portion(lock);
+        while (true) {
+            if (!portion) return portion.refusal();
+            const auto hashed = portion->hash();
+            if (!hashed) return hashed.refusal();
+            const std::lock_guard<Lock> guard(lock);
+            const auto left = install_portion(*std::move(portion));
+            if (!left) return left.refusal();
+            if (*left > 0) {
+                portion = take_portion(portion_max);
+                continue;
+            }
+            auto done = call();
+            if (done || done.refusal() != Refusal::Dirty) return done;
+            portion = hold_and_take(); // another thread has dropped the moment
+        }
+    }
+
+    template <class Lock>
+    Result<Portion> first_portion(Lock &lock) {
+        const std::lock_guard<Lock> guard(lock);
+        return hold_and_take();
+    }
+
+    Result<Portion> hold_and_take() {
+        const auto held = hold();
+        if (!held) return held.refusal();
+        return take_portion(portion_max);
+    }
+
+    /// Makes a snapshot. Its entries are one of the counts.
+    template <class Call>
+    Result<Snapshot> snapshot_by(Call call, std::uint64_t Counts::*entries) {
+        Snapshot made(format_, bits_, range_);
+        const auto number = call(made.at());
+        if (number != c::ANTIENTROPY_OK) return static_cast<Refusal>(number);
+        const auto counts = count();
+        if (!counts) return counts.refusal();
+        made.entries_ = *counts.*entries;
+        return made;
+    }
+
+    template <class Call>
+    Result<Session> open_by(Call call, std::string_view offer) {
+        const auto parts = read_offer(offer);
+        if (!parts) return parts.refusal();
+        std::uint64_t session = 0;
+        const auto number = call(detail::data(offer), offer.size(), &session);
+        if (number != c::ANTIENTROPY_OK) return static_cast<Refusal>(number);
+        return Session(handle_.share(), session, static_cast<std::uint32_t>(parts->number));
+    }
+
+    /// Opens a session at the moment, unless its root is that of the offer.
+    Result<std::optional<Session>> open_unless_equal(std::uint64_t partner, std::string_view offer) {
+        auto here = moment();
+        if (!here) return here.refusal();
+        const auto root = here->root();
+        if (!root) return root.refusal();
+        const auto there = read_offer(offer);
+        if (!there) return there.refusal();
+        if (there->format == format_ && there->range == range_ && there->root == *root) return std::optional<Session>();
+        auto session = open_at_moment(partner, offer);
+        if (!session) return session.refusal();
+        return std::optional<Session>(std::move(*session));
+    }
 
     template <class Call>
     static Result<Receipt> put_by(Call call, std::string_view key, std::optional<std::string_view> value,

@@ -71,7 +71,7 @@ func TestSaveAndLoad(t *testing.T) {
 	loaded := must(load(saved(r)))
 	equal(t, must(loaded.Root()), must(r.Root()))
 	equal(t, must(loaded.Get([]byte("cart"))), must(r.Get([]byte("cart"))))
-	equal(t, must(loaded.Count()), antientropy.Counts{Entries: 3, Limit: 1000})
+	equal(t, must(loaded.Count()), antientropy.Counts{Entries: 3, Limit: 1000, Front: 3})
 }
 
 func TestRangeOfTheFile(t *testing.T) {

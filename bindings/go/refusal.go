@@ -21,7 +21,7 @@ const (
 	ErrCrowded        Refusal = C.ANTIENTROPY_CROWDED         // the key would have over 64 versions
 	ErrJournalFull    Refusal = C.ANTIENTROPY_JOURNAL_FULL    // the journal has no room for the entries
 	ErrOtherRange     Refusal = C.ANTIENTROPY_OTHER_RANGE     // of another range, or the rows are of two leaves
-	ErrDirty          Refusal = C.ANTIENTROPY_DIRTY           // some node of the tree has no digest: rehash
+	ErrDirty          Refusal = C.ANTIENTROPY_DIRTY           // some node has no digest, or there is no moment
 	ErrUnknownSession Refusal = C.ANTIENTROPY_UNKNOWN_SESSION // no session has this number
 	ErrNotAsked       Refusal = C.ANTIENTROPY_NOT_ASKED       // the node isn't outstanding
 	ErrWrongDigest    Refusal = C.ANTIENTROPY_WRONG_DIGEST    // the text's digest isn't the expected one

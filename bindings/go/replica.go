@@ -38,7 +38,7 @@ type Counts struct {
 	Sessions     uint64 // sessions, ever: at 1,024 no other can be opened
 	OpenSessions uint64 // open sessions: at 64 no other can be opened until one has ended
 	First        uint64 // 0; reserved for journals that are trimmed
-	Front        uint64 // 0; reserved for journals that are trimmed
+	Front        uint64 // entries of the journal at the last moment that was whole: 0 if there is none
 }
 
 // A Receipt is the result of a put.
@@ -121,7 +121,8 @@ func (r *replica) memory() *C.antientropy_go_handle {
 	return (*C.antientropy_go_handle)(unsafe.Pointer(&r.handle))
 }
 
-// Migrate converts a replica of format 1 to format 2. All nodes become dirty, and open sessions are cancelled.
+// Migrate converts a replica of format 1 to format 2. All nodes become dirty, open sessions are cancelled, and the
+// moment is dropped.
 func (r *Replica) Migrate() error {
 	held := r.at.locked()
 	defer held.lock.Unlock()
@@ -139,7 +140,7 @@ func (r *Replica) Config() Config {
 	return held.config
 }
 
-// Count returns the counts of entries, dirty nodes and sessions.
+// Count returns the counts of entries, dirty nodes and sessions, and of the entries at the last whole moment.
 func (r *Replica) Count() (Counts, error) {
 	held := r.at.locked()
 	defer held.lock.Unlock()

@@ -34,36 +34,66 @@ type Session struct {
 	offer   uint32
 }
 
-// Open rehashes, and opens a session with a partner's offer. It is never freed before its replica, so compare roots
-// first.
+// Open opens a session with a partner's offer. It compares the rows now, which are held as a moment and hashed while
+// other goroutines put. A session is never freed before its replica, so compare roots first.
 //
 // Refused as [ErrBadMessage], [ErrOtherFormat], [ErrOtherRange] or [ErrSessionsFull].
 func (r *Replica) Open(partner uint16, offer []byte) (*Session, error) {
-	held := r.at.locked()
-	defer held.lock.Unlock()
-	if err := held.rehash(); err != nil {
-		return nil, err
-	}
-	return held.open(partner, offer)
+	return atMoment(r.at, func(held *replica) (*Session, error) {
+		return held.openAtMoment(partner, offer)
+	})
 }
 
-// OpenIfClean opens a session with a partner's offer. Refused as [Replica.Open], or as [ErrDirty] if a node has no
-// digest.
+// OpenAtMoment opens a session as [Replica.Open], but compares the rows of the moment that the replica keeps. Refused
+// as [Replica.Open], or as [ErrDirty] if there is no moment, or if it isn't whole.
+func (r *Replica) OpenAtMoment(partner uint16, offer []byte) (*Session, error) {
+	held := r.at.locked()
+	defer held.lock.Unlock()
+	return held.openAtMoment(partner, offer)
+}
+
+// OpenIfClean opens a session as [Replica.Open], but holds no moment. Refused as [Replica.Open], or as [ErrDirty] if a
+// node of the tree has no digest.
 func (r *Replica) OpenIfClean(partner uint16, offer []byte) (*Session, error) {
 	held := r.at.locked()
 	defer held.lock.Unlock()
-	return held.open(partner, offer)
+	return held.open(offer, func(number *C.uint64_t) C.uint32_t {
+		return C.antientropy_open(&held.handle, C.uint64_t(partner), bytesAt(offer), C.size_t(len(offer)), number)
+	})
 }
 
-// open opens a session. The caller holds the lock.
-func (r *replica) open(partner uint16, offer []byte) (*Session, error) {
+// openAtMoment opens a session that compares the rows of the moment. The caller holds the lock.
+func (r *replica) openAtMoment(partner uint16, offer []byte) (*Session, error) {
+	return r.open(offer, func(number *C.uint64_t) C.uint32_t {
+		return C.antientropy_open_at_moment(&r.handle, C.uint64_t(partner), bytesAt(offer), C.size_t(len(offer)), number)
+	})
+}
+
+// openUnlessEqual opens a session as openAtMoment, or returns nil if the moment has the offer's root. The caller holds
+// the lock.
+func (r *replica) openUnlessEqual(partner uint16, offer []byte) (*Session, error) {
+	parts, err := ReadOffer(offer)
+	if err != nil {
+		return nil, err
+	}
+	root, err := r.momentRoot()
+	if err != nil {
+		return nil, err
+	}
+	if parts.Format == r.config.Format && parts.Range == r.config.Range && parts.Root == root {
+		return nil, nil
+	}
+	return r.openAtMoment(partner, offer)
+}
+
+// open opens a session by a call. The caller holds the lock.
+func (r *replica) open(offer []byte, call func(number *C.uint64_t) C.uint32_t) (*Session, error) {
 	parts, err := ReadOffer(offer)
 	if err != nil {
 		return nil, err
 	}
 	var number C.uint64_t
-	err = check(C.antientropy_open(&r.handle, C.uint64_t(partner), bytesAt(offer), C.size_t(len(offer)), &number))
-	if err != nil {
+	if err := check(call(&number)); err != nil {
 		return nil, err
 	}
 	return &Session{replica: r, number: uint64(number), offer: parts.Number}, nil

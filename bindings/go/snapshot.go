@@ -25,35 +25,51 @@ type snapshot struct {
 	room   room
 }
 
-// Snapshot rehashes, and returns a snapshot of the rows now.
+// Snapshot returns a snapshot of the rows now, which are held as a moment and hashed while other goroutines put.
 func (r *Replica) Snapshot() (*Snapshot, error) {
-	held := r.at.locked()
-	defer held.lock.Unlock()
-	if err := held.rehash(); err != nil {
-		return nil, err
-	}
-	return held.snapshot()
+	return atMoment(r.at, (*replica).moment)
 }
 
-// SnapshotIfClean returns a snapshot of the rows now. Refused as [ErrDirty] if a node has no digest.
+// SnapshotIfClean returns a snapshot of the rows now. Refused as [ErrDirty] if a node of the tree has no digest.
 func (r *Replica) SnapshotIfClean() (*Snapshot, error) {
 	held := r.at.locked()
 	defer held.lock.Unlock()
-	return held.snapshot()
+	counts, err := held.count()
+	if err != nil {
+		return nil, err
+	}
+	made := new(snapshot)
+	return made.owned(held.config, counts.Entries, C.antientropy_snapshot(&held.handle, &made.handle))
 }
 
-// snapshot returns a snapshot. The caller holds the lock.
-func (r *replica) snapshot() (*Snapshot, error) {
+// moment returns a snapshot of the moment. The caller holds the lock.
+func (r *replica) moment() (*Snapshot, error) {
 	counts, err := r.count()
 	if err != nil {
 		return nil, err
 	}
 	made := new(snapshot)
-	if err := check(C.antientropy_snapshot(&r.handle, &made.handle)); err != nil {
+	return made.owned(r.config, counts.Front, C.antientropy_moment(&r.handle, &made.handle))
+}
+
+// momentRoot returns the digest of the moment's root. The caller holds the lock.
+func (r *replica) momentRoot() (Root, error) {
+	moment, err := r.moment()
+	if err != nil {
+		return Root{}, err
+	}
+	defer moment.Close()
+	return moment.Root()
+}
+
+// owned returns the snapshot, unless the call that makes it was refused. The garbage collector closes it, once no copy
+// is used.
+func (s *snapshot) owned(config Config, entries uint64, number C.uint32_t) (*Snapshot, error) {
+	if err := check(number); err != nil {
 		return nil, err
 	}
-	runtime.SetFinalizer(made, (*snapshot).close)
-	return &Snapshot{at: made, config: r.config, entries: counts.Entries}, nil
+	runtime.SetFinalizer(s, (*snapshot).close)
+	return &Snapshot{at: s, config: config, entries: entries}, nil
 }
 
 // Close frees the memory. Later calls are refused as [ErrEmpty], those of copies too; another Close does nothing. The

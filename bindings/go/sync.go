@@ -38,12 +38,12 @@ func (s Synced) Finished() bool {
 	return s.State == StateFinished
 }
 
-// Sync takes the versions of a partner's offer that this replica lacks, within the default bounds. If the roots are
-// equal it opens no session.
+// Sync takes the versions of a partner's offer that this replica lacks, within the default bounds. It compares the rows
+// now, which are held as a moment and hashed while other goroutines put. If the roots are equal it opens no session.
 //
 // A leaf with a crowded key is left. Refused as [Replica.Open], and as [ErrNotCanonical] or [ErrJournalFull]; without a
-// reach as [ErrNoReach], before anything else. After a refusal, or an error of reach, the versions that were taken stay:
-// the result has their number.
+// reach as [ErrNoReach], before anything else. After a refusal, or an error of reach, the versions that were taken
+// stay: the result has their number.
 func (r *Replica) Sync(partner uint16, offer []byte, reach Reach) (Synced, error) {
 	return r.SyncWithin(DefaultBounds(), partner, offer, reach)
 }
@@ -53,20 +53,14 @@ func (r *Replica) SyncWithin(bounds Bounds, partner uint16, offer []byte, reach 
 	if reach == nil {
 		return Synced{}, ErrNoReach
 	}
-	root, err := r.Root()
+	session, err := atMoment(r.at, func(held *replica) (*Session, error) {
+		return held.openUnlessEqual(partner, offer)
+	})
 	if err != nil {
 		return Synced{}, err
 	}
-	parts, err := ReadOffer(offer)
-	if err != nil {
-		return Synced{}, err
-	}
-	if config := r.Config(); parts.Format == config.Format && parts.Range == config.Range && parts.Root == root {
+	if session == nil {
 		return Synced{State: StateFinished}, nil
-	}
-	session, err := r.Open(partner, offer)
-	if err != nil {
-		return Synced{}, err
 	}
 	defer session.Cancel() // if reach panics
 	run := syncRun{session: session, bounds: bounds, reach: reach}

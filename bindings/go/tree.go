@@ -20,16 +20,12 @@ func Place(format, bits uint8, key []byte) (Spot, error) {
 	return Spot{Range: uint16(spot._range), Leaf: uint16(spot.leaf)}, err
 }
 
-// Rehash hashes all nodes of the tree that have no digest.
+// Rehash hashes all nodes of the tree that have no digest. Other goroutines wait meanwhile. Only
+// [Replica.SnapshotIfClean] and [Replica.OpenIfClean] need it.
 func (r *Replica) Rehash() error {
 	held := r.at.locked()
 	defer held.lock.Unlock()
-	return held.rehash()
-}
-
-// rehash hashes all nodes. The caller holds the lock.
-func (r *replica) rehash() error {
-	return check(C.antientropy_rehash(&r.handle))
+	return check(C.antientropy_rehash(&held.handle))
 }
 
 // RehashSome hashes at most `most` of the nodes that have no digest though all their children have one. It returns the
@@ -42,12 +38,7 @@ func (r *Replica) RehashSome(most uint64) (left uint64, err error) {
 	return uint64(nodes), err
 }
 
-// Root rehashes, and returns the digest of the root now.
+// Root returns the digest of the root now. The rows are held as a moment, and hashed while other goroutines put.
 func (r *Replica) Root() (Root, error) {
-	snapshot, err := r.Snapshot()
-	if err != nil {
-		return Root{}, err
-	}
-	defer snapshot.Close()
-	return snapshot.Root()
+	return atMoment(r.at, (*replica).momentRoot)
 }

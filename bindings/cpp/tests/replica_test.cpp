@@ -258,7 +258,7 @@ constexpr bool moves_only = std::is_nothrow_move_constructible_v<T> && std::is_n
                             !std::is_copy_constructible_v<T> && !std::is_copy_assignable_v<T>;
 
 static_assert(moves_only<Replica> && moves_only<Snapshot> && moves_only<Hints> && moves_only<Slots>);
-static_assert(moves_only<Session> && moves_only<Loan>);
+static_assert(moves_only<Portion> && moves_only<Session> && moves_only<Loan>);
 
 template <class T, class = void>
 constexpr bool is_value = false;
@@ -301,6 +301,11 @@ void closed() {
     REFUSED(Empty, replica.root());
     REFUSED(Empty, replica.migrate());
     REFUSED(Empty, replica.rehash_some(1));
+    REFUSED(Empty, replica.hold());
+    REFUSED(Empty, replica.drop_moment());
+    REFUSED(Empty, replica.hash_moment(1));
+    REFUSED(Empty, replica.take_portion(1));
+    REFUSED(Empty, replica.moment());
     REFUSED(Empty, ended(replica.versions("cart")));
     CHECK(snapshot.entries() == 1 && snapshot.root());
     snapshot.close();

@@ -52,6 +52,13 @@ Result<void> ended(Sequence<T> sequence) {
     return sequence.refusal() ? Result<void>(*sequence.refusal()) : Result<void>();
 }
 
+/// A replica with keys that were put at node 1.
+inline Replica filled(int keys) {
+    Replica replica = sure(Replica::make(2, 0, 0, 10'000));
+    for (int n = 0; n < keys; n++) sure(replica.put(1, "key " + std::to_string(n), "value"));
+    return replica;
+}
+
 /// The bytes that hexadecimal digits write.
 inline std::string from_hex(const std::string &digits) {
     std::string bytes;

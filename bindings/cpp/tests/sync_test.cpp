@@ -19,12 +19,6 @@ Reach reach(Snapshot &snapshot) {
     return [&](const Asks &asks) { return serve(snapshot, asks); };
 }
 
-Replica filled(int keys) {
-    Replica replica = sure(Replica::make(2, 0, 0, 10'000));
-    for (int n = 0; n < keys; n++) sure(replica.put(1, "key " + std::to_string(n), "value"));
-    return replica;
-}
-
 /// Takes what a partner has.
 Synced sync(Replica &replica, Replica &partner) {
     Snapshot snapshot = sure(partner.snapshot());

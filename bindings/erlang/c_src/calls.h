@@ -22,6 +22,13 @@
     X(count, 1, SHORT)                                                                                                 \
     X(rehash, 1, LONG)                                                                                                 \
     X(rehash_some, 2, LONG)                                                                                            \
+    X(hold, 1, LONG)                                                                                                   \
+    X(drop_moment, 1, LONG)                                                                                            \
+    X(hash_moment, 2, LONG)                                                                                            \
+    X(moment, 1, LONG)                                                                                                 \
+    X(snapshot_of_moment, 3, LONG)                                                                                     \
+    X(open_at_moment, 3, LONG)                                                                                         \
+    X(open_of_moment, 6, LONG)                                                                                         \
     X(load_rows, 2, SHORT)                                                                                             \
     X(load_format, 3, SHORT)                                                                                           \
     X(put, 5, SHORT)                                                                                                   \
@@ -36,14 +43,14 @@
     X(key_after, 3, SHORT)                                                                                             \
     X(entry, 2, SHORT)                                                                                                 \
     X(top_counter, 4, LONG)                                                                                            \
-    X(snapshot, 2, LONG)                                                                                               \
+    X(snapshot, 1, LONG)                                                                                               \
     X(snapshot_close, 1, LONG)                                                                                         \
     X(snapshot_info, 1, SHORT)                                                                                         \
     X(root, 1, SHORT)                                                                                                  \
     X(offer, 2, SHORT)                                                                                                 \
     X(serve, 3, SHORT)                                                                                                 \
     X(rows, 2, SHORT)                                                                                                  \
-    X(open, 4, LONG)                                                                                                   \
+    X(open, 3, LONG)                                                                                                   \
     X(session, 2, SHORT)                                                                                               \
     X(outstanding, 2, SHORT)                                                                                           \
     X(ask, 3, SHORT)                                                                                                   \

@@ -34,8 +34,8 @@ struct resource {
 /* A function of the NIF library. */
 typedef ERL_NIF_TERM nif(ErlNifEnv *env, int argc, const ERL_NIF_TERM argv[]);
 
-/* A function of the NIF library whose first argument is a handle. It has the handle's lock. On a normal scheduler it may
- * return ELSEWHERE: then it begins again on a dirty one, since it takes long. */
+/* A function of the NIF library whose first argument is a handle. It has the handle's lock, which it may leave free for
+ * a time. On a normal scheduler it may return ELSEWHERE: then it begins again on a dirty one, since it takes long. */
 typedef ERL_NIF_TERM held(ErlNifEnv *env, struct resource *at, const ERL_NIF_TERM argv[]);
 
 /* A call of `held` with its name in Erlang, and the function that makes it. */

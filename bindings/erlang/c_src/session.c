@@ -5,17 +5,14 @@
 /* Asks that are made in far less than a millisecond. */
 enum { FEW_ASKS = 256 };
 
-/* open(Replica, Partner, Offer, Rehash) -> {ok, Session} */
+/* open(Replica, Partner, Offer) -> {ok, Session} */
 CALL(REPLICA, open)
 {
     uint64_t partner, session;
     ErlNifBinary offer;
-    bool rehash;
-    if (!get_u64(env, argv[1], &partner) || !get_bool(argv[3], &rehash))
+    if (!get_u64(env, argv[1], &partner))
         return enif_make_badarg(env);
     uint32_t number = get_bytes(env, argv[2], &offer);
-    if (number == ANTIENTROPY_OK && rehash)
-        number = antientropy_rehash(&at->replica);
     if (number == ANTIENTROPY_OK)
         number = antientropy_open(&at->replica, partner, offer.data, offer.size, &session);
     return number == ANTIENTROPY_OK ? ok(env, enif_make_uint64(env, session)) : refused(env, number);

@@ -2,7 +2,7 @@
 #include "handles.h"
 #include "terms.h"
 
-/* Makes the snapshot of a replica, with the number of its entries. */
+/* Makes a snapshot of the rows now, with the number of its entries. */
 static uint32_t fill(struct resource *made, struct resource *at)
 {
     struct antientropy_counts counts;
@@ -14,15 +14,9 @@ static uint32_t fill(struct resource *made, struct resource *at)
     return antientropy_snapshot(&at->replica, &made->snapshot);
 }
 
-/* snapshot(Replica, Rehash) -> {ok, Snapshot} */
+/* snapshot(Replica) -> {ok, Snapshot} */
 CALL(REPLICA, snapshot)
 {
-    bool rehash;
-    if (!get_bool(argv[1], &rehash))
-        return enif_make_badarg(env);
-    uint32_t number = rehash ? antientropy_rehash(&at->replica) : ANTIENTROPY_OK;
-    if (number != ANTIENTROPY_OK)
-        return refused(env, number);
     struct resource *made = make_resource(SNAPSHOT);
     if (made == NULL)
         return refused(env, ANTIENTROPY_NO_MEMORY);

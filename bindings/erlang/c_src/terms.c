@@ -62,6 +62,8 @@ ERL_NIF_TERM refused(ErlNifEnv *env, uint32_t number)
         return enif_make_badarg(env);
     if (number == LONG_ARGUMENT)
         return ELSEWHERE;
+    if (number == MORE)
+        return atoms.more;
     return enif_make_tuple2(env, atoms.error, name_of(number));
 }
 

@@ -37,6 +37,7 @@
     X(leaf, "leaf")                                                                                                    \
     X(lent, "lent")                                                                                                    \
     X(limit, "limit")                                                                                                  \
+    X(more, "more")                                                                                                    \
     X(new, "new")                                                                                                      \
     X(no, "false")                                                                                                     \
     X(none, "none")                                                                                                    \
@@ -65,9 +66,11 @@ extern struct atoms {
     ATOMS(ATOM_FIELD)
 } atoms;
 
-/* No numbers of the library: an argument of a wrong type, and one that takes long to read, on a normal scheduler. */
+/* No numbers of the library: an argument of a wrong type; one that takes long to read, on a normal scheduler; and a
+ * moment of which nodes are left to hash. */
 #define BADARG UINT32_MAX
 #define LONG_ARGUMENT (UINT32_MAX - 1)
+#define MORE (UINT32_MAX - 2)
 
 /* The most pairs of a clock that a call gets. Of more, one has a bad node, or the node of another one. */
 #define MOST_PAIRS (ANTIENTROPY_NODE_MAX + 1)
@@ -115,7 +118,7 @@ ERL_NIF_TERM one_of(ErlNifEnv *env, size_t len, const ERL_NIF_TERM of[], uint64_
 /* Returns {ok, Term}. */
 ERL_NIF_TERM ok(ErlNifEnv *env, ERL_NIF_TERM term);
 
-/* Returns {error, Name}, for BADARG the exception, or for LONG_ARGUMENT ELSEWHERE. */
+/* Returns {error, Name}, for BADARG the exception, for LONG_ARGUMENT ELSEWHERE, or for MORE `more`. */
 ERL_NIF_TERM refused(ErlNifEnv *env, uint32_t number);
 
 /* Returns `ok` or a refusal. */

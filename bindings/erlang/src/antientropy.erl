@@ -4,10 +4,10 @@
 %% carries. {@link antientropy_hints} and {@link antientropy_slots} are apart.
 %%
 %% A call returns `{error, Name}' if it is refused: Name is the library's name of the cause, and docs/FORMATS.md says
-%% what to do. A refused call changes nothing, except as `antientropy.h' says. An argument of a wrong type raises
-%% `badarg', and so does a number of over 64 bits (of an offer and of slots: over 32 bits). A value or a clock that is
-%% too long is refused without a look at all of it. A source, a state or an order that only a newer library knows is its
-%% number.
+%% what to do. A refused call changes nothing, except as `antientropy.h' says, and that a snapshot, an opening or a sync
+%% may have held a moment ({@link hold/1}). An argument of a wrong type raises `badarg', and so does a number of over 64
+%% bits (of an offer and of slots: over 32 bits). A value or a clock that is too long is refused without a look at all
+%% of it. A source, a state or an order that only a newer library knows is its number.
 %%
 %% Processes may share a handle, which has a lock. It is of its node: send messages to other nodes, not handles.
 -module(antientropy).
@@ -16,8 +16,9 @@
 -export([new/0, new/1, new_seeded/3, close/1, renew/1, renew/2, migrate/1, info/1, count/1]).
 -export([put/4, put/5, put_unread/5, accept/3, get/2, read/3, count_versions/2, value/3, clock/3, row/2]).
 -export([key_after/3, keys/1, keys/2, fold_keys/3, entry/2, entries/2, fold_entries/4, top_counter/3, top_counter/4]).
--export([rehash/1, rehash_some/2, root/1, snapshot/1, snapshot/2, load_rows/2, load_format/3, save/2, load/1, load/2]).
--export([open/3, open/4, sync/4, sync/5]).
+-export([root/1, snapshot/1, snapshot/2, load_rows/2, load_format/3, save/2, load/1, load/2]).
+-export([hold/1, hash_moment/2, moment/1, drop_moment/1, rehash/1, rehash_some/2]).
+-export([open/3, open/4, open_at_moment/3, sync/4, sync/5]).
 
 -export_type([replica/0, options/0, clock/0, clock_like/0, value/0, value_like/0, version/0, version_like/0]).
 -export_type([entry/0, order/0, refused/0]).
@@ -154,7 +155,9 @@ migrate(Replica) ->
 info(Replica) ->
     antientropy_nif:info(Replica).
 
-%% @doc Returns the counts of entries, dirty nodes and sessions. `first' and `front' are 0.
+%% @doc Returns the counts of entries, dirty nodes and sessions.
+%%
+%% `front' is the number of entries at the last whole moment, 0 if there is none or after it is dropped. `first' is 0.
 -spec count(replica()) -> {ok, Counts} | refused() when
     Counts :: #{
         entries := non_neg_integer(),
@@ -323,21 +326,11 @@ prepend(Item, Items) -> [Item | Items].
 reversed({ok, Items}) -> {ok, lists:reverse(Items)};
 reversed(Refused) -> Refused.
 
-%% ---- the tree, snapshots and checkpoints
-
-%% @doc Hashes all nodes of the tree that have no digest.
--spec rehash(replica()) -> ok | refused().
-rehash(Replica) ->
-    antientropy_nif:rehash(Replica).
-
-%% @doc Hashes at most `Most` nodes, and returns the number of those that then have no digest.
-%%
-%% A program that repeats it until that is 0 lets other calls between.
--spec rehash_some(replica(), Most :: non_neg_integer()) -> {ok, Left :: non_neg_integer()} | refused().
-rehash_some(Replica, Most) ->
-    antientropy_nif:rehash_some(Replica, Most).
+%% ---- snapshots and checkpoints
 
 %% @doc Returns the digest of the root now. Replicas of a range with equal roots hold the same versions.
+%%
+%% It makes a snapshot, as {@link snapshot/1} does.
 -spec root(replica()) -> {ok, Root :: binary()} | refused().
 root(Replica) ->
     case snapshot(Replica) of
@@ -345,16 +338,30 @@ root(Replica) ->
         Refused -> Refused
     end.
 
-%% @doc Rehashes, and returns a snapshot of the rows now.
+%% @doc Returns a snapshot of the rows now, whether or not the tree is dirty.
+%%
+%% It holds a moment, and hashes it in portions while other processes put: see {@link hold/1}. So it ends however many
+%% puts there are. If another process holds a moment meanwhile, the snapshot is of that later one. The moment stays
+%% until the next one, or until {@link drop_moment/1}.
 -spec snapshot(replica()) -> {ok, antientropy_snapshot:snapshot()} | refused().
 snapshot(Replica) ->
-    antientropy_nif:snapshot(Replica, true).
+    antientropy_moment:snapshot(Replica).
 
-%% @doc Returns a snapshot of the rows now. Refused: `dirty' (a node has no digest, and `rehash' is false).
+%% @doc Returns a snapshot as {@link snapshot/1} does. If `rehash' is false, hashes nothing, and makes no moment.
+%%
+%% Refused then: `dirty' (a node of the tree has no digest).
 -spec snapshot(replica(), #{rehash => boolean()}) -> {ok, antientropy_snapshot:snapshot()} | refused().
 snapshot(Replica, Options) ->
-    #{rehash := Rehash} = with_defaults(Options, #{rehash => true}),
-    antientropy_nif:snapshot(Replica, Rehash).
+    case is_to_hash(Options) of
+        true -> antientropy_moment:snapshot(Replica);
+        false -> antientropy_nif:snapshot(Replica)
+    end.
+
+is_to_hash(Options) ->
+    case with_defaults(Options, #{rehash => true}) of
+        #{rehash := Rehash} when is_boolean(Rehash) -> Rehash;
+        _ -> error(badarg)
+    end.
 
 %% @doc Accepts all versions in rows of one leaf as copies, or none.
 %%
@@ -381,7 +388,8 @@ load_format(Replica, Format, Rows) ->
 
 %% @doc Writes a checkpoint of the rows now (docs/FORMATS.md), and returns the number of entries that it covers.
 %%
-%% Other processes may put meanwhile. The file is open for writing in mode `binary'; the caller brings it to its disk.
+%% It makes a snapshot, as {@link snapshot/1} does, so other processes may put meanwhile. The file is open for writing
+%% in mode `binary'; the caller brings it to its disk.
 -spec save(replica(), file:io_device()) ->
     {ok, Entries :: non_neg_integer()} | refused() | antientropy_checkpoint:failed().
 save(Replica, File) ->
@@ -417,23 +425,81 @@ load(File) ->
 load(File, Limit) ->
     antientropy_checkpoint:read(File, Limit).
 
+%% ---- the moment and the tree
+
+%% @doc Keeps the rows now as the replica's moment, in the place of another one. Copies no row.
+%%
+%% A moment never changes, so it is hashed while the replica goes on: repeat {@link hash_moment/2} until no node is
+%% left. Then {@link moment/1} and {@link open_at_moment/3} use it. {@link snapshot/1}, {@link root/1}, {@link save/2},
+%% {@link open/3} and {@link sync/4} make all these calls. While the moment is kept, the first change of each block of
+%% some rows copies the block.
+-spec hold(replica()) -> ok | refused().
+hold(Replica) ->
+    antientropy_nif:hold(Replica).
+
+%% @doc Hashes at most `Most` nodes of the moment, and returns the number of those that then have no digest: 0 if it is
+%% whole, or if there is no moment. Other processes may put meanwhile.
+-spec hash_moment(replica(), Most :: non_neg_integer()) -> {ok, Left :: non_neg_integer()} | refused().
+hash_moment(Replica, Most) ->
+    antientropy_nif:hash_moment(Replica, Most).
+
+%% @doc Returns a snapshot of the moment. Refused: `dirty' (there is no moment, or it isn't whole).
+-spec moment(replica()) -> {ok, antientropy_snapshot:snapshot()} | refused().
+moment(Replica) ->
+    antientropy_nif:moment(Replica).
+
+%% @doc Lets go of the moment, if there is one. Snapshots of it stay. {@link migrate/1} does that, too.
+-spec drop_moment(replica()) -> ok | refused().
+drop_moment(Replica) ->
+    antientropy_nif:drop_moment(Replica).
+
+%% @doc Hashes all nodes of the tree that have no digest. All other calls of the replica wait for it.
+%%
+%% No other call needs it, except a snapshot or a session that is to hash nothing.
+-spec rehash(replica()) -> ok | refused().
+rehash(Replica) ->
+    antientropy_nif:rehash(Replica).
+
+%% @doc Hashes at most `Most` nodes of the tree, and returns the number of those that then have no digest.
+%%
+%% Other calls of the replica wait for it. A busy replica may always have nodes without a digest: see {@link hold/1}.
+-spec rehash_some(replica(), Most :: non_neg_integer()) -> {ok, Left :: non_neg_integer()} | refused().
+rehash_some(Replica, Most) ->
+    antientropy_nif:rehash_some(Replica, Most).
+
 %% ---- sessions
 
-%% @doc Rehashes, and opens a session with a partner's offer: see {@link antientropy_session}.
+%% @doc Opens a session with a partner's offer: see {@link antientropy_session}.
 %%
-%% A session is never freed before its replica, so compare roots first. Refused: `bad_clock' (the partner is over
-%% 65,535), `bad_message', `other_format', `other_range', `sessions_full'.
+%% It compares the rows of a moment, which it holds and hashes as {@link snapshot/1} does. So it may ask for leaves that
+%% differ only because the replica has gone on. A session is never freed before its replica, so compare roots first.
+%% Refused: `bad_clock' (the partner is over 65,535), `bad_message', `other_format', `other_range', `sessions_full'.
 -spec open(replica(), Partner :: non_neg_integer(), Offer :: iodata()) ->
     {ok, antientropy_session:session()} | refused().
 open(Replica, Partner, Offer) ->
-    open(Replica, Partner, Offer, #{}).
+    opened(antientropy_moment:open(Replica, Partner, Offer), Replica, Offer).
 
-%% @doc Opens a session as {@link open/3} does. Refused also: `dirty' (a node has no digest, and `rehash' is false).
+%% @doc Opens a session as {@link open/3} does. If `rehash' is false, compares the rows now, and hashes nothing.
+%%
+%% Refused then also: `dirty' (a node of the tree has no digest).
 -spec open(replica(), Partner :: non_neg_integer(), Offer :: iodata(), #{rehash => boolean()}) ->
     {ok, antientropy_session:session()} | refused().
 open(Replica, Partner, Offer, Options) ->
-    #{rehash := Rehash} = with_defaults(Options, #{rehash => true}),
-    antientropy_session:open(Replica, Partner, Offer, Rehash).
+    case is_to_hash(Options) of
+        true -> open(Replica, Partner, Offer);
+        false -> opened(antientropy_nif:open(Replica, Partner, Offer), Replica, Offer)
+    end.
+
+%% @doc Opens a session as {@link open/3} does, but with the moment that the replica keeps.
+%%
+%% Refused also: `dirty' (there is no moment, or it isn't whole).
+-spec open_at_moment(replica(), Partner :: non_neg_integer(), Offer :: iodata()) ->
+    {ok, antientropy_session:session()} | refused().
+open_at_moment(Replica, Partner, Offer) ->
+    opened(antientropy_nif:open_at_moment(Replica, Partner, Offer), Replica, Offer).
+
+opened({ok, Number}, Replica, Offer) -> {ok, antientropy_session:of_number(Replica, Offer, Number)};
+opened(Refused, _, _) -> Refused.
 
 %% @doc Syncs with 256 asks at once and at most 8 bad answers: see {@link sync/5}.
 -spec sync(replica(), Partner :: non_neg_integer(), Offer :: iodata(), antientropy_sync:reach()) ->
@@ -443,9 +509,10 @@ sync(Replica, Partner, Offer, Reach) ->
 
 %% @doc Takes the versions of a partner's offer that a replica lacks. If the roots are equal it opens no session.
 %%
-%% `Reach' sends at most `in_flight' asks to the partner, and returns the answers in their order. After more than
-%% `most_bad' bad or missing answers the sync ends unfinished. A leaf with a crowded key is left. Refused: what {@link
-%% open/3} refuses, `not_canonical', `journal_full'.
+%% It compares a moment with the offer, as {@link open/3} does, so other processes may put meanwhile. `Reach' sends at
+%% most `in_flight' asks to the partner, and returns the answers in their order. After more than `most_bad' bad or
+%% missing answers the sync ends unfinished. A leaf with a crowded key is left. Refused: what {@link open/3} refuses,
+%% `not_canonical', `journal_full'.
 -spec sync(replica(), Partner :: non_neg_integer(), Offer :: iodata(), antientropy_sync:reach(), Bounds) ->
     {ok, antientropy_sync:synced()} | refused() when
     Bounds :: #{in_flight => pos_integer(), most_bad => non_neg_integer()}.

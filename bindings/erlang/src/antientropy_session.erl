@@ -3,7 +3,7 @@
 %% {@link antientropy:sync/4} makes all calls of a session. Cancel a session that isn't finished: at most 64 are open.
 -module(antientropy_session).
 
--export([open/4, state/1, outstanding/1, ask/1, ask_at/2, asks/1, take/2, cancel/1]).
+-export([of_number/3, state/1, outstanding/1, ask/1, ask_at/2, asks/1, take/2, cancel/1]).
 
 -export_type([session/0, state/0, taken/0]).
 
@@ -19,17 +19,11 @@
 %% Numbers of new and of known versions, and the state of the session.
 
 %% @private
-%% @doc Opens a session: programs call {@link antientropy:open/3}.
--spec open(antientropy:replica(), Partner :: non_neg_integer(), Offer :: iodata(), Rehash :: boolean()) ->
-    {ok, session()} | antientropy:refused().
-open(Replica, Partner, Offer, Rehash) ->
-    case antientropy_nif:open(Replica, Partner, Offer, Rehash) of
-        {ok, Number} ->
-            {ok, #{number := OfferNumber}} = antientropy:read_offer(Offer),
-            {ok, #session{replica = Replica, number = Number, offer = OfferNumber}};
-        Refused ->
-            Refused
-    end.
+%% @doc Returns the session of a number, which was opened with this offer: programs call {@link antientropy:open/3}.
+-spec of_number(antientropy:replica(), Offer :: iodata(), Number :: non_neg_integer()) -> session().
+of_number(Replica, Offer, Number) ->
+    {ok, #{number := OfferNumber}} = antientropy:read_offer(Offer),
+    #session{replica = Replica, number = Number, offer = OfferNumber}.
 
 %% @doc Returns the state of a session.
 -spec state(session()) -> {ok, state()} | antientropy:refused().

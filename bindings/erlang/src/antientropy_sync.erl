@@ -41,42 +41,26 @@
 sync(Replica, Partner, Offer, Reach, #{in_flight := InFlight, most_bad := MostBad}) when
     is_function(Reach, 1), is_integer(InFlight), InFlight > 0, is_integer(MostBad), MostBad >= 0
 ->
-    case is_equal(Replica, Offer) of
-        {ok, true} ->
+    case antientropy_moment:open_unless_equal(Replica, Partner, Offer) of
+        equal ->
             {ok, #{accepted => 0, known => 0, asks => 0, bad => 0, crowded => [], state => finished}};
-        {ok, false} ->
-            with_session(antientropy:open(Replica, Partner, Offer), fun(Session) ->
-                run(#run{session = Session, reach = Reach, in_flight = InFlight, most_bad = MostBad})
-            end);
+        {ok, Number} ->
+            Session = antientropy_session:of_number(Replica, Offer, Number),
+            run_to_end(#run{session = Session, reach = Reach, in_flight = InFlight, most_bad = MostBad});
         Refused ->
             Refused
     end;
 sync(_, _, _, _, _) ->
     error(badarg).
 
-%% Compares the format, the range and the root of a replica with those of an offer.
-is_equal(Replica, Offer) ->
-    case {antientropy:root(Replica), antientropy:info(Replica), antientropy:read_offer(Offer)} of
-        {{ok, Root}, {ok, #{format := Format, range := Range}}, {ok, Parts}} ->
-            {ok, maps:remove(number, Parts) =:= #{format => Format, range => Range, root => Root}};
-        {{ok, _}, {ok, _}, Refused} ->
-            Refused;
-        {{ok, _}, Refused, _} ->
-            Refused;
-        {Refused, _, _} ->
-            Refused
-    end.
-
-%% Runs a function with a session, and cancels the session if it is still open.
-with_session({ok, Session}, Fun) ->
-    try Fun(Session) of
+%% Runs a sync, and cancels the session if it is still open.
+run_to_end(#run{session = Session} = Begun) ->
+    try run(Begun) of
         {ok, Run} -> result(Run);
         Refused -> Refused
     after
         antientropy_session:cancel(Session)
-    end;
-with_session(Refused, _) ->
-    Refused.
+    end.
 
 result(#run{session = Session} = Run) ->
     ok = antientropy_session:cancel(Session),

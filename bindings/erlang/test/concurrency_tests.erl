@@ -64,6 +64,7 @@ long_calls_test_() ->
             {timeout, 60, fun long_texts_go_elsewhere/0},
             {timeout, 60, fun() -> long_arguments_are_not_read(Replica) end},
             {timeout, 60, fun() -> processes_wait(Replica) end},
+            {timeout, 60, fun() -> a_moment_is_hashed_beside_calls(Replica) end},
             {timeout, 60, fun() -> a_snapshot_does_not_wait(Replica) end},
             {timeout, 60, fun() -> a_process_is_killed(Replica) end},
             {timeout, 60, fun() -> close_meanwhile(Replica) end}
@@ -81,6 +82,12 @@ cleanup({Replica, Schedulers}) ->
 
 %% Makes all rows dirty that have large values, and starts a rehash: it has the lock when this returns.
 start_rehash(Replica) ->
+    put_large(Replica),
+    {Process, _} = Rehash = async(fun() -> antientropy:rehash(Replica) end),
+    wait_until_running(Process),
+    Rehash.
+
+put_large(Replica) ->
     [
         begin
             Key = support:key(Number),
@@ -89,10 +96,7 @@ start_rehash(Replica) ->
             {ok, _} = antientropy:put(Replica, 1, Key, ?LARGE_VALUE, Context)
         end
      || Number <- lists:seq(1, ?LARGE_KEYS)
-    ],
-    {Process, _} = Rehash = async(fun() -> antientropy:rehash(Replica) end),
-    wait_until_running(Process),
-    Rehash.
+    ].
 
 %% Waits until a process runs. The only normal scheduler runs this one, so that is on a dirty scheduler.
 wait_until_running(Process) ->
@@ -197,6 +201,16 @@ processes_wait(Replica) ->
     [?assertMatch({ok, _}, await(Call)) || Call <- Waiting],
     ?assertEqual(ok, await(Rehash)),
     support:badarg(fun() -> antientropy:put(Replica, 2, none, <<>>) end).
+
+%% The nodes of a moment are hashed without the lock.
+a_moment_is_hashed_beside_calls(Replica) ->
+    put_large(Replica),
+    ok = antientropy:hold(Replica),
+    {Process, _} = Hashing = async(fun() -> antientropy:hash_moment(Replica, ?LARGE_KEYS) end),
+    wait_until_running(Process),
+    {ok, _} = antientropy:put(Replica, 2, <<"beside">>, <<>>),
+    ?assertEqual(pending, peek(Hashing)),
+    ?assertMatch({ok, Left} when Left > 0, await(Hashing)).
 
 %% A snapshot has a lock of its own.
 a_snapshot_does_not_wait(Replica) ->

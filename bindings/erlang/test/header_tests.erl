@@ -34,6 +34,13 @@
     "top_counter" => {antientropy, top_counter, 4},
     "rehash" => {antientropy, rehash, 1},
     "rehash_some" => {antientropy, rehash_some, 2},
+    "hold" => {antientropy, hold, 1},
+    "drop_moment" => {antientropy, drop_moment, 1},
+    "take_portion" => {antientropy, hash_moment, 2},
+    "hash_portion" => {antientropy, hash_moment, 2},
+    "install_portion" => {antientropy, hash_moment, 2},
+    "portion_free" => {antientropy, hash_moment, 2},
+    "moment" => {antientropy, moment, 1},
     "snapshot" => {antientropy, snapshot, 2},
     "snapshot_free" => {antientropy_snapshot, close, 1},
     "root" => {antientropy_snapshot, root, 1},
@@ -44,6 +51,7 @@
     "load" => {antientropy, load_rows, 2},
     "load_format" => {antientropy, load_format, 3},
     "open" => {antientropy, open, 4},
+    "open_at_moment" => {antientropy, open_at_moment, 3},
     "outstanding" => {antientropy_session, outstanding, 1},
     "ask_at" => {antientropy_session, ask_at, 2},
     "ask" => {antientropy_session, ask, 1},
@@ -136,9 +144,10 @@ is_exported({Module, Function, Arity}) ->
     {module, Module} = code:ensure_loaded(Module),
     erlang:function_exported(Module, Function, Arity).
 
-%% The names of the calls in the header, but for key_next: it is key_after with the key's memory for the result.
+%% The names of the calls in the header, but for key_next and hash_moment. The first is key_after with the key's memory
+%% for the result. The second is the calls of a portion in one: the replica would be locked meanwhile.
 declared() ->
-    found([text(?HEADER)], "(?m)^(?:uint32_t|void) antientropy_(\\w+)\\(") -- ["key_next"].
+    found([text(?HEADER)], "(?m)^(?:uint32_t|void) antientropy_(\\w+)\\(") -- ["key_next", "hash_moment"].
 
 %% The first group of each match, sorted.
 found(Texts, Pattern) ->

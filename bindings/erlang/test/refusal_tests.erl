@@ -109,7 +109,10 @@ dirty(Replica) ->
     {ok, Snapshot} = antientropy:snapshot(Replica),
     {ok, Offer} = antientropy_snapshot:offer(Snapshot, 1),
     {ok, _} = antientropy:put(Replica, 1, <<"other">>, <<>>),
-    refused(dirty, Replica, open, [Replica, 2, Offer, #{rehash => false}]).
+    refused(dirty, Replica, open, [Replica, 2, Offer, #{rehash => false}]),
+    ok = antientropy:drop_moment(Replica),
+    refused(dirty, Replica, moment, [Replica]),
+    refused(dirty, Replica, open_at_moment, [Replica, 2, Offer]).
 
 bad_ring(Replica) ->
     [
@@ -138,7 +141,7 @@ row_broken(Replica) ->
 bad_message(Replica) ->
     refused(bad_message, Replica, read_offer, [<<>>]),
     [refused(bad_message, Replica, keys, [Replica, Leaf]) || Leaf <- [4096, 65_536, 1 bsl 32]],
-    ok = antientropy:rehash(Replica),
+    {ok, _} = antientropy:root(Replica),
     refused(bad_clock, Replica, open, [Replica, 65_537, <<>>]),
     refused(bad_message, Replica, open, [Replica, 2, <<>>]),
     refused(bad_message, Replica, sync, [Replica, 2, <<>>, fun(_) -> [] end]).
@@ -177,6 +180,10 @@ empty(Replica) ->
             {count, []},
             {rehash, []},
             {rehash_some, [1]},
+            {hold, []},
+            {drop_moment, []},
+            {hash_moment, [1]},
+            {moment, []},
             {snapshot, []},
             {snapshot, [#{rehash => false}]},
             {root, []},
@@ -186,6 +193,8 @@ empty(Replica) ->
             {load_format, [2, <<>>]},
             {save, [standard_io]},
             {open, [1, <<>>]},
+            {open, [1, <<>>, #{rehash => false}]},
+            {open_at_moment, [1, <<>>]},
             {sync, [1, <<>>, fun(_) -> [] end]}
         ]
     ].
@@ -218,6 +227,9 @@ wrong_types(Replica) ->
             {new, [#{limit => none}]},
             {snapshot, [Replica, #{rehash => none}]},
             {snapshot, [Replica, [rehash]]},
+            {open, [Replica, 1, <<>>, #{rehash => none}]},
+            {open_at_moment, [Replica, 1, none]},
+            {hash_moment, [Replica, none]},
             {sync, [Replica, 1, <<>>, none]},
             {entries, [Replica, none]},
             {load_rows, [Replica, none]}
@@ -315,6 +327,8 @@ numbers_that_c_cannot_hold(Replica) ->
             {entry, [Replica, 1 bsl 64]},
             {keys, [Replica, 1 bsl 64]},
             {open, [Replica, -1, <<>>]},
+            {open_at_moment, [Replica, -1, <<>>]},
+            {hash_moment, [Replica, -1]},
             {new, [#{limit => 1 bsl 64}]},
             {new, [#{bits => -1}]},
             {name, [1 bsl 32]}

@@ -137,8 +137,6 @@ not_canonical(#pair{b = B}) ->
 other_format_and_other_range(#pair{offer = Offer}) ->
     First = replica(#{format => 1}),
     Other = replica(#{bits => 1, range => 1}),
-    ok = antientropy:rehash(First),
-    ok = antientropy:rehash(Other),
     support:refused(other_format, First, fun() -> antientropy:open(First, 1, Offer) end),
     support:refused(other_range, Other, fun() -> antientropy:open(Other, 1, Offer) end).
 

@@ -21,7 +21,7 @@ ROOT_LEN = 32
 
 
 class HandleStruct(Structure):
-    """A handle: hints have all of these fields, the other three structs of the header the first two."""
+    """A handle: hints have all of these fields, the other structs of the header the first two."""
 
     _fields_ = [("at", c_void_p), ("held", c_bool), ("before", c_uint64)]
 
@@ -65,6 +65,14 @@ CALLS: Dict[str, Tuple[Any, Tuple[Any, ...]]] = {
     "top_counter": (c_uint32, (*_HANDLE, c_uint64, *_BYTES, c_uint64, *_NUMBER)),
     "rehash": (c_uint32, _HANDLE),
     "rehash_some": (c_uint32, (*_HANDLE, c_uint64, *_NUMBER)),
+    "hold": (c_uint32, _HANDLE),
+    "drop_moment": (c_uint32, _HANDLE),
+    "hash_moment": (c_uint32, (*_HANDLE, c_uint64, *_NUMBER)),
+    "take_portion": (c_uint32, (*_HANDLE, c_uint64, *_HANDLE)),
+    "hash_portion": (c_uint32, _HANDLE),
+    "install_portion": (c_uint32, (*_HANDLE, *_HANDLE, *_NUMBER)),
+    "portion_free": (None, _HANDLE),
+    "moment": (c_uint32, (*_HANDLE, *_HANDLE)),
     "snapshot": (c_uint32, (*_HANDLE, *_HANDLE)),
     "snapshot_free": (None, _HANDLE),
     "root": (c_uint32, (*_HANDLE, *_OUT)),
@@ -75,6 +83,7 @@ CALLS: Dict[str, Tuple[Any, Tuple[Any, ...]]] = {
     "load": (c_uint32, (*_HANDLE, *_BYTES, *_STRUCT)),
     "load_format": (c_uint32, (*_HANDLE, c_uint64, *_BYTES, *_STRUCT)),
     "open": (c_uint32, (*_HANDLE, c_uint64, *_BYTES, *_NUMBER)),
+    "open_at_moment": (c_uint32, (*_HANDLE, c_uint64, *_BYTES, *_NUMBER)),
     "outstanding": (c_uint32, (*_HANDLE, c_uint64, *_NUMBER)),
     "ask_at": (c_uint32, (*_HANDLE, c_uint64, c_uint64, c_uint32, *_OUT)),
     "ask": (c_uint32, (*_HANDLE, c_uint64, c_uint32, *_OUT)),

@@ -72,13 +72,16 @@ class Replica(Handle):
         return renewed
 
     def migrate(self) -> None:
-        """Converts a replica of format 1 to format 2. All nodes become dirty, and open sessions are cancelled."""
+        """Converts a replica of format 1 to format 2.
+
+        All nodes become dirty, open sessions are cancelled, and the moment is dropped.
+        """
         with self._to_change():
             self._call_held("migrate")
             self.format = 2
 
     def count(self) -> Counts:
-        """Returns the counts of entries, dirty nodes and sessions."""
+        """Returns the counts of entries, dirty nodes and sessions, and of the entries at the last whole moment."""
         return Counts(*self._get_words(7, "count"))
 
     # ---- versions
@@ -269,7 +272,10 @@ class Replica(Handle):
     # ---- the tree, offers and checkpoints
 
     def rehash(self) -> None:
-        """Hashes all nodes of the tree that have no digest."""
+        """Hashes all nodes of the tree that have no digest.
+
+        Other threads wait meanwhile. Only `snapshot` and `open` need it, if their `rehash` is False.
+        """
         self._call("rehash")
 
     def rehash_some(self, most: int) -> int:
@@ -279,8 +285,38 @@ class Replica(Handle):
         """
         return self._change_words(1, "rehash_some", fits(most, 64))[0]
 
+    def hold(self) -> None:
+        """Keeps the rows now as the replica's moment, in the place of another one. No later call changes it.
+
+        `snapshot`, `root`, `save`, `open` and `sync` do it themselves. While a moment is kept, the first change of each
+        block of some rows copies the block.
+        """
+        self._call("hold")
+
+    def drop_moment(self) -> None:
+        """Lets go of the moment, if there is one. Snapshots of it stay.
+
+        A `snapshot` or a `sync` that hashes the moment in another thread holds another one.
+        """
+        self._call("drop_moment")
+
+    def hash_moment(self, most: int) -> int:
+        """Hashes at most `most` of the moment's nodes that have no digest though all their children have one.
+
+        Returns the number of its nodes that have none then: 0 if it is whole, or if there is no moment.
+        """
+        return self._change_words(1, "hash_moment", fits(most, 64))[0]
+
+    def moment(self) -> Snapshot:
+        """Returns a snapshot of the moment. Raises Dirty if there is no moment, or if it isn't whole."""
+        with self._lock:
+            return Snapshot._of_moment_held(self)
+
     def snapshot(self, rehash: bool = True) -> Snapshot:
-        """Returns a snapshot of the rows now. Raises Dirty if `rehash` is False and a node has no digest."""
+        """Returns a snapshot of the rows now, which are held as a moment and hashed while other threads put.
+
+        If `rehash` is False it holds no moment, and raises Dirty if a node of the tree has no digest.
+        """
         return Snapshot(self, rehash)
 
     def root(self) -> bytes:
@@ -335,10 +371,20 @@ class Replica(Handle):
     def open(self, partner: int, offer: bytes, rehash: bool = True) -> Session:
         """Opens a session with a partner's offer. It is never freed before its replica, so compare roots first.
 
-        Raises BadMessage, BadClock (the partner is over 65,535), OtherFormat, OtherRange, SessionsFull, or Dirty if
-        `rehash` is False.
+        It compares the rows now, which are held as a moment and hashed while other threads put. If `rehash` is False it
+        holds no moment, and raises Dirty if a node of the tree has no digest.
+
+        Raises BadMessage, BadClock (the partner is over 65,535), OtherFormat, OtherRange or SessionsFull.
         """
         return Session(self, partner, offer, rehash)
+
+    def open_at_moment(self, partner: int, offer: bytes) -> Session:
+        """Opens a session as `open` does, but compares the rows of the moment.
+
+        Raises what `open` raises, and Dirty if there is no moment, or if it isn't whole.
+        """
+        with self._to_change():
+            return Session._at_moment_held(self, partner, offer)
 
     def sync(
         self,
@@ -349,6 +395,8 @@ class Replica(Handle):
         most_bad: int = 8,
     ) -> Synced:
         """Takes the versions of a partner's offer that this replica lacks. If the roots are equal it opens no session.
+
+        It compares the rows now, which are held as a moment and hashed while other threads put.
 
         `reach` sends at most `in_flight` asks to the partner, and returns the answers in their order: None for one
         that is missing. After more than `most_bad` bad or missing answers the sync ends unfinished. A leaf with a

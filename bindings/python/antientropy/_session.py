@@ -2,10 +2,11 @@
 
 from __future__ import annotations
 
-from typing import TYPE_CHECKING, List, Optional
+from typing import TYPE_CHECKING, List, Optional, Tuple
 
 from ._convert import fits, to_bytes
 from ._functions import read_offer
+from ._moment import at_moment
 from ._values import State, Taken
 
 if TYPE_CHECKING:
@@ -18,17 +19,35 @@ class Session:
     As a context manager it cancels the session if it is still open.
     """
 
+    #: Number that the partner gave its offer.
+    offer_number: int
+    #: Number of the session, from 0.
+    number: int
+
     def __init__(self, replica: Replica, partner: int, offer: bytes, rehash: bool = True) -> None:
+        args, lock = self._prepare(replica, partner, offer), replica._to_change()
+        if rehash:
+            at_moment(replica, lock, lambda: self._open_held("open_at_moment", *args))
+        else:
+            with lock:
+                self._open_held("open", *args)
+
+    @classmethod
+    def _at_moment_held(cls, replica: Replica, partner: int, offer: bytes) -> Session:
+        """Opens a session that compares the rows of the moment that a replica keeps."""
+        made = cls.__new__(cls)
+        made._open_held("open_at_moment", *made._prepare(replica, partner, offer))
+        return made
+
+    def _prepare(self, replica: Replica, partner: int, offer: bytes) -> Tuple[int, bytes, int]:
+        """Returns the arguments of the call that opens the session."""
         offer = to_bytes(offer)
         self._replica = replica
-        #: Number that the partner gave its offer.
         self.offer_number = read_offer(offer).number
-        fits(partner, 64)
-        with replica._to_change():
-            if rehash:
-                replica._call_held("rehash")
-            #: Number of the session, from 0.
-            self.number = replica._words_held(1, "open", partner, offer, len(offer))[0]
+        return fits(partner, 64), offer, len(offer)
+
+    def _open_held(self, call: str, *args: object) -> None:
+        self.number = self._replica._words_held(1, call, *args)[0]
 
     def __enter__(self) -> Session:
         return self

@@ -7,6 +7,7 @@ from typing import TYPE_CHECKING, BinaryIO
 from . import _checkpoint
 from ._convert import fits, to_bytes
 from ._handle import Handle
+from ._moment import at_moment
 
 if TYPE_CHECKING:
     from ._replica import Replica
@@ -15,7 +16,8 @@ if TYPE_CHECKING:
 class Snapshot(Handle):
     """The rows of a replica at one moment. It serves a partner's asks while the replica goes on, and may outlive it.
 
-    Raises Dirty if `rehash` is False and a node of the replica's tree has no digest.
+    The rows are held as the replica's moment, and hashed in portions, so that other threads put meanwhile. If `rehash`
+    is False nothing is held or hashed, and a node of the replica's tree without a digest raises Dirty.
     """
 
     _free = "snapshot_free"
@@ -29,12 +31,33 @@ class Snapshot(Handle):
 
     def __init__(self, replica: Replica, rehash: bool = True) -> None:
         super().__init__(replica._library)
-        with replica._lock:
-            if rehash:
-                replica._call_held("rehash")
-            replica._call_held("snapshot", self._at)
-            self.entries = replica._words_held(1, "count")[0]
-            self.format, self.bits, self.range = replica.format, replica.bits, replica.range
+        if rehash:
+            at_moment(replica, replica._lock, lambda: self._take_moment_held(replica))
+        else:
+            with replica._lock:
+                replica._call_held("snapshot", self._at)
+                self._describe_held(replica, replica.count().entries)
+
+    @classmethod
+    def _of_moment_held(cls, replica: Replica) -> Snapshot:
+        """Returns a snapshot of the moment that a replica keeps."""
+        made = cls.__new__(cls)
+        Handle.__init__(made, replica._library)
+        made._take_moment_held(replica)
+        return made
+
+    def _take_moment_held(self, replica: Replica) -> None:
+        """Takes the moment, and once more if a signal handler has held another one in between."""
+        taken = None
+        while taken != (front := replica.count().front):
+            self._free_call(self._at)
+            replica._call_held("moment", self._at)
+            taken = front
+        self._describe_held(replica, front)
+
+    def _describe_held(self, replica: Replica, entries: int) -> None:
+        self.format, self.bits, self.range = replica.format, replica.bits, replica.range
+        self.entries = entries
 
     def root(self) -> bytes:
         """Returns the digest of the root: 32 bytes."""

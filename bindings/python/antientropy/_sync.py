@@ -5,8 +5,10 @@ from __future__ import annotations
 from typing import TYPE_CHECKING, Callable, List, Optional, Sequence
 
 from ._functions import read_offer
+from ._moment import at_moment
 from ._refused import class_of
 from ._session import Session
+from ._snapshot import Snapshot
 from ._values import State, Synced
 
 if TYPE_CHECKING:
@@ -22,15 +24,28 @@ def sync(replica: Replica, partner: int, offer: bytes, reach: Reach, in_flight: 
     """Takes the versions of an offer that a replica lacks."""
     if in_flight < 1:
         raise ValueError("in_flight must be at least 1")
-    root, offered = replica.root(), read_offer(offer)
-    if (offered.format, offered.range, offered.root) == (replica.format, replica.range, root):
+    session = _open_unless_equal(replica, partner, offer)
+    if session is None:
         return Synced(0, 0, 0, 0, [], State.FINISHED)
-    with replica.open(partner, offer) as session:
+    with session:
         run = _Run(session, reach, most_bad)
         while asks := run.open_asks():
             for first in range(0, len(asks), in_flight):
                 run.exchange(asks[first : first + in_flight])
     return Synced(run.accepted, run.known, run.asks, run.bad, run.crowded, session.state)
+
+
+def _open_unless_equal(replica: Replica, partner: int, offer: bytes) -> Optional[Session]:
+    """Opens a session with an offer at a moment of the replica. Returns None if the moment has the offer's root."""
+    offered = read_offer(offer)
+
+    def open_held() -> Optional[Session]:
+        with Snapshot._of_moment_held(replica) as moment:
+            if (offered.format, offered.range, offered.root) == (moment.format, moment.range, moment.root()):
+                return None
+        return Session._at_moment_held(replica, partner, offer)
+
+    return at_moment(replica, replica._to_change(), open_held)
 
 
 class _Run:

@@ -134,7 +134,10 @@ class Loaded(NamedTuple):
 
 
 class Counts(NamedTuple):
-    """Counts of a replica. `first` and `front` are 0: they are reserved for journals that are trimmed."""
+    """Counts of a replica. `first` is 0: it is reserved for journals that are trimmed.
+
+    `front` is the number of entries at the last moment that was whole, or 0 if there is none.
+    """
 
     entries: int
     limit: int

@@ -15,7 +15,6 @@ of the file is lost. So sync from all partners that can be reached before the fi
 
 from __future__ import annotations
 
-import sys
 from contextlib import closing
 from pathlib import Path
 from threading import Condition, Lock
@@ -33,9 +32,6 @@ _LIMIT = 1_000_000
 
 #: A replica is renewed at so many sessions: at 1,024 it could open no more.
 _MOST_SESSIONS = 900
-
-#: Nodes that are hashed at once, so that other calls get in between.
-_HASHED_AT_ONCE = 64
 
 
 class SqliteStore:
@@ -122,9 +118,11 @@ class SqliteStore:
         return self._read(lambda replica: list(replica.entries(start)))
 
     def snapshot(self) -> Snapshot:
-        """Returns a snapshot of the rows now."""
-        self._rehash()
-        return self._read(Replica.snapshot)
+        """Returns a snapshot of the rows now. Other calls go on meanwhile."""
+        snapshot = None
+        while snapshot is None:
+            snapshot = self._snapshot_once()
+        return snapshot
 
     def renew(self) -> None:
         """Drops the entries that others have replaced, from memory and from the file. Numbers begin again at 0."""
@@ -208,11 +206,28 @@ class SqliteStore:
                 self._counters[entry.key] = counter
         return ""
 
-    # ---- syncs
+    # ---- snapshots and syncs
+
+    def _snapshot_once(self) -> Optional[Snapshot]:
+        """Makes a snapshot without the lock. Returns None if the replica was renewed meanwhile."""
+        with self._turn:
+            replica = self._replica
+        try:
+            snapshot = replica.snapshot()
+        except antientropy.Empty:
+            with self._turn:
+                if replica is self._replica:
+                    raise
+            return None
+        with self._turn:
+            self._save()
+            if replica is self._replica:
+                return snapshot
+        snapshot.close()
+        return None
 
     def _sync_once(self, partner: int, offer: bytes, reach: Reach) -> Optional[Synced]:
         """Syncs without the lock. Returns None if the replica was renewed meanwhile, or has to be."""
-        self._rehash()
         with self._turn:
             self._prepare()
             replica = self._replica
@@ -228,14 +243,6 @@ class SqliteStore:
                 self._save()
                 self._file.check_doubt()
         return synced if replica is self._replica else None
-
-    def _rehash(self) -> None:
-        """Hashes what has no digest, a little at a time. It leaves the rest if others put faster."""
-        before = left = sys.maxsize
-        while 0 < left <= before:
-            before = left - 1
-            with self._turn:
-                left = self._replica.rehash_some(_HASHED_AT_ONCE)
 
     # ---- renewals, and the start
 

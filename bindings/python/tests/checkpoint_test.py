@@ -65,7 +65,7 @@ class CheckpointTest(unittest.TestCase):
         loaded = self.load(self.saved)
         self.assertEqual(loaded.root(), self.replica.root())
         self.assertEqual(loaded.get(b"cart"), self.replica.get(b"cart"))
-        self.assertEqual(loaded.count(), (3, 1_000_000, 0, 0, 0, 0, 0))
+        self.assertEqual(loaded.count(), (3, 1_000_000, 0, 0, 0, 0, 3))
         self.assertEqual(Replica.load(io.BytesIO(self.saved), 7).count().limit, 7)
 
     def test_range_of_the_file(self):

@@ -65,7 +65,7 @@ class HeaderTest(unittest.TestCase):
         self.assertEqual(fields("pair"), ("node", "counter"))
         handle = tuple(name for name, _ in _calls.HandleStruct._fields_)
         self.assertEqual(fields("hints"), handle)
-        for struct in ("replica", "snapshot", "slots"):
+        for struct in ("replica", "snapshot", "portion", "slots"):
             self.assertEqual(fields(struct), handle[:2])
 
     def test_enums(self):

@@ -319,7 +319,8 @@ class RefusalTest(ReplicaCase):
         for call, *args in (
             (self.replica.put, 1, b"k", b""), (self.replica.put_many, 1, [(b"k", b"", ())]),
             (self.replica.accept, b"k", {1: 1}, b""), (self.replica.get, b"k"), (self.replica.row, b"k"),
-            (self.replica.rehash,), (self.replica.rehash_some, 1), (self.replica.snapshot,),
+            (self.replica.rehash,), (self.replica.rehash_some, 1), (self.replica.snapshot,), (self.replica.hold,),
+            (self.replica.drop_moment,), (self.replica.hash_moment, 1), (self.replica.moment,),
             (self.replica.count,), (self.replica.migrate,), (self.replica.renew,),
             (list, self.replica.keys()), (self.replica.entries,), (self.replica.top_counter, 1, b"k"),
             (self.replica.put_unread, 1, b"k", b""), (self.replica.load_format, 2, b""),

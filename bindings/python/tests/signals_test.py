@@ -14,14 +14,14 @@ PUTS = 5000
 
 
 class Interrupted:
-    """A library whose calls are each followed by a signal, before their results are read."""
+    """A library whose calls are each followed by a signal, before their results are read, or some of its calls are."""
 
-    def __init__(self, library):
-        self._library = library
+    def __init__(self, library, calls=CALLS):
+        self._library, self._calls = library, calls
 
     def __getattr__(self, name):
         found = getattr(self._library, name)
-        return self._interrupted(found) if name in CALLS else found
+        return self._interrupted(found) if name in self._calls else found
 
     def prepared(self, call):
         return self._interrupted(self._library.prepared(call))
@@ -84,13 +84,15 @@ class SignalsTest(unittest.TestCase):
 
     def test_a_handler_changes_nothing(self):
         replica, hints = Replica(1), Hints()
-        wanted = use(Replica(1), Hints())
+        wanted, offer = use(Replica(1), Hints()), Replica(1).snapshot().offer(1)
         replica._library, hints._library = Interrupted(replica._library), Interrupted(hints._library)
         changes = [
             lambda: replica.put(1, b"other", b""),
             lambda: replica.put_many(1, [(b"other", b"")]),
             lambda: replica.accept(b"other", {1: 1}, b""),
             lambda: replica.load_rows(b""),
+            lambda: replica.sync(1, offer, list),
+            replica.hold,
             replica.migrate,
             replica.close,
         ]
@@ -106,6 +108,24 @@ class SignalsTest(unittest.TestCase):
         turns = self.interrupt_by(signal.SIGUSR1, change)
         self.assertEqual(use(replica, hints), wanted)
         self.assertGreater(len(turns), 200)
+
+    def test_a_handler_holds_another_moment(self):
+        """It puts while a moment is hashed, and takes a snapshot before that of the moment is counted."""
+        replica = Replica()
+        replica._library = Interrupted(replica._library, ("hash_portion", "moment"))
+
+        def use_replica():
+            if replica._lock._is_owned():
+                replica.snapshot().close()
+            else:
+                replica.put(1, b"%d" % len(turns), b"")
+
+        turns = self.interrupt_by(signal.SIGUSR1, use_replica)
+        with replica.snapshot() as snapshot, Replica() as other:
+            for entry in list(replica.entries())[: snapshot.entries]:
+                other.accept(entry.key, entry.clock, entry.value)
+            self.assertGreater(snapshot.entries, 0)
+            self.assertEqual(other.root(), snapshot.root())
 
     def test_a_handler_each_millisecond(self):
         replica = Replica(limit=PUTS)

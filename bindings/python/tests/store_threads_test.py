@@ -7,7 +7,7 @@ import antientropy
 from antientropy import Replica, Version
 
 from tests.store_case import SqliteStore, StoreCase, rows_of
-from tests.support import reach
+from tests.support import Hashing, reach
 
 THREADS, LONG = 20, 10
 
@@ -211,6 +211,29 @@ class ThreadsTest(StoreCase):
         self.assertEqual(len(self.open(limit=1000).entries()), 0)
 
     # ---- renewals
+
+    def test_a_renewal_while_a_snapshot_is_made(self):
+        """The snapshot is that of the new replica, whether that of the old one is made already or is hashed."""
+        store = self.open()
+
+        def renew():
+            if store._replica is old:
+                Later(store.renew).end()
+
+        def renew_after():
+            snapshot = Replica.snapshot(old)
+            renew()
+            return snapshot
+
+        for name, value in (("snapshot", renew_after), ("_library", Hashing(store._replica._library, renew))):
+            store.put(name.encode(), b"x")
+            store.put(name.encode(), b"y", {1: 1})
+            old = store._replica
+            setattr(old, name, value)
+            with store.snapshot() as snapshot:
+                self.assertEqual(snapshot.root(), store._replica.root())
+                self.assertEqual(snapshot.entries, store._replica.count().entries)
+            self.assertIsNot(store._replica, old)
 
     def test_a_full_store_refuses_at_once(self):
         store = self.open(limit=100)

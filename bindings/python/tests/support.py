@@ -35,6 +35,20 @@ def crowd(replica, key=b"crowded", first=1):
         replica.accept(key, {node: 1}, b"%d" % node)
 
 
+class Hashing:
+    """A library that calls a function each time before it hashes a portion."""
+
+    def __init__(self, library, function):
+        self._library, self._function = library, function
+
+    def __getattr__(self, name):
+        return getattr(self._library, name)
+
+    def hash_portion(self, portion):
+        self._function()
+        return self._library.hash_portion(portion)
+
+
 def run(*words):
     """Runs a script with the package and the library of these tests, and returns its output."""
     command = [sys.executable, *map(str, words)]

@@ -2,10 +2,13 @@
 #![deny(missing_docs, unsafe_op_in_unsafe_fn)]
 #![warn(clippy::all, clippy::undocumented_unsafe_blocks)]
 
+mod beside;
 mod checkpoint;
 mod functions;
 mod handle;
 mod hints;
+mod moment;
+mod portion;
 mod refusal;
 mod replica;
 mod session;
@@ -15,9 +18,11 @@ mod sync;
 mod sys;
 mod values;
 
+pub use beside::{snapshot_beside, sync_beside};
 pub use checkpoint::{CheckpointError, Damage};
 pub use functions::{compare, merge, place, read_offer, version};
 pub use hints::Hints;
+pub use portion::Portion;
 pub use refusal::Refusal;
 pub use replica::{Config, Replica, RowsRefused};
 pub use session::{Session, SessionId};

@@ -69,7 +69,7 @@ refusals! {
     JournalFull = 8,
     /// A key or an offer is of another range, or the rows are of two leaves.
     OtherRange = 9,
-    /// Some node of the tree has no digest: rehash.
+    /// Some node has no digest, or there is no moment.
     Dirty = 10,
     /// No session has this number.
     UnknownSession = 12,

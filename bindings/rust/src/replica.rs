@@ -7,6 +7,8 @@ use std::{fmt, iter};
 use crate::checkpoint::{self, CheckpointError};
 use crate::functions::read_offer;
 use crate::handle::{bytes, clock, value, written, Owned, CLOCK_MAX, KEY_MAX};
+use crate::moment::at_moment;
+use crate::portion::Portion;
 use crate::refusal::{check, found, Refusal};
 use crate::session::{Session, SessionId};
 use crate::snapshot::Snapshot;
@@ -27,6 +29,12 @@ type PutCall = unsafe extern "C" fn(
     usize,
     *mut Receipt,
 ) -> u32;
+
+/// A call that makes a snapshot.
+type SnapshotCall = unsafe extern "C" fn(*mut sys::Handle, *mut sys::Handle) -> u32;
+
+/// A call that opens a session.
+type OpenCall = unsafe extern "C" fn(*mut sys::Handle, u64, *const u8, usize, *mut u64) -> u32;
 
 /// The numbers of a replica.
 ///
@@ -58,7 +66,8 @@ impl Default for Config {
 /// A replica of one range of a ring.
 ///
 /// Each call takes `&mut self`, since the library may use the memory of a handle even for a read. A lock around a
-/// replica lets threads share it.
+/// replica lets threads share it: [`snapshot_beside`](crate::snapshot_beside) and [`sync_beside`](crate::sync_beside)
+/// free it while they hash.
 ///
 /// ```
 /// use antientropy::{merge, Clock, Config, Replica};
@@ -116,7 +125,8 @@ impl Replica {
         Ok(Replica { handle, config: Config { limit, ..self.config } })
     }
 
-    /// Converts a replica of format 1 to format 2. All nodes become dirty, and open sessions are cancelled.
+    /// Converts a replica of format 1 to format 2. All nodes become dirty, open sessions are cancelled, and the moment
+    /// is dropped.
     pub fn migrate(&mut self) -> Result<(), Refusal> {
         // SAFETY: as in `sys`.
         check(unsafe { sys::antientropy_migrate(self.handle.raw()) })?;
@@ -453,7 +463,7 @@ impl Replica {
 
 /// The tree, offers and checkpoints.
 impl Replica {
-    /// Hashes all nodes of the tree that have no digest.
+    /// Hashes all nodes of the tree that have no digest. Only the calls `.._if_clean` need it.
     pub fn rehash(&mut self) -> Result<(), Refusal> {
         // SAFETY: as in `sys`.
         check(unsafe { sys::antientropy_rehash(self.handle.raw()) })
@@ -478,20 +488,24 @@ impl Replica {
         })
     }
 
-    /// Rehashes, and returns a snapshot of the rows now.
+    /// Returns a snapshot of the rows now, which are the replica's moment then. Hashes the nodes that have no digest.
     pub fn snapshot(&mut self) -> Result<Snapshot, Refusal> {
-        self.rehash()?;
-        self.snapshot_if_clean()
+        at_moment(self, Replica::moment)
     }
 
     /// Returns a snapshot of the rows now. Refused as `Dirty` if a node has no digest.
     pub fn snapshot_if_clean(&mut self) -> Result<Snapshot, Refusal> {
-        let from = self.handle.raw();
-        let handle = Owned::make(sys::antientropy_snapshot_free, |into| {
-            // SAFETY: as in `sys`; `into` is empty and a local one.
-            unsafe { sys::antientropy_snapshot(from, into) }
-        })?;
+        let handle = self.snapshot_by(sys::antientropy_snapshot)?;
         Ok(Snapshot::of(handle, self.config, self.count()?.entries))
+    }
+
+    /// Makes one of the two calls that make a snapshot.
+    fn snapshot_by(&mut self, call: SnapshotCall) -> Result<Owned, Refusal> {
+        let from = self.handle.raw();
+        Owned::make(sys::antientropy_snapshot_free, |into| {
+            // SAFETY: as in `sys`; `into` is empty and a local one.
+            unsafe { call(from, into) }
+        })
     }
 
     /// Returns the digest of the root now. Replicas of a range with equal roots hold the same versions.
@@ -553,21 +567,108 @@ impl Replica {
     }
 }
 
+/// The moment: the rows at a time, which are hashed and offered while the replica goes on.
+///
+/// It is whole when each of its nodes has a digest. [`Replica::snapshot`], `root`, `save`, `open` and `sync` hold and
+/// hash a moment in one call.
+impl Replica {
+    /// Keeps the rows now as the replica's moment, in the place of another one. No later call changes it.
+    ///
+    /// Copies no row, and keeps the digests that the nodes have. While the moment is kept, the first change of each
+    /// block of some rows copies the block.
+    ///
+    /// ```
+    /// # use antientropy::{Clock, Config, Replica};
+    /// # let mut replica = Replica::new(Config::default())?;
+    /// replica.put(1, b"cart", Some(b"milk"), &Clock::new())?;
+    /// replica.hold()?;
+    /// replica.put(1, b"gift", Some(b"wrapped"), &Clock::new())?;
+    /// while replica.hash_moment(100)? > 0 {} // other calls may be made between
+    /// assert_eq!((replica.moment()?.entries(), replica.count()?.front), (1, 1));
+    /// # Ok::<(), antientropy::Refusal>(())
+    /// ```
+    pub fn hold(&mut self) -> Result<(), Refusal> {
+        // SAFETY: as in `sys`.
+        check(unsafe { sys::antientropy_hold(self.handle.raw()) })
+    }
+
+    /// Lets go of the moment, if there is one. Snapshots of it stay.
+    pub fn drop_moment(&mut self) -> Result<(), Refusal> {
+        // SAFETY: as in `sys`.
+        check(unsafe { sys::antientropy_drop_moment(self.handle.raw()) })
+    }
+
+    /// Hashes at most `most` of the moment's nodes that have no digest though all their children have one.
+    ///
+    /// Returns the number of its nodes that have none then: 0 if it is whole, or if there is no moment. Repeat it until
+    /// that is 0: other calls may be made between.
+    pub fn hash_moment(&mut self, most: u64) -> Result<u64, Refusal> {
+        written(|left| {
+            // SAFETY: as in `sys`.
+            unsafe { sys::antientropy_hash_moment(self.handle.raw(), most, left) }
+        })
+    }
+
+    /// Takes a portion of the moment's nodes, those that `hash_moment` would hash: any thread hashes them.
+    ///
+    /// The portion has no node if the moment is whole, or if there is none.
+    pub fn take_portion(&mut self, most: u64) -> Result<Portion, Refusal> {
+        let from = self.handle.raw();
+        let handle = Owned::make(sys::antientropy_portion_free, |into| {
+            // SAFETY: as in `sys`; `into` is empty and a local one.
+            unsafe { sys::antientropy_take_portion(from, most, into) }
+        })?;
+        Ok(Portion::of(handle))
+    }
+
+    /// Installs the digests of a portion in the moment. Nodes that aren't hashed yet are hashed here.
+    ///
+    /// Returns the number of the moment's nodes that have no digest then, as `hash_moment` does. Digests of another
+    /// moment's nodes are left out if the node's text is another one.
+    pub fn install_portion(&mut self, mut portion: Portion) -> Result<u64, Refusal> {
+        written(|left| {
+            // SAFETY: as in `sys`, for both handles.
+            unsafe { sys::antientropy_install_portion(self.handle.raw(), portion.raw(), left) }
+        })
+    }
+
+    /// Returns a snapshot of the moment. Refused as `Dirty` if there is none, or if it isn't whole.
+    pub fn moment(&mut self) -> Result<Snapshot, Refusal> {
+        let handle = self.snapshot_by(sys::antientropy_moment)?;
+        Ok(Snapshot::of(handle, self.config, self.count()?.front))
+    }
+}
+
 /// Sessions.
 impl Replica {
-    /// Rehashes, and opens a session with a partner's offer. It is never freed before its replica, so compare roots
-    /// first. Refused as `BadMessage`, `OtherFormat`, `OtherRange` or `SessionsFull`.
+    /// Opens a session with a partner's offer. Hashes the nodes that have no digest: the rows now are the replica's
+    /// moment then.
+    ///
+    /// A session is never freed before its replica, so compare roots first. Refused as `BadMessage`, `OtherFormat`,
+    /// `OtherRange` or `SessionsFull`.
     pub fn open(&mut self, partner: u16, offer: &[u8]) -> Result<SessionId, Refusal> {
-        self.rehash()?;
-        self.open_if_clean(partner, offer)
+        at_moment(self, |replica| replica.open_at_moment(partner, offer))
     }
 
     /// Opens a session with a partner's offer. Refused as `open`, or as `Dirty` if a node has no digest.
     pub fn open_if_clean(&mut self, partner: u16, offer: &[u8]) -> Result<SessionId, Refusal> {
+        self.open_by(sys::antientropy_open, partner, offer)
+    }
+
+    /// Opens a session with a partner's offer, and compares the rows of the moment with it.
+    ///
+    /// It may ask for leaves that differ only because the replica has gone on. Refused as `open`, or as `Dirty` if
+    /// there is no moment, or if it isn't whole.
+    pub fn open_at_moment(&mut self, partner: u16, offer: &[u8]) -> Result<SessionId, Refusal> {
+        self.open_by(sys::antientropy_open_at_moment, partner, offer)
+    }
+
+    /// Makes one of the two calls that open a session.
+    fn open_by(&mut self, call: OpenCall, partner: u16, offer: &[u8]) -> Result<SessionId, Refusal> {
         let parts = read_offer(offer)?;
         let number = written(|session| {
             // SAFETY: as in `sys`.
-            unsafe { sys::antientropy_open(self.handle.raw(), partner.into(), offer.as_ptr(), offer.len(), session) }
+            unsafe { call(self.handle.raw(), partner.into(), offer.as_ptr(), offer.len(), session) }
         })?;
         Ok(SessionId { number, offer: parts.number })
     }
@@ -608,6 +709,13 @@ impl Replica {
         R: FnMut(&[Vec<u8>]) -> Vec<Option<Vec<u8>>>,
     {
         sync::sync(self, bounds, partner, offer, reach)
+    }
+}
+
+/// For [`snapshot_beside`](crate::snapshot_beside) and [`sync_beside`](crate::sync_beside).
+impl AsMut<Replica> for Replica {
+    fn as_mut(&mut self) -> &mut Replica {
+        self
     }
 }
 

@@ -1,9 +1,10 @@
 //! A whole sync with a partner.
 
 use crate::functions::read_offer;
+use crate::moment::{at_moment, Access};
 use crate::refusal::Refusal;
 use crate::replica::Replica;
-use crate::session::Session;
+use crate::session::{Session, SessionId};
 use crate::values::State;
 
 /// The bounds of a sync.
@@ -52,45 +53,68 @@ impl Synced {
 }
 
 /// Takes the versions of an offer that a replica lacks.
-pub(crate) fn sync<R>(
-    replica: &mut Replica,
+pub(crate) fn sync<A, R>(
+    access: &mut A,
     bounds: Bounds,
     partner: u16,
     offer: &[u8],
     reach: R,
 ) -> Result<Synced, Refusal>
 where
+    A: Access,
     R: FnMut(&[Vec<u8>]) -> Vec<Option<Vec<u8>>>,
 {
-    let (root, offered) = (replica.root()?, read_offer(offer)?);
-    if (offered.format, offered.range, offered.root) == (replica.format(), replica.range(), root) {
-        return Ok(Synced::nothing(State::Finished));
+    match at_moment(access, |replica| open_unless_equal(replica, partner, offer))? {
+        Some(id) => {
+            let session = Opened { access, id };
+            Run { session, reach, bounds, synced: Synced::nothing(State::Open) }.finish()
+        }
+        None => Ok(Synced::nothing(State::Finished)),
     }
-    let id = replica.open(partner, offer)?;
-    let session = Opened(replica.session(id));
-    Run { session, reach, bounds, synced: Synced::nothing(State::Open) }.finish()
+}
+
+/// Opens a session at the moment, unless its root is that of the offer.
+fn open_unless_equal(replica: &mut Replica, partner: u16, offer: &[u8]) -> Result<Option<SessionId>, Refusal> {
+    let (root, offered) = (replica.moment()?.root()?, read_offer(offer)?);
+    if (offered.format, offered.range, offered.root) == (replica.format(), replica.range(), root) {
+        return Ok(None);
+    }
+    replica.open_at_moment(partner, offer).map(Some)
 }
 
 /// An open session, which is cancelled when it is dropped: after a refusal, or when `reach` panics.
-struct Opened<'a>(Session<'a>);
+struct Opened<'a, A: Access> {
+    access: &'a mut A,
+    id: SessionId,
+}
 
-impl Drop for Opened<'_> {
+impl<A: Access> Opened<'_, A> {
+    /// Makes some calls of the session.
+    fn with<T>(&mut self, calls: impl FnOnce(&mut Session<'_>) -> T) -> T {
+        let id = self.id;
+        self.access.with(|replica| calls(&mut replica.session(id)))
+    }
+}
+
+impl<A: Access> Drop for Opened<'_, A> {
     fn drop(&mut self) {
+        let id = self.id;
         // It is refused only for a session that the replica doesn't have.
-        let _ = self.0.cancel();
+        let _ = self.access.try_with(|replica| replica.session(id).cancel());
     }
 }
 
 /// A sync in progress.
-struct Run<'a, R> {
-    session: Opened<'a>,
+struct Run<'a, A: Access, R> {
+    session: Opened<'a, A>,
     reach: R,
     bounds: Bounds,
     synced: Synced,
 }
 
-impl<R> Run<'_, R>
+impl<A, R> Run<'_, A, R>
 where
+    A: Access,
     R: FnMut(&[Vec<u8>]) -> Vec<Option<Vec<u8>>>,
 {
     fn finish(mut self) -> Result<Synced, Refusal> {
@@ -101,8 +125,10 @@ where
             }
             asks = self.open_asks()?;
         }
-        self.session.0.cancel()?;
-        let state = self.session.0.state()?;
+        let state = self.session.with(|session| {
+            session.cancel()?;
+            session.state()
+        })?;
         Ok(Synced { state, ..self.synced })
     }
 
@@ -111,7 +137,7 @@ where
         if self.is_over() {
             return Ok(Vec::new());
         }
-        let mut asks = self.session.0.asks()?;
+        let mut asks = self.session.with(|session| session.asks())?;
         asks.retain(|ask| !self.synced.crowded.contains(ask));
         Ok(asks)
     }
@@ -131,7 +157,7 @@ where
 
     /// Takes the answer to an ask.
     fn take(&mut self, ask: &[u8], answer: Option<Vec<u8>>) -> Result<(), Refusal> {
-        match answer.map(|answer| self.session.0.take(&answer)) {
+        match answer.map(|answer| self.session.with(|session| session.take(&answer))) {
             Some(Ok(taken)) => {
                 self.synced.accepted += taken.accepted;
                 self.synced.known += taken.known;

@@ -10,7 +10,7 @@ use std::ffi::c_void;
 
 use crate::values::{Counts, HintCounts, Pair, Receipt, Root, SlotCounts};
 
-/// A handle. Hints have all of these fields, the other three structs of handles in the header the first two.
+/// A handle. Hints have all of these fields, the other four structs of handles in the header the first two.
 #[repr(C)]
 pub struct Handle {
     pub at: *mut c_void,
@@ -223,6 +223,14 @@ extern "C" {
     ) -> u32;
     pub fn antientropy_rehash(replica: *mut Handle) -> u32;
     pub fn antientropy_rehash_some(replica: *mut Handle, most: u64, left: *mut u64) -> u32;
+    pub fn antientropy_hold(replica: *mut Handle) -> u32;
+    pub fn antientropy_drop_moment(replica: *mut Handle) -> u32;
+    pub fn antientropy_hash_moment(replica: *mut Handle, most: u64, left: *mut u64) -> u32;
+    pub fn antientropy_take_portion(replica: *mut Handle, most: u64, portion: *mut Handle) -> u32;
+    pub fn antientropy_hash_portion(portion: *mut Handle) -> u32;
+    pub fn antientropy_install_portion(replica: *mut Handle, portion: *mut Handle, left: *mut u64) -> u32;
+    pub fn antientropy_portion_free(portion: *mut Handle);
+    pub fn antientropy_moment(replica: *mut Handle, snapshot: *mut Handle) -> u32;
     pub fn antientropy_snapshot(replica: *mut Handle, snapshot: *mut Handle) -> u32;
     pub fn antientropy_snapshot_free(snapshot: *mut Handle);
     pub fn antientropy_root(snapshot: *mut Handle, out: *mut u8, out_len: usize, need: *mut u64) -> u32;
@@ -247,6 +255,13 @@ extern "C" {
         loaded: *mut Loaded,
     ) -> u32;
     pub fn antientropy_open(
+        replica: *mut Handle,
+        partner: u64,
+        offer: *const u8,
+        offer_len: usize,
+        session: *mut u64,
+    ) -> u32;
+    pub fn antientropy_open_at_moment(
         replica: *mut Handle,
         partner: u64,
         offer: *const u8,

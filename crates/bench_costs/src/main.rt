@@ -8,6 +8,8 @@
 //! - `threads KEYS THREADS one|each [KEY_BYTES VALUE_BYTES [FORMAT]]` puts keys into ranges that threads share, and
 //!   gets them again (`bench/threads`).
 //! - `storms PUTS beside|alone` runs a storm (`bench/storm`).
+//! - `loads KEYS PUTS_PER_S SECONDS nothing|moments|rounds [KEY_BYTES VALUE_BYTES [FORMAT]]` puts keys at a pace beside a
+//!   worker that makes snapshots (`bench/load`).
 //!
 //! KEY_BYTES is 0 to 255. Keys of 0 bytes, the default, are `key-N`. Others have at least 13 bytes and are in no order:
 //! `user:` and 16 hexadecimal digits, cut or filled up with `z`. VALUE_BYTES is 32 by default, and at most 4,096, or
@@ -19,14 +21,17 @@
 mod calls;
 mod entries;
 mod fault;
+mod loads;
 mod ranges;
 mod reconciles;
 mod snapshots;
 mod storms;
 mod threads;
+mod times;
 
 use calls::plan::CallPlan;
 use fault::Fault;
+use loads::plan::LoadPlan;
 use reconciles::ReconcilePlan;
 use snapshots::SnapshotPlan;
 use std::env;
@@ -43,7 +48,8 @@ const USAGE: &str =
     "usage: bench_costs snapshots KEYS COUNT|migrate\n       bench_costs reconciles KEYS DIFFER TURNS\n       \
                      bench_costs calls [KEYS [KEY_BYTES VALUE_BYTES [FORMAT]]]\n       \
                      bench_costs threads KEYS THREADS one|each [KEY_BYTES VALUE_BYTES [FORMAT]]\n       \
-                     bench_costs storms PUTS beside|alone";
+                     bench_costs storms PUTS beside|alone\n       \
+                     bench_costs loads KEYS PUTS_PER_S SECONDS nothing|moments|rounds [KEY_BYTES VALUE_BYTES [FORMAT]]";
 
 /// A measurement.
 #[derive(Clone, Copy)]
@@ -53,6 +59,7 @@ enum Measure {
     Calls(CallPlan),
     Threads(ThreadPlan),
     Storms(StormPlan),
+    Loads(LoadPlan),
 }
 
 fn main(rt: HostRuntime) -> ExitCode {
@@ -82,6 +89,7 @@ fn read_words(rt: &(impl Env + AllocGlobal)) -> Option<Measure> {
         "calls" => Some(Measure::Calls(CallPlan::of_words(words)?)),
         "threads" => Some(Measure::Threads(ThreadPlan::of_words(words)?)),
         "storms" => Some(Measure::Storms(StormPlan::of_words(words)?)),
+        "loads" => Some(Measure::Loads(LoadPlan::of_words(words)?)),
         _ => None,
     }
 }
@@ -98,6 +106,7 @@ impl Measure {
             Measure::Calls(plan) => calls::run(rt, plan),
             Measure::Threads(plan) => threads::run(rt, plan),
             Measure::Storms(plan) => storms::run(rt, plan),
+            Measure::Loads(plan) => loads::run(rt, plan),
         }
     }
 }

@@ -3,7 +3,7 @@ mod latencies;
 mod watch;
 
 use crate::fault::Fault;
-use latencies::Latencies;
+use crate::times::Times;
 use std::alloc::Global;
 use std::io;
 use std::sync::Wait;
@@ -67,7 +67,7 @@ pub(crate) fn run<R: Threads + Wait + Clock + Print + Eprint + AllocGlobal + Syn
     let watch = Watch::new(rt.alloc(), rt, &tallies, plan)?;
     let (end, took) = time_storm(rt, rt.alloc(), plan, &watch, &tallies)?;
     tell_end(rt, &end)?;
-    tell_figures(rt, took, &watch.into_latencies(), &tallies)?;
+    tell_figures(rt, took, &watch.into_times(), &tallies)?;
     Ok(end.equal && end.settled)
 }
 
@@ -95,7 +95,7 @@ fn tell_end(rt: &impl Print, end: &StormEnd) -> io::Result<()> {
 fn tell_figures<R: Eprint + Wait>(
     rt: &R,
     took: Duration,
-    puts: &Latencies,
+    puts: &Times,
     tallies: &Tallies,
 ) -> io::Result<()> {
     let (one, two) = (tallies.one.look(rt), tallies.two.look(rt));
@@ -103,8 +103,8 @@ fn tell_figures<R: Eprint + Wait>(
         "{{\"wall_ms\":{},\"put_p50_ns\":{},\"put_p99_ns\":{},\"syncs\":{},\"stale\":{},\"installed\":{},\
          \"published\":{},\"taken\":{}}}",
         took.as_millis(),
-        puts.percentile(50),
-        puts.percentile(99),
+        puts.at(5_000),
+        puts.at(9_900),
         one.syncs.saturating_add(two.syncs),
         one.stale.saturating_add(two.stale),
         one.installed.saturating_add(two.installed),

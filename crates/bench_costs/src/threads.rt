@@ -6,7 +6,7 @@
 /// lasts from the first start to the last end. Standard output says whether the ranges were closed.
 mod calls;
 pub(crate) mod plan;
-mod ranges;
+pub(crate) mod ranges;
 mod spans;
 mod start;
 

@@ -55,7 +55,7 @@ pub(crate) struct Mirror {
     pub(crate) newest: u32,
     pub(crate) hints: Vec<PlainHint>,
     pub(crate) is_down: bool,
-    /// The number of rehash workers that were started.
+    /// The number of workers that hash which were started.
     pub(crate) workers: u64,
     /// The number of entries at the moment that the range keeps, if it keeps one.
     pub(crate) moment: Option<usize>,

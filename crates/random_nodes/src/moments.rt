@@ -50,6 +50,8 @@ pub(crate) fn run_moment<L: Ledger, C: Ledger, G: Gate, R: Wait>(
         gate,
         points: Mutex::new(Points::of(step)),
     };
+    // (it makes nodes of the range clean, too)
+    node.count_worker(rt);
     let moments = node.note_moment(rt);
     let report = hash_in(rt, alloc, node, slot, &watch, turns)?;
     node.take_moment(rt, alloc, &report, turns, moments)

@@ -123,12 +123,12 @@ impl<L: Ledger> Node<L> {
         self.mirror.lock(rt).is_down
     }
 
-    /// Returns the number of rehash workers that were started.
+    /// Returns the number of workers that hash which were started.
     pub(crate) fn workers<R: Wait>(&self, rt: &R) -> u64 {
         self.mirror.lock(rt).workers
     }
 
-    /// Counts a rehash worker.
+    /// Counts a worker that hashes.
     pub(crate) fn count_worker<R: Wait>(&self, rt: &R) {
         let mut mirror = self.mirror.lock(rt);
         mirror.workers = mirror.workers.wrapping_add(1);

@@ -15,7 +15,7 @@
 
 -export([start_link/1, put/4, copies/2, copy/3, own/2, row/2, read/4, take_row/3, counts/1, dump/1]).
 -export([is_joined/1, unchecked/1]).
--export([rehash/1, offer/2, serve/4, borrow/1, give_back/3]).
+-export([offer/2, serve/4, borrow/1, give_back/3]).
 -export([init/1, handle_call/3, handle_cast/2, handle_info/2, format_status/1]).
 
 -export_type([counts/0, row/0]).
@@ -120,11 +120,11 @@ unchecked(Range) ->
 is_joined(Range) ->
     persistent_term:get({?MODULE, Range}, false).
 
-%% @doc Returns an offer of the rows now, for a partner. They are kept until its next offer.
+%% @doc Returns an offer of the rows now, for a partner. They are kept until its next offer. The caller's process makes
+%% the snapshot.
 -spec offer(cluster_ring:range(), Partner :: cluster_ring:place()) -> {ok, Offer :: binary()}.
 offer(Range, Partner) ->
-    ok = rehash(Range),
-    call(Range, {offer, Partner}).
+    with_snapshot(Range, fun(Replica, Snapshot) -> {offer, Partner, Replica, Snapshot} end).
 
 %% @doc Returns the answers to a partner's asks for its last offer. The caller's process makes them.
 -spec serve(cluster_ring:range(), Partner :: cluster_ring:place(), Number :: pos_integer(), Asks :: [binary()]) ->
@@ -147,11 +147,6 @@ borrow(Range) ->
 give_back(Range, Replica, Taken) ->
     call(Range, {give_back, Replica, Taken}).
 
-%% @doc Hashes what has no digest, a little at a time. The caller's process does it.
--spec rehash(cluster_ring:range()) -> ok.
-rehash(Range) ->
-    cluster_replica:rehash(call(Range, replica)).
-
 %% @doc Returns the counts of the range. The root is `null' if a node of the tree has no digest.
 -spec counts(cluster_ring:range()) -> counts().
 counts(Range) ->
@@ -161,6 +156,24 @@ counts(Range) ->
 -spec dump(cluster_ring:range()) -> {Root :: binary(), [row()]}.
 dump(Range) ->
     call(Range, dump).
+
+%% Makes a snapshot while others put, and then a request with it. The answer waits until all that the snapshot has is in
+%% the log. If the range has another replica then, does both again: entries of the one before may be lost.
+with_snapshot(Range, Request) ->
+    Replica = call(Range, replica),
+    case antientropy:snapshot(Replica) of
+        {ok, Snapshot} -> request_with(Range, Replica, Snapshot, Request);
+        {error, empty} -> with_snapshot(Range, Request)
+    end.
+
+request_with(Range, Replica, Snapshot, Request) ->
+    case call(Range, Request(Replica, Snapshot)) of
+        other_replica ->
+            ok = antientropy_snapshot:close(Snapshot),
+            with_snapshot(Range, Request);
+        Answer ->
+            Answer
+    end.
 
 %% A disk may be slow, and a range that fails ends the call.
 call(Range, Request) ->
@@ -198,6 +211,10 @@ load(Range, Life) ->
     end.
 
 %% @private
+%% @doc Serves a call. One for the replica doesn't wait for the log, since a handle shows nothing.
+handle_call(replica, From, #state{replica = Replica} = State) ->
+    ok = gen_server:reply(From, Replica),
+    wait(State);
 handle_call(Request, From, State) ->
     Next = with_room(State),
     wait(with_answer(Request, From, cluster_space:is_full(), Next)).
@@ -268,16 +285,20 @@ answer({read, Key, Rows, R}, _, #state{replica = Replica} = State) ->
     {read_enough(Rows, R, State, fun() -> cluster_replica:read(Replica, Key, Rows) end), State};
 answer({take_row, Key, Row}, _, #state{replica = Replica} = State) ->
     {taken_row(cluster_replica:read(Replica, Key, [Row])), State};
-answer({offer, Partner}, _, State) ->
-    new_offer(Partner, State);
+answer({offer, Partner, Replica, Snapshot}, _, #state{replica = Replica} = State) ->
+    new_offer(Partner, Snapshot, State);
+answer({offer, _, _, _}, _, State) ->
+    {other_replica, State};
+answer({logged, Replica, Snapshot}, _, #state{replica = Replica} = State) ->
+    {{ok, Snapshot}, State};
+answer({logged, _, _}, _, State) ->
+    {other_replica, State};
 answer({offered, Partner}, _, #state{offered = Offered} = State) ->
     {maps:get(Partner, Offered, none), State};
 answer(borrow, {Borrower, _}, State) ->
     lend(Borrower, State);
 answer({give_back, Replica, Taken}, {Borrower, _}, State) ->
     {ok, taken(Replica, Taken, returned(Borrower, State))};
-answer(replica, _, #state{replica = Replica} = State) ->
-    {Replica, State};
 answer(counts, _, #state{range = Range, replica = Replica, lacking = Lacking} = State) ->
     {ok, #{entries := Entries, limit := Limit, dirty := Dirty, sessions := Sessions}} = antientropy:count(Replica),
     {
@@ -316,8 +337,7 @@ read_enough(_, _, _, _) -> {error, down}.
 taken_row({ok, _, Row}) -> {ok, Row};
 taken_row(Refused) -> Refused.
 
-new_offer(Partner, #state{replica = Replica, offers = Offers, offered = Offered} = State) ->
-    {ok, Snapshot} = antientropy:snapshot(Replica),
+new_offer(Partner, Snapshot, #state{offers = Offers, offered = Offered} = State) ->
     Number = Offers + 1,
     ok = close_offered(Partner, Offered),
     Next = State#state{offers = Number, offered = Offered#{Partner => {Number, Snapshot}}},
@@ -412,30 +432,24 @@ checkpoint_if_due(#state{saver = undefined, since_checkpoint = Since} = State) -
 checkpoint_if_due(State) ->
     State.
 
-%% Begins a new file of the log, and saves what the older ones have, in another process. A sync may have added entries
-%% that aren't logged: then the next commit does it.
-checkpoint(#state{replica = Replica, log = Log, logged = Logged} = State) ->
-    {ok, Snapshot} = antientropy:snapshot(Replica),
-    case antientropy_snapshot:info(Snapshot) of
-        {ok, #{entries := Logged}} ->
-            save(Snapshot, cluster_log:begin_file(Log), State);
-        {ok, _} ->
-            ok = antientropy_snapshot:close(Snapshot),
-            State
+%% Begins a new file of the log, and saves a snapshot in another process. It has all that the older files have, and
+%% maybe more, which a start finds again in the new file.
+checkpoint(#state{range = Range, log = Log} = State) ->
+    case cluster_log:begin_file(Log) of
+        {ok, Next} ->
+            Process = self(),
+            Saver = spawn_link(fun() -> Process ! {saved, self(), save(Range, cluster_log:checkpoint(Next))} end),
+            State#state{log = Next, since_checkpoint = 0, saver = Saver};
+        {full, Next} ->
+            ok = cluster_space:full(),
+            State#state{log = Next}
     end.
 
-save(Snapshot, {ok, Log}, State) ->
-    Range = self(),
-    Save = fun() ->
-        Saved = cluster_checkpoint:save(cluster_log:checkpoint(Log), Snapshot),
-        ok = antientropy_snapshot:close(Snapshot),
-        Range ! {saved, self(), Saved}
-    end,
-    State#state{log = Log, since_checkpoint = 0, saver = spawn_link(Save)};
-save(Snapshot, {full, Log}, State) ->
+save(Range, File) ->
+    {ok, Snapshot} = with_snapshot(Range, fun(Replica, Snapshot) -> {logged, Replica, Snapshot} end),
+    Saved = cluster_checkpoint:save(File, Snapshot),
     ok = antientropy_snapshot:close(Snapshot),
-    ok = cluster_space:full(),
-    State#state{log = Log}.
+    Saved.
 
 adopt({ok, Seal}, #state{log = Log} = State) ->
     {Adopted, Next} = cluster_log:adopt(Log, Seal),

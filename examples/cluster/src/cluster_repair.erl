@@ -115,7 +115,6 @@ pull_admitted(Range, Partner) ->
 
 %% Takes what a partner has. Returns whether that was all, and the numbers of versions and of bytes.
 pull(Range, Partner) ->
-    ok = cluster_range:rehash(Range),
     case cluster_wire:call(Partner, cluster_range, offer, [Range, cluster_ring:here()]) of
         {ok, {ok, Offer}} -> pull_offered(Range, Partner, Offer, cluster_range:borrow(Range));
         down -> {pulled, some, 0, 0}
@@ -125,7 +124,7 @@ pull_offered(Range, Partner, Offer, {ok, Replica}) ->
     Bytes = counters:new(1, []),
     {ok, #{number := Number}} = antientropy:read_offer(Offer),
     Reach = fun(Asks) -> reach(Range, Partner, Number, Asks, Bytes) end,
-    %% It compares the roots, and opens a session if they differ. It passes leaves with a crowded key.
+    %% It compares the roots, and opens a session if they differ, while others put. It passes leaves with a crowded key.
     case antientropy:sync(Replica, Partner, Offer, Reach, #{in_flight => ?ASKS_AT_ONCE, most_bad => 0}) of
         {ok, #{accepted := Keys, state := finished, crowded := []}} ->
             ok = cluster_range:give_back(Range, Replica, {all_of, Partner}),

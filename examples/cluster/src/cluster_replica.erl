@@ -1,11 +1,9 @@
 %% @doc What a range does with its replica: its start from the disk, puts, reads, and the test for what it has lost.
 -module(cluster_replica).
 
--export([open/2, entries/1, renewed/2, root/1, rehash/1]).
+-export([open/2, entries/1, renewed/2, root/1]).
 -export([put/5, own/3, read/3, read_apart/4, forgotten/3]).
 
-%% Nodes of the tree that are hashed at once, so that others may put meanwhile.
--define(REHASHED_AT_ONCE, 64).
 %% Scans of the journal for single entries: one pass for all costs more, and not more for more of them.
 -define(MOST_SCANS, 32).
 %% The greatest limit: room for all that a disk may have.
@@ -82,14 +80,6 @@ root(Replica) ->
             Root;
         {error, dirty} ->
             null
-    end.
-
-%% @doc Hashes what has no digest, a little at a time.
--spec rehash(antientropy:replica()) -> ok.
-rehash(Replica) ->
-    case antientropy:rehash_some(Replica, ?REHASHED_AT_ONCE) of
-        {ok, Left} when Left > 0 -> rehash(Replica);
-        _ -> ok
     end.
 
 %% ---- puts and reads

@@ -47,7 +47,8 @@ fn rust_type(ty: &str) -> String {
         "size_t" => "usize",
         "bool" => "bool",
         "void" => "c_void",
-        "antientropy_replica" | "antientropy_snapshot" | "antientropy_hints" | "antientropy_slots" => "Handle",
+        "antientropy_replica" | "antientropy_snapshot" | "antientropy_portion" => "Handle",
+        "antientropy_hints" | "antientropy_slots" => "Handle",
         other => return camel(other.strip_prefix("antientropy_").unwrap()),
     };
     known.to_owned()

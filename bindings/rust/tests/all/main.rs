@@ -5,6 +5,7 @@ mod functions;
 mod header;
 mod hints;
 mod memory;
+mod moments;
 mod replica;
 mod session;
 mod slots;

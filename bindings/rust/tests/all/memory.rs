@@ -29,15 +29,19 @@ fn assert_freed(bytes: usize, make: impl Fn()) {
 }
 
 #[test]
-fn replicas_and_snapshots() {
+fn replicas_snapshots_and_portions() {
     assert_freed(VALUE.len() * usize::from(KEYS), || {
         let mut replica = replica();
         for n in 0..KEYS {
             replica.put(1, &[n], Some(VALUE), &NONE).unwrap();
         }
         let mut snapshot = replica.snapshot().unwrap();
+        replica.put(1, b"later", Some(VALUE), &NONE).unwrap();
+        replica.hold().unwrap();
+        let mut portion = replica.take_portion(u64::MAX).unwrap();
         drop(replica);
         snapshot.root().unwrap();
+        portion.hash().unwrap();
     });
 }
 

@@ -1,11 +1,12 @@
 //! Handles that go to other threads.
 
+use std::sync::atomic::{AtomicBool, Ordering};
 use std::sync::{mpsc, Mutex};
 use std::thread;
 
-use antientropy::{Hints, Replica, Slots, Snapshot};
+use antientropy::{merge, snapshot_beside, sync_beside, Bounds, Config, Hints, Portion, Replica, Slots, Snapshot};
 
-use crate::support::{filled, replica, NONE};
+use crate::support::{filled, replica, serve, NONE};
 
 fn is_send<T: Send>() {}
 
@@ -13,6 +14,7 @@ fn is_send<T: Send>() {}
 fn handles_are_send() {
     is_send::<Replica>();
     is_send::<Snapshot>();
+    is_send::<Portion>();
     is_send::<Hints>();
     is_send::<Slots>();
 }
@@ -67,4 +69,61 @@ fn one_thread_serves_a_snapshot_while_another_puts() {
     server.join().unwrap();
     writer.join().unwrap();
     assert_eq!((synced.unwrap().accepted, b.root().unwrap()), (500, root));
+}
+
+/// Puts at random keys of two replicas, each after a read, until it is stopped.
+fn put_without_pause(replicas: [&Mutex<Replica>; 2], stop: &AtomicBool) {
+    let mut random = 1u64;
+    for _ in 0..200_000 {
+        random = random.wrapping_mul(6_364_136_223_846_793_005).wrapping_add(1);
+        let key = (random >> 54).to_be_bytes();
+        for (node, replica) in (1..).zip(replicas) {
+            let mut replica = replica.lock().unwrap();
+            let context = merge(replica.get(&key).unwrap().iter().map(|version| &version.clock)).unwrap();
+            replica.put(node, &key, Some(b"value"), &context).unwrap();
+        }
+        if stop.load(Ordering::SeqCst) {
+            return;
+        }
+    }
+}
+
+/// Takes what a partner has. Returns the partner's snapshot.
+fn sync(replica: &Mutex<Replica>, partner: &Mutex<Replica>) -> Snapshot {
+    let mut snapshot = snapshot_beside(partner).unwrap();
+    let offer = snapshot.offer(1).unwrap();
+    let synced = sync_beside(replica, Bounds::default(), 9, &offer, |asks| serve(&mut snapshot, 1, asks));
+    assert!(synced.unwrap().finished());
+    snapshot
+}
+
+/// Each snapshot has the versions of the entries that it counts.
+fn check_snapshots(replica: &mut Replica, snapshots: Vec<Snapshot>) {
+    let mut copy = Replica::new(Config::default()).unwrap();
+    let mut entries = replica.entries(0).unwrap();
+    for mut snapshot in snapshots {
+        while copy.count().unwrap().entries < snapshot.entries() {
+            let entry = entries.next().unwrap().unwrap();
+            assert!(copy.accept(&entry.key, &entry.version).unwrap());
+        }
+        assert_eq!(snapshot.root(), copy.root());
+    }
+}
+
+#[test]
+fn snapshots_and_syncs_while_a_thread_puts() {
+    let [a, b] = [(); 2].map(|()| Mutex::new(Replica::new(Config::default()).unwrap()));
+    let stop = AtomicBool::new(false);
+    let (of_a, of_b) = thread::scope(|scope| {
+        scope.spawn(|| put_without_pause([&a, &b], &stop));
+        let snapshots = (0..3).map(|_| (sync(&b, &a), sync(&a, &b))).unzip();
+        stop.store(true, Ordering::SeqCst);
+        snapshots
+    });
+    sync(&b, &a);
+    sync(&a, &b);
+    let [mut a, mut b] = [a, b].map(|replica| replica.into_inner().unwrap());
+    assert_eq!(a.root(), b.root());
+    check_snapshots(&mut a, of_a);
+    check_snapshots(&mut b, of_b);
 }

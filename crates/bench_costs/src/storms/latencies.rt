@@ -1,6 +1,7 @@
 //! The times that the puts of two writers took.
+use crate::times::Times;
 use std::alloc::{AllocError, Global};
-use std::time::Instant;
+use std::time::{Duration, Instant};
 
 /// A writer's noted puts.
 #[derive(Clone, Copy)]
@@ -11,12 +12,12 @@ struct Writer {
     since: Option<Instant>,
 }
 
-/// The time that each put of two writers took, in nanoseconds.
+/// The time that each put of two writers took.
 #[derive(Drop)]
 pub(crate) struct Latencies {
     one: Writer,
     two: Writer,
-    took: Vec<u64>,
+    took: Times,
 }
 
 impl Writer {
@@ -30,10 +31,9 @@ impl Writer {
 
     /// Notes a put that ended at a moment, the writer's last one so far. Returns the time it took, unless it is the
     /// first.
-    fn note(&mut self, ended: Instant) -> Option<u64> {
+    fn note(&mut self, ended: Instant) -> Option<Duration> {
         self.puts = self.puts.saturating_add(1);
-        let took = ended.duration_since(self.since?).as_nanos();
-        u64::try_from(took).ok()
+        Some(ended.duration_since(self.since?))
     }
 }
 
@@ -43,7 +43,7 @@ impl Latencies {
         Ok(Latencies {
             one: Writer::new(),
             two: Writer::new(),
-            took: Vec::with_capacity(alloc, puts)?,
+            took: Times::new(alloc, puts)?,
         })
     }
 
@@ -54,8 +54,7 @@ impl Latencies {
         let is_one = puts_of_one > self.one.puts;
         let writer = if is_one { &mut self.one } else { &mut self.two };
         if let Some(took) = writer.note(ended) {
-            // (memory was reserved for all)
-            let _ = self.took.push(took);
+            self.took.note(took);
         }
         is_one
     }
@@ -66,18 +65,10 @@ impl Latencies {
         writer.since = moment;
     }
 
-    /// Sorts the times.
-    pub(crate) fn sort(&mut self) {
-        self.took.sort_unstable();
-    }
-
-    /// Returns the shortest time within which this percentage of the puts were done, in nanoseconds, once the times are
-    /// sorted. Returns 0 if there is no put.
-    pub(crate) fn percentile(&self, percent: usize) -> u64 {
-        let rank = self.took.len().saturating_mul(percent).div_ceil(100);
-        match self.took.get(rank.saturating_sub(1)) {
-            Some(took) => *took,
-            None => 0,
-        }
+    /// Returns the times, sorted.
+    pub(crate) fn into_times(self) -> Times {
+        let mut took = self.took;
+        took.sort();
+        took
     }
 }

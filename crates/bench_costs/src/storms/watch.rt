@@ -1,6 +1,7 @@
 //! A gate that looks at the clock.
 use crate::storms::latencies::Latencies;
 use crate::storms::{StormPlan, Workers};
+use crate::times::Times;
 use ring_node::{Gate, Step};
 use std::alloc::{AllocError, Global};
 use std::sync::{Mutex, Wait};
@@ -41,10 +42,8 @@ impl<'a, R: Clock> Watch<'a, R> {
     }
 
     /// Returns the times of the puts, sorted.
-    pub(crate) fn into_latencies(self) -> Latencies {
-        let mut latencies = self.latencies.into_inner();
-        latencies.sort();
-        latencies
+    pub(crate) fn into_times(self) -> Times {
+        self.latencies.into_inner().into_times()
     }
 
     /// Notes a put. The time that this takes is not part of the next put's.

@@ -189,7 +189,7 @@ fn run_on_own<L: Ledger, R: Wait + Clock>(
 }
 
 /// Opens a range with all keys at node 1, and the passes of its seats, 1 to 64. Refused: NoMemory.
-fn open_range<L: Ledger>(
+pub(crate) fn open_range<L: Ledger>(
     alloc: Global,
     blank: Blank,
     format: Format,

@@ -1,0 +1,194 @@
+// Moments and their portions, and what threads do with them.
+#include "support.hpp"
+
+#include <atomic>
+#include <thread>
+
+namespace {
+
+/// The root of a replica with keys.
+std::string root_of(int keys) { return sure(filled(keys).root()); }
+
+/// A partner that is called directly.
+Reach reach(Snapshot &snapshot) {
+    return [&](const std::vector<std::string> &asks) {
+        std::vector<std::optional<std::string>> answers;
+        for (const auto &ask : asks) answers.push_back(sure(snapshot.serve(1, ask)));
+        return answers;
+    };
+}
+
+void moment() {
+    Replica replica = filled(50);
+    const std::uint64_t dirty = sure(replica.count()).dirty;
+    sure(replica.hold());
+    sure(replica.put(1, "later", ""));
+    CHECK(sure(replica.hash_moment(0)) == dirty);
+    CHECK(sure(replica.hash_moment(10)) == dirty - 10);
+    Portion portion = sure(replica.take_portion(10));
+    sure(portion.hash());
+    CHECK(sure(replica.install_portion(std::move(portion))) == dirty - 20);
+    REFUSED(Empty, portion.hash());
+    REFUSED(Empty, replica.install_portion(std::move(portion)));
+    CHECK(sure(replica.install_portion(sure(replica.take_portion(10)))) == dirty - 30);
+    while (sure(replica.hash_moment(10)) > 0) CHECK(sure(replica.count()).front == 0);
+    Snapshot snapshot = sure(replica.moment());
+    CHECK(snapshot.entries() == 50 && sure(snapshot.root()) == root_of(50));
+    sure(replica.hold());
+    CHECK(sure(replica.count()).front == 50);
+    CHECK(sure(replica.snapshot()).entries() == 51 && sure(replica.count()).front == 51);
+    sure(replica.drop_moment());
+    CHECK(sure(replica.count()).front == 0 && sure(replica.hash_moment(1)) == 0);
+    CHECK(sure(snapshot.root()) == root_of(50));
+}
+
+void session_at_the_moment() {
+    Replica partner = filled(50), replica = sure(Replica::make());
+    Snapshot snapshot = sure(partner.snapshot());
+    const std::string offer = sure(snapshot.offer(1));
+    sure(replica.hold());
+    sure(replica.put(2, "later", ""));
+    while (sure(replica.hash_moment(10)) > 0) {
+    }
+    REFUSED(Dirty, replica.open(1, offer, false));
+    Session session = sure(replica.open_at_moment(1, offer));
+    while (const auto ask = sure(session.ask())) sure(session.take(sure(snapshot.serve(1, *ask))));
+    CHECK(sure(session.state()) == State::Finished && sure(replica.count()).entries == 51);
+}
+
+void no_whole_moment() {
+    Replica partner = filled(50), replica = filled(1);
+    const std::string offer = sure(sure(partner.snapshot()).offer(1));
+    REFUSED(Dirty, replica.moment());
+    REFUSED(Dirty, replica.open_at_moment(1, offer));
+    sure(replica.hold());
+    REFUSED(Dirty, replica.moment());
+    REFUSED(Dirty, replica.open_at_moment(1, offer));
+    REFUSED(BadMessage, replica.open_at_moment(1, ""));
+}
+
+void portion_outlives_its_replica() {
+    Replica replica = filled(50), other = filled(1);
+    sure(replica.hold());
+    Portion portion = sure(replica.take_portion(UINT64_MAX)), closed = sure(replica.take_portion(1));
+    replica.close();
+    sure(portion.hash());
+    sure(other.hold());
+    CHECK(other.install_portion(std::move(portion)));
+    CHECK(sure(other.root()) == root_of(1));
+    closed.close();
+    REFUSED(Empty, closed.hash());
+}
+
+/// The lock of a replica that another thread changes whenever it is free: it puts, and it drops the first moment.
+struct BusyLock {
+    Replica &replica;
+    int locked = 0;
+
+    void lock() {
+        sure(replica.put(2, std::to_string(++locked), ""));
+        if (locked == 2) sure(replica.drop_moment());
+    }
+    void unlock() {}
+};
+
+void replica_that_is_never_at_rest() {
+    Replica partner = filled(50), replica = filled(0);
+    BusyLock lock = {replica};
+    CHECK(sure(replica.snapshot_beside(lock)).entries() == 2);
+    Snapshot offered = sure(partner.snapshot());
+    const Synced synced = sure(replica.sync_beside(lock, 1, sure(offered.offer(1)), reach(offered)));
+    CHECK(synced.finished() && synced.accepted == 50);
+}
+
+/// A replica that threads share by its lock.
+struct Store {
+    Replica replica = sure(Replica::make());
+    std::mutex lock;
+
+    /// Puts after a read.
+    void put(std::uint64_t node, std::string_view key) {
+        const std::lock_guard<std::mutex> guard(lock);
+        sure(replica.put(node, key, "value", sure(merge(sure(replica.get(key))))));
+    }
+};
+
+/// Puts at random keys of two replicas until it is stopped.
+void put_without_pause(Store &a, Store &b, const std::atomic<bool> &stopped) {
+    std::uint64_t random = 1;
+    for (int n = 0; n < 200'000 && !stopped; n++) {
+        random = random * 6'364'136'223'846'793'005 + 1;
+        const std::string key = std::to_string(random >> 54);
+        a.put(1, key);
+        b.put(2, key);
+    }
+}
+
+/// Takes what a partner has. Returns the partner's snapshot.
+Snapshot sync(Store &store, Store &partner) {
+    Snapshot snapshot = sure(partner.replica.snapshot_beside(partner.lock));
+    const std::string offer = sure(snapshot.offer(1));
+    CHECK(sure(store.replica.sync_beside(store.lock, 9, offer, reach(snapshot))).finished());
+    return snapshot;
+}
+
+/// Each snapshot has the versions of the entries that it counts.
+void check_snapshots(Replica &replica, std::vector<Snapshot> snapshots) {
+    Replica copy = sure(Replica::make());
+    std::uint64_t copied = 0;
+    for (Snapshot &snapshot : snapshots) {
+        for (; copied < snapshot.entries(); copied++) {
+            const auto entry = sure(replica.entry(copied));
+            CHECK(sure(copy.accept(entry->key, entry->version)) == Accepted::New);
+        }
+        CHECK(sure(copy.root()) == sure(snapshot.root()));
+    }
+}
+
+void snapshots_and_syncs_while_a_thread_puts() {
+    Store a, b;
+    std::atomic<bool> stopped = false;
+    std::vector<Snapshot> of_a, of_b;
+    std::thread writer([&] { put_without_pause(a, b, stopped); });
+    for (int round = 0; round < 3; round++) {
+        of_a.push_back(sync(b, a));
+        of_b.push_back(sync(a, b));
+    }
+    stopped = true;
+    writer.join();
+    sync(b, a);
+    sync(a, b);
+    CHECK(sure(a.replica.root()) == sure(b.replica.root()));
+    check_snapshots(a.replica, std::move(of_a));
+    check_snapshots(b.replica, std::move(of_b));
+}
+
+/// A sync that ends early cancels its session under the lock.
+void reach_that_throws() {
+    Store store;
+    Replica partner = filled(50);
+    const std::string offer = sure(sure(partner.snapshot()).offer(1));
+    const Reach fails = [&](const std::vector<std::string> &) -> std::vector<std::optional<std::string>> {
+        store.put(1, "meanwhile");
+        throw 1;
+    };
+    try {
+        (void)store.replica.sync_beside(store.lock, 9, offer, fails);
+        CHECK(false);
+    } catch (int) {
+        const Counts counts = sure(store.replica.count());
+        CHECK(counts.sessions == 1 && counts.open_sessions == 0 && counts.entries == 1);
+    }
+}
+
+} // namespace
+
+int main() {
+    return run({{"moment", moment},
+                {"session at the moment", session_at_the_moment},
+                {"no whole moment", no_whole_moment},
+                {"portion outlives its replica", portion_outlives_its_replica},
+                {"replica that is never at rest", replica_that_is_never_at_rest},
+                {"snapshots and syncs while a thread puts", snapshots_and_syncs_while_a_thread_puts},
+                {"reach that throws", reach_that_throws}});
+}

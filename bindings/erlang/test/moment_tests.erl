@@ -1,0 +1,142 @@
+%% Moments: hashed in portions, and beside a process that puts without pause.
+-module(moment_tests).
+
+-include_lib("eunit/include/eunit.hrl").
+
+-import(support, [replica/0, fill/2]).
+
+%% Keys of a process that puts, and its puts: fewer than the entries that a journal has room for.
+-define(KEYS, 1000).
+-define(MOST_PUTS, 900_000).
+
+hold_and_hash_test() ->
+    Replica = fill(replica(), 50),
+    ok = antientropy:hold(Replica),
+    {ok, _} = antientropy:put(Replica, 1, <<"later">>, <<>>),
+    ?assertEqual({error, dirty}, antientropy:moment(Replica)),
+    ?assertMatch({ok, #{front := 0, entries := 51}}, antientropy:count(Replica)),
+    {ok, Left} = antientropy:hash_moment(Replica, 0),
+    ?assertEqual({ok, Left - 7}, antientropy:hash_moment(Replica, 7)),
+    ok = hash_all(Replica),
+    ?assertMatch({ok, #{front := 50, entries := 51}}, antientropy:count(Replica)),
+    {ok, Snapshot} = antientropy:moment(Replica),
+    ?assertMatch({ok, #{entries := 50}}, antientropy_snapshot:info(Snapshot)),
+    ok = antientropy:drop_moment(Replica),
+    ?assertEqual({error, dirty}, antientropy:moment(Replica)),
+    ?assertEqual({ok, 0}, antientropy:hash_moment(Replica, 7)),
+    ?assertMatch({ok, #{front := 0}}, antientropy:count(Replica)),
+    ?assertEqual(antientropy:root(fill(replica(), 50)), antientropy_snapshot:root(Snapshot)).
+
+%% `front' stays that of the last whole moment until the next one is whole.
+front_test() ->
+    Replica = fill(replica(), 10),
+    {ok, _} = antientropy:snapshot(Replica),
+    {ok, _} = antientropy:put(Replica, 1, <<"later">>, <<>>),
+    ok = antientropy:hold(Replica),
+    ?assertMatch({ok, #{front := 10}}, antientropy:count(Replica)),
+    ok = hash_all(Replica),
+    ?assertMatch({ok, #{front := 11}}, antientropy:count(Replica)).
+
+open_at_moment_test() ->
+    Replica = fill(replica(), 10),
+    Copy = replica(),
+    {ok, Snapshot} = antientropy:snapshot(Replica),
+    {ok, Offer} = antientropy_snapshot:offer(Snapshot, 1),
+    Open = fun() -> antientropy:open_at_moment(Copy, 1, Offer) end,
+    support:refused(dirty, Copy, Open),
+    ok = antientropy:hold(Copy),
+    support:refused(dirty, Copy, Open),
+    ok = hash_all(Copy),
+    {ok, _} = antientropy:put(Copy, 2, <<"later">>, <<>>),
+    support:refused(bad_message, Copy, fun() -> antientropy:open_at_moment(Copy, 1, <<>>) end),
+    {ok, Session} = Open(),
+    {ok, [Ask]} = antientropy_session:asks(Session),
+    {ok, Answer} = antientropy_snapshot:serve(Snapshot, 1, Ask),
+    ?assertMatch({ok, #{state := open}}, antientropy_session:take(Session, Answer)).
+
+%% Moments that another process holds and drops don't keep a call from its end.
+beside_moments_test_() ->
+    {timeout, 60, fun() ->
+        Replica = fill(replica(), 1000),
+        Expected = antientropy:root(fill(replica(), 1000)),
+        Other = spawn(fun() -> hold_and_drop(Replica) end),
+        try
+            [?assertEqual(Expected, antientropy:root(Replica)) || _ <- lists:seq(1, 20)]
+        after
+            exit(Other, kill)
+        end
+    end}.
+
+hold_and_drop(Replica) ->
+    ok = antientropy:hold(Replica),
+    ok = antientropy:drop_moment(Replica),
+    hold_and_drop(Replica).
+
+%% A replica may be closed while its moment is hashed, which takes some hundredths of a second here.
+close_while_hashing_test() ->
+    Replica = replica(),
+    [{ok, _} = antientropy:put(Replica, 1, <<Key>>, binary:copy(<<"v">>, 65_536)) || Key <- lists:seq(1, 100)],
+    ok = antientropy:hold(Replica),
+    {Hashing, Monitor} = spawn_monitor(fun() -> exit({result, antientropy:hash_moment(Replica, 5000)}) end),
+    timer:sleep(1),
+    ok = antientropy:close(Replica),
+    receive
+        %% With one dirty scheduler the close waits for the other call.
+        {'DOWN', Monitor, process, Hashing, {result, Result}} ->
+            ?assert(Result =:= {error, empty} orelse element(1, Result) =:= ok)
+    end,
+    ?assertEqual({error, empty}, antientropy:hash_moment(Replica, 5000)).
+
+%% Checkpoints and syncs end, and are right, while another process puts without pause.
+beside_puts_test_() ->
+    {timeout, 60, fun() ->
+        Replica = support:replica(#{}),
+        Partner = fill(support:replica(#{}), 300),
+        {Writer, Monitor} = spawn_monitor(fun() -> write(Replica, 0) end),
+        [save_and_sync(Replica, Partner) || _ <- lists:seq(1, 5)],
+        Writer ! stop,
+        receive
+            {'DOWN', Monitor, process, Writer, Reason} -> ?assertEqual(normal, Reason)
+        end,
+        ok = sync_both_ways(Replica, Partner),
+        ?assertEqual(antientropy:root(Replica), antientropy:root(Partner))
+    end}.
+
+%% Puts values of some keys, one after another, until it is stopped.
+write(_, ?MOST_PUTS) ->
+    receive
+        stop -> ok
+    end;
+write(Replica, Number) ->
+    Key = <<"w ", (integer_to_binary(Number rem ?KEYS))/binary>>,
+    Context = [{1, Counter} || Counter <- [Number div ?KEYS], Counter > 0],
+    {ok, _} = antientropy:put(Replica, 1, Key, Key, Context),
+    receive
+        stop -> ok
+    after 0 -> write(Replica, Number + 1)
+    end.
+
+%% Saves a checkpoint, and loads it, which compares its rows with its root; and syncs.
+save_and_sync(Replica, Partner) ->
+    {ok, File} = file:open(<<>>, [ram, binary, read, write]),
+    {ok, #{entries := Before}} = antientropy:count(Replica),
+    {ok, Saved} = antientropy:save(Replica, File),
+    {ok, #{entries := After, front := Saved}} = antientropy:count(Replica),
+    ?assert(Before =< Saved andalso Saved =< After),
+    {ok, 0} = file:position(File, bof),
+    {ok, Loaded} = antientropy:load(File),
+    ok = antientropy:close(Loaded),
+    ok = file:close(File),
+    sync_both_ways(Replica, Partner).
+
+sync_both_ways(Replica, Partner) ->
+    ?assertMatch(#{state := finished}, support:sync(Replica, Partner)),
+    ?assertMatch(#{state := finished}, support:sync(Partner, Replica)),
+    ok.
+
+%% Hashes the moment, some nodes at a time.
+hash_all(Replica) ->
+    case antientropy:hash_moment(Replica, 100) of
+        {ok, 0} -> ok;
+        {ok, _} -> hash_all(Replica)
+    end.

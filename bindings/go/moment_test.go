@@ -1,0 +1,121 @@
+package antientropy_test
+
+import (
+	"fmt"
+	"math/rand"
+	"testing"
+	"time"
+
+	"antientropy"
+)
+
+// copyOf returns a replica with the first entries of another one.
+func copyOf(r *antientropy.Replica, entries uint64) *antientropy.Replica {
+	copied := must(antientropy.NewReplica(r.Config()))
+	for scanner := r.Entries(0); must(copied.Count()).Entries < entries && scanner.Next(); {
+		must(copied.Accept(scanner.Item().Key, scanner.Item().Version))
+	}
+	return copied
+}
+
+func TestAMoment(t *testing.T) {
+	r, offer := filled(20), must(must(newReplica().Snapshot()).Offer(7))
+	check(r.Hold())
+	put(r, "later", "value")
+	equal(t, must(r.Count()).Front, uint64(0))
+	for left := must(r.HashMoment(0)); left > 0; {
+		before := left
+		left = must(r.HashMoment(5))
+		equal(t, left < before && left+5 >= before, true)
+	}
+	equal(t, must(r.Count()).Front, uint64(20))
+	moment := must(r.Moment())
+	equal(t, []any{moment.Entries(), moment.Config()}, []any{uint64(20), r.Config()})
+	equal(t, must(moment.Root()), must(copyOf(r, 20).Root()))
+	session := must(r.OpenAtMoment(2, offer))
+	want := []any{uint32(7), uint64(0), uint64(1)}
+	equal(t, []any{session.OfferNumber(), session.Number(), must(session.Outstanding())}, want)
+	check(r.DropMoment())
+	equal(t, must(r.Count()).Front, uint64(0))
+}
+
+func TestNoWholeMoment(t *testing.T) {
+	r, offer := filled(20), must(must(newReplica().Snapshot()).Offer(7))
+	dirty := func() {
+		t.Helper()
+		unchanged(t, r, antientropy.ErrDirty, func() error { _, err := r.Moment(); return err })
+		unchanged(t, r, antientropy.ErrDirty, func() error { _, err := r.OpenAtMoment(2, offer); return err })
+	}
+	check(r.Rehash())
+	equal(t, must(r.HashMoment(1)), uint64(0))
+	dirty()
+	put(r, "later", "value")
+	check(r.Hold())
+	dirty()
+}
+
+// putUntil puts random keys of a number of keys without pause, until a channel is closed.
+func putUntil(stop chan bool, r *antientropy.Replica, keys int) {
+	random, clocks := rand.New(rand.NewSource(1)), make([]antientropy.Clock, keys)
+	for {
+		select {
+		case <-stop:
+			return
+		default:
+			key := random.Intn(keys)
+			receipt := must(r.Put(1, []byte(fmt.Sprint(key)), []byte("value"), clocks[key]))
+			clocks[key] = clock(1, receipt.Counter)
+		}
+	}
+}
+
+// syncBothWays lets a busy replica take a version that another one has put, and the other one take a snapshot of the
+// busy one, which it returns.
+func syncBothWays(t *testing.T, busy, other *antientropy.Replica, node uint16, n int) *antientropy.Snapshot {
+	must(other.Put(node, []byte(fmt.Sprintf("%d of %d", n, node)), nil, nil))
+	equal(t, must(syncFrom(busy, other)).Accepted, uint64(1))
+	offered := must(busy.Snapshot())
+	equal(t, must(other.Sync(1, must(offered.Offer(1)), reachOf(offered, 1))).Finished(), true)
+	return offered
+}
+
+// Two goroutines take snapshots and sync, while a third one puts without pause.
+func TestSnapshotsAndSyncsBesidePuts(t *testing.T) {
+	const keys, rounds = 500, 4
+	config := antientropy.Config{Format: 1, Limit: antientropy.EntriesMax}
+	busy, stop, ended := must(antientropy.NewReplica(config)), make(chan bool), make(chan bool)
+	others := []*antientropy.Replica{must(antientropy.NewReplica(config)), must(antientropy.NewReplica(config))}
+	taken := make([]*antientropy.Snapshot, len(others))
+	for i := range others {
+		go func(i int) {
+			for n := 1; n <= rounds; n++ {
+				for must(busy.Count()).Entries < uint64(n*keys) {
+				}
+				taken[i] = syncBothWays(t, busy, others[i], uint16(2+i), n)
+			}
+			ended <- true
+		}(i)
+	}
+	go func() {
+		putUntil(stop, busy, keys)
+		ended <- true
+	}()
+	end := func() {
+		select {
+		case <-ended:
+		case <-time.After(time.Minute):
+			t.Fatal("a goroutine doesn't end")
+		}
+	}
+	end()
+	end()
+	close(stop)
+	end()
+	for i, other := range others {
+		root := must(taken[i].Root())
+		want := []antientropy.Root{must(other.Root()), must(copyOf(busy, taken[i].Entries()).Root())}
+		equal(t, []antientropy.Root{root, root}, want)
+		must(syncFrom(other, busy))
+		equal(t, must(other.Root()), must(busy.Root()))
+	}
+}

@@ -1,0 +1,117 @@
+//! Moments and their portions.
+
+use std::panic::{catch_unwind, AssertUnwindSafe};
+use std::sync::Mutex;
+
+use antientropy::{snapshot_beside, sync_beside, Bounds, Refusal, Replica, State};
+
+use crate::support::{assert_refused, filled, replica, serve, NONE};
+
+#[test]
+fn a_moment() {
+    let mut replica = filled(50);
+    let dirty = replica.count().unwrap().dirty;
+    replica.hold().unwrap();
+    replica.put(1, b"later", Some(b""), &NONE).unwrap();
+    assert_eq!(replica.hash_moment(0), Ok(dirty));
+    assert_eq!(replica.hash_moment(10), Ok(dirty - 10));
+    let mut portion = replica.take_portion(10).unwrap();
+    portion.hash().unwrap();
+    assert_eq!(replica.install_portion(portion), Ok(dirty - 20));
+    let unhashed = replica.take_portion(10).unwrap();
+    assert_eq!(replica.install_portion(unhashed), Ok(dirty - 30));
+    while replica.hash_moment(10).unwrap() > 0 {
+        assert_eq!(replica.count().unwrap().front, 0);
+    }
+    let mut snapshot = replica.moment().unwrap();
+    assert_eq!((snapshot.entries(), snapshot.root()), (50, filled(50).root()));
+    replica.hold().unwrap();
+    assert_eq!(replica.count().unwrap().front, 50);
+    assert_eq!(replica.snapshot().unwrap().entries(), 51);
+    assert_eq!(replica.count().unwrap().front, 51);
+    replica.drop_moment().unwrap();
+    assert_eq!((replica.count().unwrap().front, replica.hash_moment(1)), (0, Ok(0)));
+    assert_eq!(snapshot.root(), filled(50).root());
+}
+
+#[test]
+fn a_session_at_the_moment() {
+    let mut snapshot = filled(50).snapshot().unwrap();
+    let offer = snapshot.offer(7).unwrap();
+    let mut replica = replica();
+    replica.hold().unwrap();
+    replica.put(2, b"later", Some(b""), &NONE).unwrap();
+    while replica.hash_moment(10).unwrap() > 0 {}
+    assert_eq!(replica.open_if_clean(1, &offer), Err(Refusal::Dirty));
+    let id = replica.open_at_moment(1, &offer).unwrap();
+    while let Some(ask) = replica.session(id).ask().unwrap() {
+        replica.session(id).take(&snapshot.serve(7, &ask).unwrap()).unwrap();
+    }
+    assert_eq!((replica.session(id).state(), replica.count().unwrap().entries), (Ok(State::Finished), 51));
+}
+
+#[test]
+fn no_whole_moment() {
+    let offer = filled(50).snapshot().unwrap().offer(7).unwrap();
+    let mut replica = filled(1);
+    assert_refused(Refusal::Dirty, &mut replica, Replica::moment);
+    assert_refused(Refusal::Dirty, &mut replica, |replica| replica.open_at_moment(1, &offer));
+    replica.hold().unwrap();
+    assert_refused(Refusal::Dirty, &mut replica, Replica::moment);
+    assert_refused(Refusal::Dirty, &mut replica, |replica| replica.open_at_moment(1, &offer));
+}
+
+#[test]
+fn a_portion_outlives_its_replica() {
+    let mut replica = filled(50);
+    replica.hold().unwrap();
+    let mut portion = replica.take_portion(u64::MAX).unwrap();
+    drop(replica);
+    portion.hash().unwrap();
+    let mut other = filled(1);
+    other.hold().unwrap();
+    other.install_portion(portion).unwrap();
+    assert_eq!(other.root(), filled(1).root());
+}
+
+/// A replica that another thread changes whenever the lock is free: it puts, and it drops the first moment.
+struct Busy {
+    replica: Replica,
+    locked: u32,
+}
+
+impl AsMut<Replica> for Busy {
+    fn as_mut(&mut self) -> &mut Replica {
+        self.locked += 1;
+        self.replica.put(2, &self.locked.to_be_bytes(), Some(b""), &NONE).unwrap();
+        if self.locked == 2 {
+            self.replica.drop_moment().unwrap();
+        }
+        &mut self.replica
+    }
+}
+
+#[test]
+fn a_replica_that_is_never_at_rest() {
+    let shared = Mutex::new(Busy { replica: replica(), locked: 0 });
+    assert_eq!(snapshot_beside(&shared).unwrap().entries(), 2);
+    let mut partner = filled(50).snapshot().unwrap();
+    let offer = partner.offer(1).unwrap();
+    let synced = sync_beside(&shared, Bounds::default(), 1, &offer, |asks| serve(&mut partner, 1, asks)).unwrap();
+    assert_eq!((synced.finished(), synced.accepted), (true, 50));
+}
+
+#[test]
+fn a_poisoned_lock() {
+    let mut snapshot = filled(50).snapshot().unwrap();
+    let (offer, shared) = (snapshot.offer(1).unwrap(), Mutex::new(replica()));
+    let poison = |asks: &[Vec<u8>]| {
+        let _locked = shared.lock();
+        if asks.len() > 1 {
+            panic!("link");
+        }
+        serve(&mut snapshot, 1, asks)
+    };
+    assert!(catch_unwind(AssertUnwindSafe(|| sync_beside(&shared, Bounds::default(), 9, &offer, poison))).is_err());
+    assert!(catch_unwind(AssertUnwindSafe(|| snapshot_beside(&shared))).is_err());
+}

@@ -1,0 +1,124 @@
+%% @doc Rounds of repair beside puts without pause. The other holders of the range are replicas of the test.
+-module(repair_tests).
+
+-include_lib("eunit/include/eunit.hrl").
+
+-define(RANGE, 0).
+-define(CLIENTS, 64).
+-define(ROUNDS, 10).
+%% Clients that put at each partner.
+-define(CLIENTS_THERE, 4).
+%% The snapshots that the partners have offered.
+-define(OFFERED, ?MODULE).
+
+%% A range whose disk was lost takes all from both partners in each round, and they take all from it, while 64 clients
+%% put here and others put there. Then all three are equal, and a restart from its checkpoints has everything.
+lost_disk_test_() ->
+    room:test([{limit, 100000}, {checkpoint_entries, 500}], fun(_) ->
+        ?OFFERED = ets:new(?OFFERED, [named_table, public]),
+        [{ok, _} = Module:start_link() || Module <- [cluster_slots, cluster_repair]],
+        start(),
+        Partners = [{Place, partner(Place)} || Place <- [2, 3]],
+        Other = fun(Place, cluster_range, Function, Arguments) -> serve(Function, Place, Arguments, Partners) end,
+        try
+            links:with(Other, fun() -> repair(Partners) end)
+        after
+            [ok = room:kill(Name) || Name <- [cluster_repair, cluster_slots]],
+            true = ets:delete(?OFFERED)
+        end
+    end).
+
+repair(Partners) ->
+    Clients = begin_clients(Partners),
+    try
+        [ok = exchange(Partners) || _ <- lists:seq(1, ?ROUNDS)],
+        [ok = stop(Client) || Client <- Clients]
+    after
+        [exit(Client, kill) || {Client, _} <- Clients]
+    end,
+    ?assert(cluster_range:is_joined(?RANGE)),
+    ok = exchange(Partners),
+    {Root, _} = Before = cluster_range:dump(?RANGE),
+    [?assertEqual({ok, Root}, antientropy:root(Partner)) || {_, Partner} <- Partners],
+    ok = room:kill(cluster_range_0),
+    start(),
+    ?assertEqual(Before, cluster_range:dump(?RANGE)).
+
+start() ->
+    {ok, Range} = cluster_range:start_link(?RANGE),
+    true = unlink(Range),
+    ok.
+
+%% Runs a round here, and then one at each partner.
+exchange(Partners) ->
+    ?assertEqual([], [Lacking || {?RANGE, _} = Lacking <- cluster_repair:round()]),
+    [?assertMatch({ok, #{state := finished}}, pull(Place, Partner)) || {Place, Partner} <- Partners],
+    ok.
+
+pull(Place, Partner) ->
+    {ok, Offer} = cluster_range:offer(?RANGE, Place),
+    {ok, #{number := Number}} = antientropy:read_offer(Offer),
+    antientropy:sync(Partner, 1, Offer, fun(Asks) -> cluster_range:serve(?RANGE, Place, Number, Asks) end).
+
+%% ---- the partners
+
+partner(Place) ->
+    {ok, Partner} = antientropy:new(cluster_ring:replica_options(?RANGE)),
+    [{ok, _} = antientropy:put(Partner, life(Place), Key, <<"value">>) || Key <- keys("filled", Place)],
+    Partner.
+
+life(Place) -> 32 + Place.
+
+keys(Name, Place) ->
+    All = [iolist_to_binary(io_lib:format("~s ~b ~b", [Name, Place, Number])) || Number <- lists:seq(1, 1000)],
+    [Key || Key <- All, cluster_ring:range(Key) =:= {ok, ?RANGE}].
+
+%% A partner's side of a round here. The round also asks the partners of the range 3, which are down.
+serve(offer, Place, [?RANGE, 1], Partners) ->
+    {_, Partner} = lists:keyfind(Place, 1, Partners),
+    {ok, Snapshot} = antientropy:snapshot(Partner),
+    true = ets:insert(?OFFERED, {Place, Snapshot}),
+    antientropy_snapshot:offer(Snapshot, Place);
+serve(serve, Place, [?RANGE, 1, Number, Asks], _) ->
+    [{_, Snapshot}] = ets:lookup(?OFFERED, Place),
+    [antientropy_snapshot:serve(Snapshot, Number, Ask) || Ask <- Asks];
+serve(offer, _, _, _) ->
+    error({erpc, noconnection}).
+
+%% ---- clients, each with a key of its own
+
+begin_clients(Partners) ->
+    Here = [put_here(room:key(Number)) || Number <- lists:seq(1, ?CLIENTS)],
+    There = [
+        put_there(Partner, life(Place), Key)
+     || {Place, Partner} <- Partners, Key <- lists:sublist(keys("busy", Place), ?CLIENTS_THERE)
+    ],
+    [spawn_monitor(fun() -> put_on(Put, #{}) end) || Put <- Here ++ There].
+
+put_here(Key) ->
+    fun(Context) ->
+        {ok, #{clock := Clock}} = cluster_range:put(?RANGE, Key, <<"again">>, Context),
+        Clock
+    end.
+
+%% A put takes no time there, since it waits for no disk.
+put_there(Partner, Life, Key) ->
+    fun(Context) ->
+        timer:sleep(1),
+        {ok, #{counter := Counter}} = antientropy:put(Partner, Life, Key, <<"again">>, Context),
+        Context#{Life => Counter}
+    end.
+
+%% Puts with the clock of the put before, until it is stopped.
+put_on(Put, Context) ->
+    receive
+        stop -> ok
+    after 0 -> put_on(Put, Put(Context))
+    end.
+
+stop({Client, Monitor}) ->
+    Client ! stop,
+    receive
+        {'DOWN', Monitor, process, Client, Reason} -> ?assertEqual(normal, Reason)
+    end,
+    ok.
