@@ -97,8 +97,8 @@ fn hash_alone<L: Ledger, C: Ledger, R: Wait + Clock>(
     range: &SharedRange<L>,
     slots: &SharedController<C>,
 ) -> Result<Duration, Fault> {
-    let slot = slots.lend(rt)?;
     let begin = Instant::now(rt)?;
+    let slot = slots.lend(rt)?;
     let done = hash_all(rt, alloc, range, &slot);
     slots.give_back(rt, slot);
     done?;
