@@ -9,7 +9,7 @@
 #include <stdlib.h>
 #include <string.h>
 
-enum { WRITERS = 4, KEYS = 500, SYNCS = 10, ROOM = 1 << 16, PORTION = 64 };
+enum { WRITERS = 4, KEYS = 500, SYNCS = 10, ROOM = 1 << 16, PORTION = 16 };
 
 /* The replica of node 1, which all threads use. */
 static struct antientropy_replica shared;

@@ -464,7 +464,7 @@ uint32_t antientropy_rehash_some(struct antientropy_replica *replica, uint64_t m
  * antientropy_hold, which no later call changes. A moment is whole when each of its nodes has a digest; then
  * antientropy_moment makes its snapshot, and antientropy_open_at_moment compares it with a partner's offer. */
 
-/* Keeps the rows now as the replica's moment, in the place of another one. Copies no row, and keeps the digests that the
+/* Keeps the rows now as the replica's moment, in the place of another one. Copies no row, and keeps the digests that
  * nodes have: so only nodes that have changed since they were hashed are to be hashed. While the moment is kept, the
  * first change of each block of some rows copies the block.
  * Refused, in order: EMPTY, NO_MEMORY. */
@@ -476,14 +476,14 @@ uint32_t antientropy_drop_moment(struct antientropy_replica *replica);
 
 /* Hashes at most `most` of the moment's nodes that have no digest though all their children have one, and returns the
  * number of its nodes that have none then: 0 if it is whole, or if there is no moment. A program that repeats it until
- * that is 0 can make other calls between; with `most` 0 no node is hashed. A node that no put has changed since gets its
- * digest in the replica's tree, too. Refused, in order: EMPTY, NO_MEMORY. */
+ * that is 0 can make other calls between; with `most` 0 no node is hashed. A node that no put has changed since gets
+ * its digest in the replica's tree, too. Refused, in order: EMPTY, NO_MEMORY. */
 uint32_t antientropy_hash_moment(struct antientropy_replica *replica, uint64_t most, uint64_t *left);
 
 /* Takes a portion of the moment's nodes, those that antientropy_hash_moment would hash, so that another thread can hash
  * them by antientropy_hash_portion while the replica is in other calls. If nothing is left to hash, or if there is no
- * moment, the portion has no node. Refused, in order: EMPTY (the replica), HELD (the portion holds one already),
- * NO_MEMORY. */
+ * moment, the handle holds a portion without nodes. Refused, in order: EMPTY (the replica), HELD (the portion holds one
+ * already), NO_MEMORY. */
 uint32_t antientropy_take_portion(struct antientropy_replica *replica, uint64_t most,
                                   struct antientropy_portion *portion);
 
@@ -491,8 +491,9 @@ uint32_t antientropy_take_portion(struct antientropy_replica *replica, uint64_t 
 uint32_t antientropy_hash_portion(struct antientropy_portion *portion);
 
 /* Installs the digests of a portion in the moment, as antientropy_hash_moment does, and returns the number of the
- * moment's nodes that have none then. The portion holds nothing then. Nodes that antientropy_hash_portion has not hashed
- * are hashed here. Digests of another moment's nodes are left out if the node's text is another one.
+ * moment's nodes that have none then: 0 if it is whole, or if there is no moment. The portion's handle is empty then.
+ * Nodes that antientropy_hash_portion has not hashed are hashed here. Digests of another moment's nodes are left out if
+ * the node's text is another one.
  * Refused: EMPTY (the replica or the portion). */
 uint32_t antientropy_install_portion(struct antientropy_replica *replica, struct antientropy_portion *portion,
                                      uint64_t *left);
@@ -563,7 +564,8 @@ uint32_t antientropy_open(struct antientropy_replica *replica, uint64_t partner,
                           uint64_t *session);
 
 /* Opens a session as antientropy_open does, but compares the rows of the replica's moment with the offer, so it doesn't
- * wait until each node of the tree has a digest. It may ask for leaves that differ only because the replica has gone on.
+ * wait until each node of the tree has a digest. It may ask for leaves that differ only because the replica has gone
+ * on.
  * Refused, in order: EMPTY, BAD_CLOCK (the partner is over 65,535), BAD_MESSAGE, OTHER_FORMAT, OTHER_RANGE,
  * SESSIONS_FULL, DIRTY (there is no moment, or it isn't whole), NO_MEMORY. NO_MEMORY may be returned instead of
  * BAD_MESSAGE. */
