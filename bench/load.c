@@ -89,7 +89,8 @@ static void *write_keys(void *unused)
     return unused;
 }
 
-/* Holds a moment, hashes it beside the puts, and makes its snapshot. */
+/* Holds a moment, hashes it beside the puts, and makes its snapshot. Then it drops the moment, so that its rows are freed
+ * with the snapshot, and not under the lock by the next hold. */
 static void snapshot_moment(struct antientropy_snapshot *snapshot)
 {
     uint64_t left = 1;
@@ -104,8 +105,10 @@ static void snapshot_moment(struct antientropy_snapshot *snapshot)
         must("hash_portion", antientropy_hash_portion(&portion));
         pthread_mutex_lock(&lock);
         must("install_portion", antientropy_install_portion(&replica, &portion, &left));
-        if (left == 0)
+        if (left == 0) {
             must("moment", antientropy_moment(&replica, snapshot));
+            must("drop_moment", antientropy_drop_moment(&replica));
+        }
         pthread_mutex_unlock(&lock);
     }
 }

@@ -54,8 +54,9 @@ static void *write_keys(void *name)
     return NULL;
 }
 
-/* Hashes a portion of the shared replica's moment, without the lock. When nothing is left, it makes the snapshot under
- * the same lock, since another thread may hold another moment later. Returns true if it made it. */
+/* Hashes a portion of the shared replica's moment, without the lock. When nothing is left, it makes the snapshot before
+ * the lock is released, since another thread may hold another moment later, and drops the moment: its rows are freed
+ * with the snapshot then, and not under the lock by the next hold. Returns true if it made it. */
 static bool hash_portion(struct antientropy_snapshot *snapshot)
 {
     struct antientropy_portion portion = {0};
@@ -66,8 +67,10 @@ static bool hash_portion(struct antientropy_snapshot *snapshot)
     want("hash_portion", antientropy_hash_portion(&portion), ANTIENTROPY_OK);
     pthread_mutex_lock(&lock);
     want("install_portion", antientropy_install_portion(&shared, &portion, &left), ANTIENTROPY_OK);
-    if (left == 0)
+    if (left == 0) {
         want("moment", antientropy_moment(&shared, snapshot), ANTIENTROPY_OK);
+        want("drop_moment", antientropy_drop_moment(&shared), ANTIENTROPY_OK);
+    }
     pthread_mutex_unlock(&lock);
     return left == 0;
 }

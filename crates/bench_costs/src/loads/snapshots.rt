@@ -64,6 +64,8 @@ fn make<L: Ledger, C: Ledger, R: Wait>(
         Worker::Nothing => Ok(false),
         Worker::Moments => {
             let report = range.moment_worker(rt, alloc, slot, &OpenGate, TURNS)?;
+            // (its rows are freed with the snapshot, and not under the lock by the next one)
+            range.drop_moment(rt);
             Ok(report.snapshot.is_some())
         }
         Worker::Rounds => {
