@@ -29,15 +29,6 @@ static double now(void)
     return (double)at.tv_sec + (double)at.tv_nsec / 1e9;
 }
 
-/* Ends the program if a call was refused. */
-static void must(const char *call, uint32_t number)
-{
-    if (number != ANTIENTROPY_OK) {
-        fprintf(stderr, "%s: %u\n", call, number);
-        exit(1);
-    }
-}
-
 static void make(struct antientropy *replica)
 {
     must("new", antientropy_new(replica, shape.format, 0, 0, ANTIENTROPY_ENTRIES_MAX));

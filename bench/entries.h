@@ -1,4 +1,5 @@
-/* The keys and values that the programs of this folder put through the C library: those of the yardstick's `calls`. */
+/* What the programs of this folder share: the keys and values that they put through the C library, which are those of the
+ * yardstick's `calls`, refusals and times. */
 #ifndef BENCH_ENTRIES_H
 #define BENCH_ENTRIES_H
 
@@ -9,6 +10,7 @@
 #include <stdio.h>
 #include <stdlib.h>
 #include <string.h>
+#include <time.h>
 
 enum { KEY_ROOM = ANTIENTROPY_KEY_MAX + 1, SCRAMBLED_KEY_MIN = 13, FIRST_BYTES = 32, FILL = 7 };
 
@@ -58,6 +60,23 @@ static void value_of(unsigned long number, uint8_t *value)
     }
     if (FIRST_BYTES < shape.value_bytes)
         memset(value + FIRST_BYTES, FILL, shape.value_bytes - FIRST_BYTES);
+}
+
+/* Ends the program if a call was refused. */
+static inline void must(const char *call, uint32_t number)
+{
+    if (number != ANTIENTROPY_OK) {
+        fprintf(stderr, "%s: %u\n", call, number);
+        exit(1);
+    }
+}
+
+/* The time in milliseconds. */
+static inline double now_ms(void)
+{
+    struct timespec at;
+    clock_gettime(CLOCK_MONOTONIC, &at);
+    return (double)at.tv_sec * 1e3 + (double)at.tv_nsec / 1e6;
 }
 
 #endif

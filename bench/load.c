@@ -18,7 +18,6 @@
 
 #include <pthread.h>
 #include <stdatomic.h>
-#include <time.h>
 
 enum { SECONDS = 6, PERIOD = 500, MOST = 16, SNAPSHOTS = SECONDS * 1000 / PERIOD + 1 };
 
@@ -29,21 +28,6 @@ static unsigned keys;
 static uint64_t *counters;
 static double pace, *put_times, snapshot_times[SNAPSHOTS];
 static size_t put_count, snapshots;
-
-static void must(const char *call, uint32_t number)
-{
-    if (number != ANTIENTROPY_OK) {
-        fprintf(stderr, "%s: %u\n", call, number);
-        exit(1);
-    }
-}
-
-static double now(void)
-{
-    struct timespec at;
-    clock_gettime(CLOCK_MONOTONIC, &at);
-    return (double)at.tv_sec * 1e3 + (double)at.tv_nsec / 1e6;
-}
 
 /* Puts a key with the context of its last put. */
 static void put(unsigned long number)
@@ -71,17 +55,17 @@ static void wait_until(double time)
 static void *write_keys(void *unused)
 {
     uint64_t random = 1;
-    double begin = now();
+    double begin = now_ms();
     for (size_t n = 0; n < (size_t)(SECONDS * pace); n++) {
         double due = begin + (double)n * 1e3 / pace;
-        if (due > now())
+        if (due > now_ms())
             wait_until(due);
         random = random * UINT64_C(6364136223846793005) + UINT64_C(1442695040888963407);
-        double start = now();
+        double start = now_ms();
         pthread_mutex_lock(&lock);
         put((random >> 33) % keys);
         pthread_mutex_unlock(&lock);
-        put_times[put_count++] = now() - start;
+        put_times[put_count++] = now_ms() - start;
         if (start - begin > SECONDS * 1e3)
             break;
     }
@@ -140,10 +124,10 @@ static void make_snapshots(void (*make)(struct antientropy_snapshot *))
 {
     while (!atomic_load(&is_over) && snapshots < SNAPSHOTS) {
         struct antientropy_snapshot snapshot = {0};
-        double begin = now();
+        double begin = now_ms();
         make(&snapshot);
         if (snapshot.held)
-            snapshot_times[snapshots++] = now() - begin;
+            snapshot_times[snapshots++] = now_ms() - begin;
         antientropy_snapshot_free(&snapshot);
         wait_until(begin + PERIOD);
     }
@@ -179,19 +163,19 @@ int main(int argc, char **argv)
     must("new", antientropy_new(&replica, shape.format, 0, 0, ANTIENTROPY_ENTRIES_MAX));
     for (unsigned n = 0; n < keys; n++)
         put(n);
-    double begin = now();
+    double begin = now_ms();
     must("rehash", antientropy_rehash(&replica));
-    double alone = now() - begin;
+    double alone = now_ms() - begin;
 
     pthread_t writer;
     if (pthread_create(&writer, NULL, write_keys, NULL) != 0)
         return 1;
-    begin = now();
+    begin = now_ms();
     for (size_t n = 0; n < sizeof workers / sizeof workers[0]; n++)
         if (strcmp(argv[6], workers[n].name) == 0)
             make_snapshots(workers[n].make);
     pthread_join(writer, NULL);
-    double seconds = (now() - begin) / 1e3;
+    double seconds = (now_ms() - begin) / 1e3;
     qsort(put_times, put_count, sizeof *put_times, compare);
     qsort(snapshot_times, snapshots, sizeof *snapshot_times, compare);
     printf("%.0f %zu %.0f %.0f %.0f %.0f %.0f\n", alone, snapshots, at_part(snapshot_times, snapshots, 0.5),

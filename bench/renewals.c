@@ -7,27 +7,10 @@
  * of the rows. The status is 1 if a call is refused or the rows differ in the end. */
 #include "entries.h"
 
-#include <time.h>
-
 /* (a row has 20 bytes in addition to its key and its value) */
 enum { LIMIT = 1000000, ROOT_AT = 7, ROOT_LEN = 32, ROW_ROOM = KEY_ROOM + 32 };
 
 static uint8_t value[ANTIENTROPY_VALUE_MAX_2];
-
-static void must(const char *call, uint32_t number)
-{
-    if (number != ANTIENTROPY_OK) {
-        fprintf(stderr, "%s: %u\n", call, number);
-        exit(1);
-    }
-}
-
-static double now(void)
-{
-    struct timespec at;
-    clock_gettime(CLOCK_MONOTONIC, &at);
-    return (double)at.tv_sec * 1e3 + (double)at.tv_nsec / 1e6;
-}
 
 static void fill(struct antientropy *replica, unsigned keys)
 {
@@ -71,25 +54,25 @@ int main(int argc, char **argv)
     fill(&old, keys);
     root_of(&old, &snapshot, root);
 
-    double begin = now();
+    double begin = now_ms();
     must("renew", antientropy_renew(&old, &new, LIMIT));
-    double renewed = now() - begin;
+    double renewed = now_ms() - begin;
 
-    begin = now();
+    begin = now_ms();
     for (unsigned leaf = 0; leaf < leaves; leaf++) {
         must("rows", antientropy_rows(&snapshot, (uint16_t)leaf, rows + used, room - used, &lens[leaf]));
         used += lens[leaf];
     }
-    double saved = now() - begin;
+    double saved = now_ms() - begin;
 
     must("new", antientropy_new(&loaded, shape.format, 0, 0, LIMIT));
     size_t at = 0;
-    begin = now();
+    begin = now_ms();
     for (unsigned leaf = 0; leaf < leaves; leaf++) {
         must("load", antientropy_load(&loaded, rows + at, lens[leaf], &counts));
         at += lens[leaf];
     }
-    double read = now() - begin;
+    double read = now_ms() - begin;
     root_of(&loaded, &other, root_now);
     if (memcmp(root, root_now, ROOT_LEN) != 0)
         return 1;
