@@ -232,7 +232,7 @@ struct antientropy_counts {
     uint64_t sessions;      /* sessions, ever: at 1,024 no other can be opened */
     uint64_t open_sessions; /* open sessions: at 64 no other can be opened until one has ended */
     uint64_t first;         /* 0; reserved for journals that are trimmed */
-    uint64_t front;         /* entries at the last whole moment: 0 if there is none, or after it is dropped */
+    uint64_t front;         /* entries at the last moment that was whole: 0 if there was none */
 };
 
 /* Counts of hints. */
@@ -470,14 +470,15 @@ uint32_t antientropy_rehash_some(struct antientropy_replica *replica, uint64_t m
  * Refused, in order: EMPTY, NO_MEMORY. */
 uint32_t antientropy_hold(struct antientropy_replica *replica);
 
-/* Lets go of the replica's moment, if there is one. Snapshots of it stay. antientropy_migrate does that, too.
- * Refused: EMPTY. */
+/* Lets go of the replica's moment, if there is one. Snapshots of it stay, and so does `front` of the counts.
+ * antientropy_migrate does that, too. Refused: EMPTY. */
 uint32_t antientropy_drop_moment(struct antientropy_replica *replica);
 
-/* Hashes at most `most` of the moment's nodes that have no digest though all their children have one, and returns the
- * number of its nodes that have none then: 0 if it is whole, or if there is no moment. A program that repeats it until
- * that is 0 can make other calls between; with `most` 0 no node is hashed. A node that no put has changed since gets
- * its digest in the replica's tree, too. Refused, in order: EMPTY, NO_MEMORY. */
+/* Hashes some of the moment's nodes that have no digest though all their children have one: at most `most`, up to the
+ * one with which their texts have 262,144 bytes. Returns the number of the moment's nodes that have no digest then: 0 if
+ * it is whole, or if there is no moment. A program that repeats it until that is 0 can make other calls between; with
+ * `most` 0 no node is hashed. A node that no put has changed since gets its digest in the replica's tree, too.
+ * Refused, in order: EMPTY, NO_MEMORY. */
 uint32_t antientropy_hash_moment(struct antientropy_replica *replica, uint64_t most, uint64_t *left);
 
 /* Takes a portion of the moment's nodes, those that antientropy_hash_moment would hash, so that another thread can hash
@@ -505,14 +506,35 @@ void antientropy_portion_free(struct antientropy_portion *portion);
  * HELD (the snapshot holds one already), DIRTY (there is no moment, or it isn't whole), NO_MEMORY. */
 uint32_t antientropy_moment(struct antientropy_replica *replica, struct antientropy_snapshot *snapshot);
 
-/* ---- offers */
+/* ---- snapshots and offers */
 
 /* Makes a snapshot of the rows now. It shares them with the replica, which copies those that it changes later.
  * Refused, in order: EMPTY (the replica), HELD (the snapshot holds one already), DIRTY, NO_MEMORY. */
 uint32_t antientropy_snapshot(struct antientropy_replica *replica, struct antientropy_snapshot *snapshot);
 
+/* Makes another handle of a snapshot's rows, which `other` then holds. Copies no row. Each thread that reads a snapshot
+ * has a handle of its own; the threads then need no lock. The rows are freed with the last handle.
+ * Refused, in order: EMPTY (the snapshot), HELD (`other` holds one already), NO_MEMORY. */
+uint32_t antientropy_snapshot_share(struct antientropy_snapshot *snapshot, struct antientropy_snapshot *other);
+
 /* Frees the snapshot that a handle holds, if it holds one. */
 void antientropy_snapshot_free(struct antientropy_snapshot *snapshot);
+
+/* Returns the text of a key's row in a snapshot, as antientropy_get does of a replica: no bytes if it has none. Searches
+ * by a binary search. Refused, in order: EMPTY, BAD_KEY, NO_MEMORY, SMALL. */
+uint32_t antientropy_snapshot_get(struct antientropy_snapshot *snapshot, const uint8_t *key, size_t key_len,
+                                  uint8_t *out, size_t out_len, uint64_t *need);
+
+/* Lists the keys of a leaf of a snapshot with one buffer, as antientropy_key_next does of a replica.
+ * Refused, in order: EMPTY, BAD_MESSAGE (the tree has no such leaf), BAD_KEY (`key_len` is over `key_room`), NO_VERSION
+ * (no key follows), SMALL. */
+uint32_t antientropy_snapshot_key_next(struct antientropy_snapshot *snapshot, uint64_t leaf, uint8_t *key,
+                                       size_t key_room, uint64_t *key_len);
+
+/* Returns the digest of a node of a snapshot's tree: 32 bytes. The root is node 0 at depth 0; the leaves are at depth 2,
+ * or at 3 in format 2. Refused, in order: EMPTY, BAD_MESSAGE (the tree has no such node), SMALL. */
+uint32_t antientropy_digest(struct antientropy_snapshot *snapshot, uint64_t depth, uint64_t index, uint8_t *out,
+                            size_t out_len, uint64_t *need);
 
 /* Returns the digest of a snapshot's root: 32 bytes. Two replicas of a range with equal roots hold the same versions,
  * so neither needs a session. Refused, in order: EMPTY, SMALL. */

@@ -41,7 +41,7 @@ al = record { row = Z; laws = heap_laws.the_row_laws; g = ghosts; d = impl [] tn
 
 -- any state: a handle that holds nothing says nothing of it
 abbrev pub some_state : State
-some_state = record { store = record { config = record { format = One; bits = 0; range = 0; limit = 1 }; entries = []; marks = [] }; records = []; moment = None }
+some_state = record { store = record { config = record { format = One; bits = 0; range = 0; limit = 1 }; entries = []; marks = [] }; records = []; moment = None; whole_before = 0 }
 
 module _ {M : Type 1} {𝓤 : Ura M} {𝓛 : Logic 𝓤} {K : Type 0} {Γ : List (Item 𝓤)} {G : Goal 𝓤 𝓛.H} where
   -- what a replica owns is what is held and the allocator, and it is one machine value

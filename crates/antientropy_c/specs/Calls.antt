@@ -35,4 +35,4 @@ pub record Reads (bytes : List ℕ) (Right : Result Message Refusal → Type 0) 
   pub right : Right decoded
 
 abbrev pub counts_of : State → Counts
-counts_of s = record { entries = length s.store.entries; limit = s.store.config.limit; dirty = dirty_count s.store.marks; sessions = length s.records; open_sessions = open_count s.records; first = 0; front = last_whole s.moment }
+counts_of s = record { entries = length s.store.entries; limit = s.store.config.limit; dirty = dirty_count s.store.marks; sessions = length s.records; open_sessions = open_count s.records; first = 0; front = last_whole s }

@@ -29,11 +29,14 @@ Replaces (Some bytes) code before after = (code ≡ copy_code bytes before.1)
     × (after.0 ≡ (if nat_le (length bytes) (length before.1) then length bytes else before.0))
     × (after.1 ≡ copied bytes before.1)
 
--- the least key of a leaf above the one at the front of a buffer takes its place, if the tree has such a leaf, and the
--- buffer that many bytes
+-- the least key of some rows above the one at the front of a buffer takes its place, if the buffer has that many bytes
+abbrev pub HandsNext : List Row → ℕ → ℕ × List ℕ → ℕ × List ℕ → Type 0
+HandsNext rows code before after = MatchBool (nat_le before.0 (length before.1))
+    (Replaces (key_after (take before.0 before.1) rows) code before after)
+    (HandsOut (Err BadKey) code before after)
+
+-- the rows are those of a leaf of a replica, if the tree has such a leaf
 abbrev pub HandsKeyNext : State → ℕ → ℕ → ℕ × List ℕ → ℕ × List ℕ → Type 0
 HandsKeyNext s leaf code before after = MatchBool (nat_lt leaf (leaf_count s.store.config))
-    (MatchBool (nat_le before.0 (length before.1))
-    (Replaces (key_after (take before.0 before.1) (rows_in_leaf (leaf_in s.store.config) leaf (rows_of s.store.entries))) code before after)
-    (HandsOut (Err BadKey) code before after))
+    (HandsNext (rows_in_leaf (leaf_in s.store.config) leaf (rows_of s.store.entries)) code before after)
     (HandsOut (Err BadMessage) code before after)

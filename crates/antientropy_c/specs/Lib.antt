@@ -19,6 +19,7 @@ pub mod Entries
 pub mod Keys
 pub mod Library
 pub mod OfferParts
+pub mod Readers
 pub mod Readings
 pub mod Spots
 pub mod Carried

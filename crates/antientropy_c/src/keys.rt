@@ -6,7 +6,7 @@ ghost use Rattle.range_store.specs.Rows.{rows_of};
 ghost use Rattle.range_store.specs.Store.{leaf_count, leaf_in};
 ghost use Rattle.antientropy_c.specs.Calls.{Calls};
 ghost use Rattle.antientropy_c.specs.Hands.{HandsNothing};
-ghost use Rattle.antientropy_c.specs.Keys.{key_after, HandsKeyAfter, HandsKeyNext, Replaces};
+ghost use Rattle.antientropy_c.specs.Keys.{key_after, HandsKeyAfter, HandsKeyNext, HandsNext, Replaces};
 
 use crate::numbers::{EMPTY, NO_VERSION, SMALL};
 use crate::output::copy_out;
@@ -86,6 +86,15 @@ fn show_key_next(state: &RangeState, leaf: u64, key: &mut [u8], key_len: &mut u6
     let Some(rows) = leaf_of(state, leaf) else {
         return Refusal::BadMessage.number() as u32;
     };
+    next_key(rows, key, key_len)
+}
+
+/// Puts the least key of some rows above a key in that key's place. Returns 0, or the number of BadKey, NO_VERSION or
+/// SMALL.
+pub(crate) fn next_key(rows: &SharedLeaf, key: &mut [u8], key_len: &mut u64) -> u32
+    requires { AscendByKey rows.now.rows }
+    ensures { HandsNext rows.now.rows result (key_len.old, key.old) (key_len.new, key.new) }
+{
     if *key_len > key.len() as u64 {
         return Refusal::BadKey.number() as u32;
     }

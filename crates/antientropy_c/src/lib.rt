@@ -27,6 +27,7 @@ pub mod portions;
 pub mod publication;
 mod published;
 pub mod puts;
+pub mod readers;
 pub mod readings;
 pub mod renewal;
 pub mod replica;

@@ -1,8 +1,8 @@
 //! The moment of a replica: its rows at a time, which are hashed and offered while it goes on.
-ghost use Rattle.std.specs.Prelude.{◌≡◌, ℕ, None, Result, ⊤};
+ghost use Rattle.std.specs.Prelude.{◌≡◌, ℕ, Result, ⊤};
 ghost use Rattle.vclock.specs.Outcome.{Does, gives};
 ghost use Rattle.vclock.specs.declared.refusal.Refusal.{Refusal};
-ghost use Rattle.range_state.specs.Moments.{with_moment, moment_fault, front_of};
+ghost use Rattle.range_state.specs.Moments.{with_moment, without_moment, moment_fault, front_of};
 ghost use Rattle.range_state.specs.Portions.{HashesMoment};
 ghost use Rattle.range_state.specs.State.{rows_at};
 ghost use Rattle.antientropy_c.specs.Calls.{Calls};
@@ -39,7 +39,7 @@ pub extern "C" fn antientropy_hold(alloc: Global, replica: &mut Replica) -> u32
 #[unsafe(no_mangle)]
 #[tactic(auto, using(crate::proofs::CallLaws::empty, crate::proofs::CallLaws::held))]
 pub extern "C" fn antientropy_drop_moment(alloc: Global, replica: &mut Replica) -> u32
-    ensures { Calls result replica.old replica.new ⊤ (λ s t. (result ≡ 0) × (t ≡ record s { moment = None })) }
+    ensures { Calls result replica.old replica.new ⊤ (λ s t. (result ≡ 0) × (t ≡ without_moment s)) }
 {
     let Some(mut state) = replica.take(alloc) else {
         return EMPTY;

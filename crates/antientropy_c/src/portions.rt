@@ -1,7 +1,7 @@
 //! Portions of a replica's moment, which are hashed while the replica is in other calls.
 ghost use Rattle.std.specs.Prelude.{◌≡◌, false, None, ⊤};
 ghost use Rattle.vclock.specs.Answer.{Answers};
-ghost use Rattle.range_state.specs.Moments.{AreMomentJobs};
+ghost use Rattle.range_state.specs.Portions.{IsPortion};
 ghost use Rattle.antientropy_c.specs.Calls.{Calls, CallsOn};
 ghost use Rattle.antientropy_c.specs.Makes.{MakesIn, Takes};
 ghost use Rattle.antientropy_c.specs.Portions.{nodes_in, Installs};
@@ -27,7 +27,7 @@ pub extern "C" fn antientropy_take_portion(
     portion: &mut PortionHandle,
 ) -> u32
     ensures { Calls result replica.old replica.new (portion.new ≡ portion.old) (λ s t. (t ≡ s)
-        × MakesIn result (nodes_in portion.old) (nodes_in portion.new) None (AreMomentJobs s.moment most)) }
+        × MakesIn result (nodes_in portion.old) (nodes_in portion.new) None (IsPortion s.moment most)) }
 {
     let Some(state) = replica.take(alloc) else {
         return EMPTY;
@@ -40,7 +40,7 @@ pub extern "C" fn antientropy_take_portion(
 /// Takes a portion into a handle.
 #[tactic(auto, using(crate::proofs::MakeLaws::already, crate::proofs::MakeLaws::made))]
 fn take_portion(alloc: Global, state: &RangeState, most: u64, portion: &mut PortionHandle) -> u32
-    ensures { MakesIn result (nodes_in portion.old) (nodes_in portion.new) None (AreMomentJobs state.now.moment most) }
+    ensures { MakesIn result (nodes_in portion.old) (nodes_in portion.new) None (IsPortion state.now.moment most) }
 {
     if let Some(held) = portion.take(alloc) {
         portion.hold(held);
@@ -57,7 +57,7 @@ fn make(
     portion: &mut PortionHandle,
 ) -> Result<(), Refusal>
     requires { portion.old.held ≡ false }
-    ensures { Takes (nodes_in portion.new) None (AreMomentJobs state.now.moment most) result }
+    ensures { Takes (nodes_in portion.new) None (IsPortion state.now.moment most) result }
 {
     let taken = boxed(alloc, state, most)?;
     portion.hold(taken);
@@ -66,7 +66,7 @@ fn make(
 
 /// Makes a box with a portion.
 fn boxed(alloc: Global, state: &RangeState, most: u64) -> Result<Box<Portion, Global>, Refusal>
-    ensures { Answers result None (λ portion. AreMomentJobs state.now.moment most portion.value) }
+    ensures { Answers result None (λ portion. IsPortion state.now.moment most portion.value) }
 {
     let portion = state.take_portion(alloc, most as usize)?;
     Ok(Box::new(alloc, portion)?)

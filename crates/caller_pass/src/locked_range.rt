@@ -7,7 +7,7 @@ ghost use Rattle.vclock.specs.Outcome.{Does, DoesAtOnce, DoesOrNoMemory, gives, 
 ghost use Rattle.range_state.specs.Counts.{counts_of};
 ghost use Rattle.range_store.specs.Store.{is_sent, ask_fault, dirty_fault, rows_now, tree_in};
 ghost use Rattle.range_state.specs.State.{install, rows_at};
-ghost use Rattle.range_state.specs.Moments.{with_moment, AreMomentJobs, install_moment, moment_fault, front_of, open_at_moment};
+ghost use Rattle.range_state.specs.Moments.{with_moment, without_moment, AreMomentJobs, install_moment, moment_fault, front_of, open_at_moment};
 ghost use Rattle.range_state.specs.Sessions.{open_session, cancel_session, unknown_fault};
 ghost use Rattle.range_state.specs.Migrates.{migrate};
 ghost use Rattle.range_state.specs.Syncs.{IsFirstOf};
@@ -324,7 +324,7 @@ impl<L: Ledger> LockedRange<L> {
 
     /// Lets go of the moment, if there is one. Doesn't allocate.
     pub fn drop_moment(&mut self)
-        ensures { self.new ≡ moved self.old (record self.old.state { moment = None }) }
+        ensures { self.new ≡ moved self.old (without_moment self.old.state) }
     {
         self.state.drop_moment();
         let _right = self.state.journal();

@@ -158,7 +158,7 @@ leaves_grow : (s : Store) (seat : ℕ) (other : RowMap) (known : ℕ) (leaves : 
 leaves_grow s seat other known [] key node = omega arith
 leaves_grow s seat other known (n ∷ leaves) key node =
     let next = taken_in s seat (offers_at other n) in
-    let first = top_grows (record { store = s; records = []; moment = None }) (record { store = next; records = []; moment = None }) key node (offered_on (record { store = s; records = []; moment = None }) seat Partner (offers_at other n)) in
+    let first = top_grows (record { store = s; records = []; moment = None; whole_before = 0 }) (record { store = next; records = []; moment = None; whole_before = 0 }) key node (offered_on (record { store = s; records = []; moment = None; whole_before = 0 }) seat Partner (offers_at other n)) in
     let later = leaves_grow next seat other (known + known_in s seat (offers_at other n)) leaves key node in
     by_fault (leaf_fault s seat (offers_at other n)) (taken_leaves next seat other (known + known_in s seat (offers_at other n)) leaves) (omega (arith, first, later))
   where

@@ -42,8 +42,8 @@ pub all_rows_at : (s : Store) → rows_at s (length s.entries) ≡ rows_now s
 all_rows_at s = ap (λ es. record { format = s.config.format; bits = s.config.bits; range = s.config.range; rows = rows_of es }) (take_all (length s.entries) s.entries (omega arith))
 
 -- the tree now is a moment's
-pub moment_now : (s : Store) (whole : ℕ) → IsSound s → IsMomentOf s (record { tree = tree_in s; front = length s.entries; whole = whole })
-moment_now s whole ok = record { front = omega arith; rows = sym (all_rows_at s); right = tree_now s ok }
+pub moment_now : (s : Store) → IsSound s → IsMomentOf s (record { tree = tree_in s; front = length s.entries })
+moment_now s ok = record { front = omega arith; rows = sym (all_rows_at s); right = tree_now s ok }
 
 -- the rows of the first entries are held, or below those that are
 pub held_at : (s : Store) (front : ℕ) → Held (rows_at s front).rows (held s.entries)

@@ -111,7 +111,7 @@ recorded_right s r ok room beside kept = record {
 -- entries more, and a record in the place of another
 pub stepped_right : (s : State) (t : Store) (more : List Entry) (id : ℕ) (r new : Record) → IsRight s → IsSound t → t.config ≡ s.store.config → t.entries ≡ s.store.entries ++ more
     → r ≡ get_or s.records id r → (is_open new ≡ true → is_open r ≡ true) → IsKept s.store.config (s.store.entries ++ more) new → Keeps r.session new.session → AllByRecursion (λ (e : Entry). Any (λ (x : Record). HasTaken x.session e) (set s.records id new)) more
-    → IsRight (record { store = t; records = set s.records id new; moment = s.moment })
+    → IsRight (record { store = t; records = set s.records id new; moment = s.moment; whole_before = s.whole_before })
 stepped_right s t more id r new ok sound config entries was stays kept keeps come =
     let records = set s.records id new in
     let all = all-set (IsKept s.store.config (s.store.entries ++ more)) s.records id new kept (all_kept s.store.config s.store.entries more s.records ok.records) in

@@ -23,14 +23,21 @@ abbrev pub dirty_in : Option Moment → ℕ
 dirty_in None = 0
 dirty_in (Some m) = dirty_count m.tree.marks
 
--- the number of entries at the last moment that was whole: this one, if each of its nodes has a digest
-abbrev pub last_whole : Option Moment → ℕ
-last_whole None = 0
-last_whole (Some m) = if dirty_count m.tree.marks == 0 then m.front else m.whole
+-- the number of entries at the last moment that was whole: the one that is kept, if each of its nodes has a digest
+abbrev pub whole_from : Option Moment → ℕ → ℕ
+whole_from None before = before
+whole_from (Some m) before = if dirty_count m.tree.marks == 0 then m.front else before
+
+abbrev pub last_whole : State → ℕ
+last_whole s = whole_from s.moment s.whole_before
 
 -- the state that keeps the rows now as its moment
 abbrev pub with_moment : State → State
-with_moment s = record s { moment = Some (record { tree = tree_in s.store; front = length s.store.entries; whole = last_whole s.moment }) }
+with_moment s = record s { moment = Some (record { tree = tree_in s.store; front = length s.store.entries }); whole_before = last_whole s }
+
+-- the state that keeps no moment
+abbrev pub without_moment : State → State
+without_moment s = record s { moment = None; whole_before = last_whole s }
 
 -- jobs of a moment's dirty nodes whose children are clean: of the first `most`, or of all if there are fewer; none
 -- without a moment

@@ -5,4 +5,4 @@ use Rattle.range_state.specs.State.{State}
 
 -- a renewed store, without sessions and moment
 abbrev pub renewed_by : State → ℕ → ℕ → State
-renewed_by s seat limit = record { store = stores.renewed_by s.store seat limit; records = []; moment = None }
+renewed_by s seat limit = record { store = stores.renewed_by s.store seat limit; records = []; moment = None; whole_before = 0 }

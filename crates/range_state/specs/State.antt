@@ -28,15 +28,17 @@ use Rattle.range_state.specs.declared.«record».Record.{Record}
 use Rattle.range_state.specs.declared.moment.Moment.{Moment}
 use Rattle.range_state.specs.Records.{IsKept, open_count}
 
--- the store, the records of the sessions, each at the place of its number, and the moment that is kept, if any
+-- the store, the records of the sessions, each at the place of its number, the moment that is kept, if any, and the number
+-- of entries at the last whole moment before it
 pub record State : Type 0 where
   pub store : Store
   pub records : List Record
   pub moment : Option Moment
+  pub whole_before : ℕ
 
 -- a range that has accepted nothing
 abbrev pub fresh : Config → State
-fresh c = record { store = stores.fresh c; records = []; moment = None }
+fresh c = record { store = stores.fresh c; records = []; moment = None; whole_before = 0 }
 
 -- the state with another store
 abbrev pub with_store : State → Store → State

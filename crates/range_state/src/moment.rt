@@ -8,9 +8,6 @@ pub struct Moment {
     pub(crate) tree: Tree,
     /// The number of entries that the journal had.
     pub(crate) front: u64,
-    /// The number of entries at the last moment before that was whole: that had a digest at each node. 0 if there was
-    /// none.
-    pub(crate) whole: u64,
 }
 
 impl Drop for Moment {
@@ -19,7 +16,6 @@ impl Drop for Moment {
         let Moment {
             tree: _tree,
             front: _front,
-            whole: _whole,
         } = self;
     }
 }

@@ -1,7 +1,8 @@
 //! Portions of a moment's nodes, which are hashed without the range.
-ghost use Rattle.std.specs.Prelude.{◌≡◌, ◌≤◌, ◌+◌, ◌++◌, None, length};
+ghost use Rattle.std.specs.Prelude.{◌≡◌, ◌≤◌, ◌+◌, ◌++◌, None, length, take};
 ghost use Rattle.std.specs.Vec.{vec_capacity};
 ghost use Rattle.vclock.specs.Answer.{Answers};
+ghost use Rattle.range_state.specs.Portions.{begun_within};
 
 use rehash::{Job, run_job};
 use std::alloc::Global;
@@ -9,6 +10,9 @@ use std::marker::Model;
 use std::mem::replace;
 use tree_nodes::{Hashed, NodeAt};
 use vclock::Refusal;
+
+/// The number of bytes of its texts with which a portion ends. So a range compares about as many under its lock.
+const PORTION_LEN: usize = 262_144;
 
 /// A node of a moment, and its hashed text.
 #[derive(Drop)]
@@ -53,10 +57,12 @@ impl Model for Portion {
 }
 
 impl Portion {
-    /// Makes the portion of some jobs. Refused: NoMemory; the jobs are then lost.
-    pub(crate) fn of(alloc: Global, jobs: Vec<Job>) -> Result<Portion, Refusal>
-        ensures { Answers result None (λ portion. portion ≡ jobs.items) }
+    /// Makes a portion of the first jobs, up to the one with which their texts have 262,144 bytes. Refused: NoMemory.
+    /// The jobs that it doesn't have are lost.
+    pub(crate) fn of(alloc: Global, mut jobs: Vec<Job>) -> Result<Portion, Refusal>
+        ensures { Answers result None (λ portion. portion ≡ begun_within 262144 jobs.items) }
     {
+        jobs.truncate(portion_len(&jobs));
         Ok(Portion {
             hashed: Vec::with_capacity(alloc, jobs.len())?,
             jobs,
@@ -78,6 +84,20 @@ impl Portion {
     {
         hash_all(self.hashed, self.jobs)
     }
+}
+
+/// Returns the number of the first jobs that a portion has. Doesn't allocate.
+fn portion_len(jobs: &[Job]) -> usize
+    ensures { take result jobs.now ≡ begun_within 262144 jobs.now }
+{
+    let mut left = PORTION_LEN;
+    for (count, job) in jobs.iter().enumerate() {
+        if left == 0 {
+            return count;
+        }
+        left = left.saturating_sub(job.text_len());
+    }
+    jobs.len()
 }
 
 /// Hashes the nodes of some jobs, and returns them after others that are hashed. Doesn't allocate.

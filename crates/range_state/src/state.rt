@@ -48,6 +48,9 @@ pub struct RangeState {
     store: RangeStore,
     records: Vec<Record>,
     moment: Option<Moment>,
+    /// The number of entries at the last moment before that was whole: that had a digest at each node. 0 if there was
+    /// none.
+    whole_before: u64,
 }
 
 impl Model for RangeState {
@@ -55,9 +58,9 @@ impl Model for RangeState {
 
     ghost Value = { State };
 
-    ghost view = { λ r. record { store = r.store; records = r.records.items; moment = r.moment } };
+    ghost view = { λ r. record { store = r.store; records = r.records.items; moment = r.moment; whole_before = r.whole_before } };
 
-    ghost invariant = { λ r. IsRight (record { store = r.store; records = r.records.items; moment = r.moment }) };
+    ghost invariant = { λ r. IsRight (record { store = r.store; records = r.records.items; moment = r.moment; whole_before = r.whole_before }) };
 }
 
 impl RangeState {
@@ -76,6 +79,7 @@ impl RangeState {
             store: RangeStore::seeded(alloc, config, seed)?,
             records: Vec::new(alloc),
             moment: None,
+            whole_before: 0,
         })
     }
 
@@ -211,6 +215,7 @@ impl Drop for RangeState {
             store: _store,
             records: _records,
             moment: _moment,
+            whole_before: _whole_before,
         } = self;
     }
 }

@@ -50,6 +50,6 @@ pub fn hash_here(alloc: Global, jobs: Vec<Job>) -> Result<Vec<Hashed>, Refusal>
 fn least_piece(jobs: &[Job]) -> usize {
     let bytes = jobs
         .iter()
-        .fold(0usize, |sum, job| sum.saturating_add(job.room()));
+        .fold(0usize, |sum, job| sum.saturating_add(job.text_len()));
     jobs.len().saturating_mul(PIECE_LEN) / bytes.max(1)
 }

@@ -1,5 +1,5 @@
 //! Jobs: nodes whose texts are to be hashed.
-ghost use Rattle.std.specs.Prelude.{◌≡◌, None};
+ghost use Rattle.std.specs.Prelude.{◌≡◌, None, length};
 ghost use Rattle.vclock.specs.Answer.{Answers};
 ghost use Rattle.hash_tree.specs.Texts.{leaf_text, inner_text};
 
@@ -74,9 +74,16 @@ impl Job {
         self.node
     }
 
-    /// Returns the capacity of its room in bytes: the length of its text or a few more.
-    pub(crate) fn room(&self) -> usize {
-        self.room.capacity()
+    /// Returns the length of its text in bytes. Reads no row.
+    #[tactic(auto, unfolding(hash_tree::specs::Texts::inner_text))]
+    pub fn text_len(&self) -> usize
+        ensures { result ≡ length self.now.text }
+    {
+        let _room = self.room.capacity();
+        match &self.source {
+            TextSource::Leaf(leaf) => leaf.text_len() as usize,
+            TextSource::Children(_, digests) => 1 + digests.as_flattened().len(),
+        }
     }
 
     /// Writes the text into its room. Doesn't allocate.

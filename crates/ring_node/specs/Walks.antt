@@ -7,7 +7,6 @@ use Rattle.tree_nodes.specs.Nodes.{Node}
 use Rattle.sync_session.specs.declared.state.SessionState.{SessionState}
 use Rattle.sync_session.specs.declared.state.SessionState.TheVariants.{Open}
 use Rattle.walk_messages.specs.declared.message.Offer.{Offer}
-use Rattle.range_state.specs.State.{State}
 use Rattle.range_state.specs.Sessions.{open_session}
 use Rattle.range_state.specs.Moments.{opening}
 use Rattle.range_state.specs.Syncs.{IsFirstOf}

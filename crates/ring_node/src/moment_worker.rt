@@ -3,8 +3,7 @@ ghost use Rattle.std.specs.Prelude.{◌≡◌, ◌⊎◌, ◌+◌, ◌<◌, ◌�
 ghost use Rattle.std.specs.Arc.{arc_value};
 ghost use Rattle.vclock.specs.Answer.{Answers};
 ghost use Rattle.vclock.specs.Outcome.{Does, gives};
-ghost use Rattle.range_state.specs.State.{rows_at};
-ghost use Rattle.range_state.specs.Moments.{with_moment, AreMomentJobs, moment_fault, front_of};
+ghost use Rattle.range_state.specs.Moments.{with_moment, without_moment, AreMomentJobs, moment_fault};
 ghost use Rattle.caller_pass.specs.Locks.{IsLocked, moved};
 ghost use Rattle.ring_node.specs.Moments.{FoundAtSomeMoment, ChangedAtSomeMoment};
 ghost use Rattle.ring_node.specs.Reports.{IsSnapshotOfMoment};
@@ -97,7 +96,7 @@ impl<L: Ledger> SharedRange<L> {
     /// Lets go of the moment, if there is one. Doesn't allocate.
     pub fn drop_moment<R: Wait>(&self, rt: &R)
         ensures { ChangedAtSomeMoment (IsLocked L.parts) (λ before after.
-            after ≡ moved before (record before.state { moment = None })) }
+            after ≡ moved before (without_moment before.state)) }
     {
         let mut range = self.range.lock(rt);
         // Called for its clause `valid` alone: the range is right.

@@ -1,2 +1,3 @@
 pub mod OrderLaws
+pub mod RowLaws
 pub mod ShownLaws

@@ -1,24 +1,26 @@
 //! Snapshots.
 ghost use Rattle.std.specs.Prelude.{◌≡◌, ◌<◌, ◌≤◌, ◌^◌, None};
-ghost use Rattle.std.specs.List.{flat_map};
+ghost use Rattle.std.specs.List.{AllByRecursion, flat_map};
 ghost use Rattle.std.specs.Arc.{arc_value};
 ghost use Rattle.vclock.specs.Answer.{Answers};
 ghost use Rattle.vclock.specs.Format.{format_number};
+ghost use Rattle.version_set.specs.Kind.{value_fault};
 ghost use Rattle.key_ring.specs.Places.{leaf_bits};
 ghost use Rattle.row_bytes.specs.Rows.{row_text};
-ghost use Rattle.hash_tree.specs.Leaves.{rows_in_leaf};
+ghost use Rattle.hash_tree.specs.Leaves.{rows_in_leaf, versions_in};
 ghost use Rattle.tree_nodes.specs.Nodes.{IsNode, tree_depth};
 ghost use Rattle.hash_tree.specs.Texts.{inner_text, leaf_text};
 ghost use Rattle.snapshot.specs.RowMaps.{IsRowMap, leaf_in, text_at, digest_at, root_of};
 ghost use Rattle.snapshot.specs.Snapshots.{IsSnapshot, map_of, answer_fault, leaf_fault};
 
 use hash_tree::{Leaves, SharedLeaf, inner_text};
-use key_ring::leaf_count;
+use key_ring::{leaf_count, place};
 use std::alloc::Global;
 use std::marker::Model;
 use std::sync::Arc;
 use tree_nodes::{Digest, Hashed, NodeAt, SharedDigests, Text, tree_depth};
 use vclock::{Format, Refusal};
+use version_set::Held;
 use walk_messages::{Ask, Offer};
 
 /// All rows of a range at one moment, with the digest of each node of the tree over them. It shares leaves and
@@ -169,6 +171,18 @@ impl Snapshot {
         ensures { result.now ≡ record { format = self.now.format; rows = rows_in_leaf (leaf_in self.now) leaf self.now.rows } }
     {
         self.leaves.get(leaf)
+    }
+
+    /// Returns the versions of a key, by a binary search in its leaf: none if the key has no row here. The key may have
+    /// any length. Doesn't allocate.
+    pub fn find(&self, key: &[u8]) -> Held<'_>
+        ensures held { result ≡ versions_in key.now self.now.rows }
+        ensures fit { AllByRecursion (λ v. value_fault self.now.format v.kind v.value ≡ None) (versions_in key.now self.now.rows) }
+    {
+        // Called for its clause alone: the rows have a tree.
+        let format = self.format();
+        let leaf = place(format, self.bits, key).leaf;
+        Held::new(self.rows(leaf).find(key))
     }
 
     /// Returns the text of the node in an ask (this project's profile).

@@ -1,6 +1,6 @@
 //! Judgement of a partner's text before anything of it is kept.
 ghost use Rattle.std.specs.Prelude.{◌≡◌, ◌+◌, ℕ, List, [], ◌∷◌, ◌++◌, ⊤, None, length};
-ghost use Rattle.vclock.specs.Answer.{Answers, AnswersAtOnce, AnswersOrNoMemory};
+ghost use Rattle.vclock.specs.Answer.{AnswersAtOnce, AnswersOrNoMemory};
 ghost use Rattle.range_journal.specs.Journal.{held};
 ghost use Rattle.range_journal.specs.declared.journal.Source.TheVariants as sources;
 ghost use Rattle.row_bytes.specs.declared.row.Row.{Row};

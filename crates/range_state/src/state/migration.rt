@@ -22,7 +22,7 @@ impl RangeState {
             Format::One => {
                 self.store.migrate(alloc)?;
                 cancel_all(&mut self.records);
-                self.moment = None;
+                self.drop_moment();
                 Ok(())
             }
             Format::Two => Ok(()),

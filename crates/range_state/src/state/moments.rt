@@ -4,7 +4,7 @@ ghost use Rattle.std.specs.Arc.{arc_value};
 ghost use Rattle.vclock.specs.Answer.{Answers};
 ghost use Rattle.vclock.specs.Outcome.{Does, DoesAtOnce, gives};
 ghost use Rattle.range_state.specs.State.{rows_at};
-ghost use Rattle.range_state.specs.Moments.{with_moment, AreMomentJobs, with_digest, install_moment, moment_fault, front_of, open_at_moment, shown_fault, shown_rows, opening};
+ghost use Rattle.range_state.specs.Moments.{with_moment, without_moment, AreMomentJobs, with_digest, install_moment, moment_fault, front_of, open_at_moment, shown_fault, shown_rows, opening};
 
 use crate::local_rows::LocalRows;
 use crate::moment::Moment;
@@ -30,15 +30,16 @@ impl RangeState {
     {
         let tree = self.store.tree().share(alloc)?;
         let front = self.store.journal().len();
-        let whole = self.whole_front();
-        self.moment = Some(Moment { tree, front, whole });
+        self.drop_moment();
+        self.moment = Some(Moment { tree, front });
         Ok(())
     }
 
-    /// Lets go of the moment, if there is one. Doesn't allocate.
+    /// Lets go of the moment, if there is one; `whole_front` stays. Doesn't allocate.
     pub fn drop_moment(&mut self)
-        ensures { self.new ≡ record self.old { moment = None } }
+        ensures { self.new ≡ without_moment self.old }
     {
+        self.whole_before = self.whole_front();
         self.moment = None;
     }
 

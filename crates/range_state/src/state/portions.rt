@@ -1,8 +1,8 @@
 //! Portions of the moment of a range.
 ghost use Rattle.std.specs.Prelude.{◌≡◌, None};
 ghost use Rattle.vclock.specs.Answer.{Answers};
-ghost use Rattle.range_state.specs.Moments.{AreMomentJobs, install_moment, dirty_in, last_whole};
-ghost use Rattle.range_state.specs.Portions.{after_install, installed_all, HashesMoment};
+ghost use Rattle.range_state.specs.Moments.{install_moment, dirty_in, last_whole};
+ghost use Rattle.range_state.specs.Portions.{IsPortion, after_install, installed_all, HashesMoment};
 
 use crate::portion::Portion;
 use crate::state::RangeState;
@@ -11,9 +11,9 @@ use tree_nodes::{Hashed, NodeAt};
 use vclock::Refusal;
 
 impl RangeState {
-    /// Hashes at most `most` of the moment's dirty nodes whose children are clean, in the order of their places, in the
-    /// caller's thread, and returns the number of its nodes that are dirty then: 0 without a moment. A caller that
-    /// repeats it until that number is 0 can do other work between.
+    /// Hashes a portion of the moment's nodes, as `take_portion` makes it, in the caller's thread. Returns the number of
+    /// its nodes that are dirty then: 0 without a moment. A caller that repeats it until that number is 0 can do other
+    /// work between.
     ///
     /// Refused: NoMemory. Then the state is unchanged.
     pub fn hash_moment(&mut self, alloc: Global, most: usize) -> Result<usize, Refusal>
@@ -23,10 +23,11 @@ impl RangeState {
         Ok(self.install_portion(portion))
     }
 
-    /// Returns a portion of the moment's dirty nodes whose children are clean: all of them, or the first `most` if there
-    /// are more. It has room for their digests. Without a moment it has no node. Refused: NoMemory.
+    /// Returns a portion of the moment's dirty nodes whose children are clean: at most `most` of them, the first ones in
+    /// the order of their places, up to the one with which their texts have 262,144 bytes. It has room for their
+    /// digests. Without a moment it has no node. Refused: NoMemory.
     pub fn take_portion(&self, alloc: Global, most: usize) -> Result<Portion, Refusal>
-        ensures { Answers result None (AreMomentJobs self.now.moment most) }
+        ensures { Answers result None (IsPortion self.now.moment most) }
     {
         Portion::of(alloc, self.take_moment_jobs(alloc, most)?)
     }
@@ -62,19 +63,13 @@ impl RangeState {
     }
 
     /// Returns the number of entries that the journal had at the last moment that was whole: that had a digest at each
-    /// node. Returns 0 if there was none, or if the moments were dropped. Doesn't allocate.
+    /// node. Returns 0 if there was none. Doesn't allocate.
     pub fn whole_front(&self) -> u64
-        ensures { result ≡ last_whole self.now.moment }
+        ensures { result ≡ last_whole self.now }
     {
         match &self.moment {
-            Some(moment) => {
-                if moment.tree.dirty_count() == 0 {
-                    moment.front
-                } else {
-                    moment.whole
-                }
-            }
-            None => 0,
+            Some(moment) if moment.tree.dirty_count() == 0 => moment.front,
+            _ => self.whole_before,
         }
     }
 }

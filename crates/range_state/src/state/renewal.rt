@@ -23,6 +23,7 @@ impl RangeState {
             store: self.store.renewed(alloc, seat, limit)?,
             records: Vec::new(alloc),
             moment: None,
+            whole_before: 0,
         })
     }
 }

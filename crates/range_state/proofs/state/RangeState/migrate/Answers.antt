@@ -11,7 +11,7 @@ use Rattle.range_state.proofs.state.RangeState.migrate.Goals as goal
 
 pub invariant_of-self-in-One : goal.invariant_of-self-in-One
 invariant_of-self-in-One c =
-    let s : State = record { store = c.self.inside.store; records = c.self.inside.records.items; moment = c.self.inside.moment } in
+    let s : State = record { store = c.self.inside.store; records = c.self.inside.records.items; moment = c.self.inside.moment; whole_before = c.self.inside.whole_before } in
     let one : s.store.config.format ≡ One = sym (c.format.ensures ∙ ap (λ (x : Config). x.format) c.config.ensures) ∙ c.in-One.is in
     let new : c.migrate.new.self ≡ stores.in_two s.store = given_state (c.in_ok-migrate-in-One.ensures) ∙ ap (λ (f : Format). stores.migrated_from f s.store) one in
-    subst IsRight (λ i. record { store = sym new i; records = sym c.cancel_all.ensures i; moment = None }) (right_in_two s c.self.invariant (store_laws.right_in_two s.store c.self.invariant.store one))
+    subst IsRight (λ i. record { store = sym new i; records = sym c.cancel_all.ensures i; moment = None; whole_before = last_whole s }) (right_in_two s c.self.invariant (store_laws.right_in_two s.store c.self.invariant.store one))
