@@ -149,7 +149,7 @@ static void hold(void)
 /* Lets replica b take what replica a has. */
 static void sync(void)
 {
-    struct antientropy_snapshot snapshot = {0};
+    struct antientropy_snapshot snapshot = {0}, shared = {0};
     struct antientropy_offer_parts parts;
     struct antientropy_taken taken = {0};
     uint8_t ask[ANTIENTROPY_ASK_LEN], offer[ANTIENTROPY_OFFER_LEN];
@@ -177,7 +177,11 @@ static void sync(void)
         DO("antientropy_rows", antientropy_rows(&snapshot, leaf, out, ROOM, &need));
         add(out, need);
     }
+    DO("antientropy_snapshot_share", antientropy_snapshot_share(&snapshot, &shared));
     antientropy_snapshot_free(&snapshot);
+    DO("antientropy_snapshot_get", antientropy_snapshot_get(&shared, (const uint8_t *)"k\001", 2, out, ROOM, &need));
+    add(out, need);
+    antientropy_snapshot_free(&shared);
 }
 
 /* Keeps hints, renews them, and makes slots. */

@@ -323,6 +323,49 @@ static void offer_now(struct antientropy_replica *replica, struct antientropy_sn
     OK(antientropy_offer(snapshot, OFFER, offer, ANTIENTROPY_OFFER_LEN, &need));
 }
 
+/* Handles of one snapshot of the replica `made`, and what is read of it. */
+static void read_snapshot(struct antientropy_snapshot *snapshot)
+{
+    struct antientropy_snapshot other = {0};
+    struct antientropy_spot spot;
+    uint8_t row[ROOM], key[8] = "c-------", digest[ANTIENTROPY_ROOT_LEN];
+    uint64_t row_len, len = 1, leaf;
+    SEE(snapshot_share, EMPTY, antientropy_snapshot_share(&nothing, &other));
+    OK(antientropy_snapshot_share(snapshot, &other));
+    SEE(snapshot_share, HELD, antientropy_snapshot_share(snapshot, &other));
+    OK(antientropy_root(snapshot, digest, sizeof digest, &need));
+    antientropy_snapshot_free(snapshot);
+    OK(antientropy_digest(&other, 0, 0, out, ROOM, &need));
+    is("the rows are freed with the last handle", memcmp(digest, out, sizeof digest) == 0);
+
+    SEE(snapshot_get, EMPTY, antientropy_snapshot_get(&nothing, KEY, 4, out, ROOM, &need));
+    SEE(snapshot_get, BAD_KEY, antientropy_snapshot_get(&other, KEY, 0, out, ROOM, &need));
+    SEE(snapshot_get, SMALL, antientropy_snapshot_get(&other, KEY, 4, out, 1, &need));
+    OK(antientropy_snapshot_get(&other, KEY, 4, out, ROOM, &need));
+    OK(antientropy_get(&made, KEY, 4, row, ROOM, &row_len));
+    is("the row is the replica's", need == row_len && need > 0 && memcmp(row, out, need) == 0);
+    OK(antientropy_snapshot_get(&other, KEY, 3, out, ROOM, &need));
+    is("another key has no row", need == 0);
+
+    OK(antientropy_place(2, 0, KEY, 4, &spot));
+    leaf = spot.leaf;
+    SEE(snapshot_key_next, EMPTY, antientropy_snapshot_key_next(&nothing, leaf, key, sizeof key, &len));
+    SEE(snapshot_key_next, BAD_MESSAGE,
+        antientropy_snapshot_key_next(&other, ANTIENTROPY_LEAVES_2, key, sizeof key, &len));
+    SEE(snapshot_key_next, SMALL, antientropy_snapshot_key_next(&other, leaf, key, 3, &len));
+    OK(antientropy_snapshot_key_next(&other, leaf, key, sizeof key, &len));
+    is("snapshot_key_next finds the key", len == 4 && memcmp(key, "cart----", sizeof key) == 0);
+    SEE(snapshot_key_next, NO_VERSION, antientropy_snapshot_key_next(&other, leaf, key, sizeof key, &len));
+    len = sizeof key + 1;
+    SEE(snapshot_key_next, BAD_KEY, antientropy_snapshot_key_next(&other, leaf, key, sizeof key, &len));
+
+    SEE(digest, EMPTY, antientropy_digest(&nothing, 0, 0, out, ROOM, &need));
+    SEE(digest, BAD_MESSAGE, antientropy_digest(&other, 4, 0, out, ROOM, &need));
+    SEE(digest, BAD_MESSAGE, antientropy_digest(&other, 1, 16, out, ROOM, &need));
+    SEE(digest, SMALL, antientropy_digest(&other, 3, leaf, out, ANTIENTROPY_ROOT_LEN - 1, &need));
+    antientropy_snapshot_free(&other);
+}
+
 static void snapshots_and_loads(void)
 {
     struct antientropy_snapshot snapshot = {0};
@@ -349,7 +392,7 @@ static void snapshots_and_loads(void)
     struct antientropy_spot spot;
     OK(antientropy_place(2, 0, KEY, 4, &spot));
     SEE(rows, SMALL, antientropy_rows(&snapshot, spot.leaf, out, 1, &need));
-    antientropy_snapshot_free(&snapshot);
+    read_snapshot(&snapshot);
 
     OK(antientropy_get(&made, KEY, 4, row, ROOM, &row_len));
     OK(antientropy_new(&half, 2, 1, 0, 1000));
@@ -671,6 +714,9 @@ static void empty_others(struct results *at)
     EMPTY(antientropy_offer(&snapshot, OFFER, at->bytes, sizeof at->bytes, &at->number));
     EMPTY(antientropy_serve(&snapshot, OFFER, VALUE, 4, at->bytes, sizeof at->bytes, &at->number));
     EMPTY(antientropy_rows(&snapshot, 0, at->bytes, sizeof at->bytes, &at->number));
+    EMPTY(antientropy_snapshot_get(&snapshot, KEY, 4, at->bytes, sizeof at->bytes, &at->number));
+    EMPTY(antientropy_snapshot_key_next(&snapshot, 0, at->bytes, sizeof at->bytes, &at->number));
+    EMPTY(antientropy_digest(&snapshot, 0, 0, at->bytes, sizeof at->bytes, &at->number));
     EMPTY(antientropy_hash_portion(&portion));
     EMPTY(antientropy_hint_keep(&hints, 2, KEY, 4, many, 1, 0, VALUE, 4, &at->number));
     EMPTY(antientropy_hint_next(&hints, 2, 0, &at->number));
@@ -722,6 +768,7 @@ static void empty_handles(void)
     EMPTY(antientropy_renew(&empty, &full, 1000));
     EMPTY(antientropy_snapshot(&empty, &snapshot));
     EMPTY(antientropy_moment(&empty, &snapshot));
+    EMPTY(antientropy_snapshot_share(&now, &snapshot));
     EMPTY(antientropy_take_portion(&empty, 1, &portion));
     EMPTY(antientropy_install_portion(&full, &portion, &results.number));
     is("the handles are unchanged", full.held && full.at == before.at && snapshot.held && snapshot.at == kept.at

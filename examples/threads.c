@@ -1,6 +1,7 @@
 /* A replica and its snapshots in several threads. Four threads put into one replica, which a mutex guards. A fifth
- * makes snapshots of it, whose nodes it hashes without the mutex, and syncs another replica from them. The main thread
- * goes on with that replica. It ends with status 1 if a call returns another number than the one wanted. */
+ * makes snapshots of it, whose nodes it hashes without the mutex, and syncs another replica from them. Then four threads
+ * read one snapshot without a mutex, each by a handle of its own. It ends with status 1 if a call returns another number
+ * than the one wanted. */
 #define _POSIX_C_SOURCE 200809L
 #include "antientropy.h"
 
@@ -9,11 +10,14 @@
 #include <stdlib.h>
 #include <string.h>
 
-enum { WRITERS = 4, KEYS = 500, SYNCS = 10, ROOM = 1 << 16, PORTION = 16 };
+enum { WRITERS = 4, READERS = 4, KEYS = 500, SYNCS = 10, ROOM = 1 << 16, PORTION = 16 };
 
 /* The replica of node 1, which all threads use. */
 static struct antientropy_replica shared;
 static pthread_mutex_t lock = PTHREAD_MUTEX_INITIALIZER;
+
+/* The names of the writers, with which their keys begin. */
+static char names[WRITERS][2] = {"a", "b", "c", "d"};
 
 /* Ends the program unless a call returned the number that is wanted. */
 static void want(const char *call, uint32_t got, uint32_t wanted)
@@ -116,6 +120,39 @@ static void *sync_often(void *replica)
     return NULL;
 }
 
+/* A reader gets each key of each writer by its own handle of a snapshot, and frees the handle. */
+static void *read_keys(void *handle)
+{
+    struct antientropy_snapshot *snapshot = handle;
+    uint8_t row[128];
+    uint64_t len;
+    char key[16];
+    for (int n = 0; n < WRITERS * KEYS; n++) {
+        snprintf(key, sizeof key, "%s%d", names[n % WRITERS], n / WRITERS);
+        want("snapshot_get",
+             antientropy_snapshot_get(snapshot, (const uint8_t *)key, strlen(key), row, sizeof row, &len),
+             ANTIENTROPY_OK);
+        want("the row", len > 0 ? ANTIENTROPY_OK : ANTIENTROPY_NO_VERSION, ANTIENTROPY_OK);
+    }
+    antientropy_snapshot_free(snapshot);
+    return NULL;
+}
+
+/* Reads a snapshot in several threads. Returns false if a thread can't be started. */
+static bool read_beside(struct antientropy_snapshot *snapshot)
+{
+    struct antientropy_snapshot handles[READERS] = {0};
+    pthread_t threads[READERS];
+    for (int n = 0; n < READERS; n++) {
+        want("snapshot_share", antientropy_snapshot_share(snapshot, &handles[n]), ANTIENTROPY_OK);
+        if (pthread_create(&threads[n], NULL, read_keys, &handles[n]) != 0)
+            return false;
+    }
+    for (int n = 0; n < READERS; n++)
+        pthread_join(threads[n], NULL);
+    return true;
+}
+
 /* The root of a replica's rows now. */
 static void root_of(struct antientropy_replica *replica, uint8_t *root)
 {
@@ -129,7 +166,6 @@ static void root_of(struct antientropy_replica *replica, uint8_t *root)
 
 int main(void)
 {
-    static char names[WRITERS][2] = {"a", "b", "c", "d"};
     uint8_t here[ANTIENTROPY_ROOT_LEN], there[ANTIENTROPY_ROOT_LEN];
     struct antientropy_replica other = {0};
     struct antientropy_snapshot last = {0};
@@ -145,12 +181,15 @@ int main(void)
     for (int n = 0; n <= WRITERS; n++)
         pthread_join(threads[n], NULL);
     publish(&last);
+    if (!read_beside(&last))
+        return 1;
     sync_from(&last, &other, SYNCS + 1);
     root_of(&shared, here);
     root_of(&other, there);
     want("count", antientropy_count(&shared, &counts), ANTIENTROPY_OK);
     printf("%d threads put %llu versions\n", WRITERS, (unsigned long long)counts.entries);
     printf("roots equal: %s\n", memcmp(here, there, sizeof here) == 0 ? "yes" : "no");
+    printf("%d threads got %d rows of one snapshot each\n", READERS, WRITERS * KEYS);
     antientropy_free(&shared);
     antientropy_free(&other);
     return 0;
