@@ -30,9 +30,17 @@ pub extern "C" fn antientropy_hold(alloc: Global, replica: &mut Replica) -> u32
     let Some(mut state) = replica.take(alloc) else {
         return EMPTY;
     };
-    let outcome = state.hold_moment(alloc);
+    let outcome = hold(alloc, &mut state);
     replica.hold(state);
     code(&outcome)
+}
+
+/// Keeps the rows now as the moment of a replica, and frees the one before.
+fn hold(alloc: Global, state: &mut RangeState) -> Result<(), Refusal>
+    ensures { Does result state.old state.new (gives tt (with_moment state.old)) }
+{
+    let _before = state.hold_moment(alloc)?;
+    Ok(())
 }
 
 /// Lets go of the moment of a replica, if there is one. Refused: EMPTY.
@@ -44,7 +52,7 @@ pub extern "C" fn antientropy_drop_moment(alloc: Global, replica: &mut Replica) 
     let Some(mut state) = replica.take(alloc) else {
         return EMPTY;
     };
-    state.drop_moment();
+    let _moment = state.take_moment();
     replica.hold(state);
     0
 }

@@ -22,7 +22,7 @@ use crate::unread::Unread;
 use key_ring::HashedKey;
 use range_journal::Source;
 use range_state::{
-    Accepted, AnswerCounted, ContextTest, LeafRows, Loaded, RangeCounts, RangeState, Receipt,
+    Accepted, AnswerCounted, ContextTest, LeafRows, Loaded, Moment, RangeCounts, RangeState, Receipt,
     Record,
 };
 use range_store::RangeStore;
@@ -312,22 +312,24 @@ impl<L: Ledger> LockedRange<L> {
         id
     }
 
-    /// Keeps the rows now as the range's moment, as `RangeState::hold_moment` does. Refused: NoMemory. On error the range
-    /// is unchanged.
-    pub fn hold_moment(&mut self, alloc: Global) -> Result<(), Refusal>
-        ensures { Does result self.old self.new (gives tt (moved self.old (with_moment self.old.state))) }
+    /// Keeps the rows now as the range's moment, and returns the one before, as `RangeState::hold_moment` does. Refused:
+    /// NoMemory. On error the range is unchanged.
+    pub fn hold_moment(&mut self, alloc: Global) -> Result<Option<Moment>, Refusal>
+        ensures { Does result self.old self.new (gives self.old.state.moment (moved self.old (with_moment self.old.state))) }
     {
         let held = self.state.hold_moment(alloc);
         let _right = self.state.journal();
         held
     }
 
-    /// Lets go of the moment, if there is one. Doesn't allocate.
-    pub fn drop_moment(&mut self)
-        ensures { self.new ≡ moved self.old (without_moment self.old.state) }
+    /// Lets go of the moment, and returns it, if there is one. Doesn't allocate.
+    pub fn take_moment(&mut self) -> Option<Moment>
+        ensures moment { result ≡ self.old.state.moment }
+        ensures range { self.new ≡ moved self.old (without_moment self.old.state) }
     {
-        self.state.drop_moment();
+        let moment = self.state.take_moment();
         let _right = self.state.journal();
+        moment
     }
 
     /// Returns jobs of the moment's nodes, as `RangeState::take_moment_jobs` does. Refused: NoMemory.

@@ -5,13 +5,13 @@
 //!   `accept_into` for receipts in a list; for the tree `take_job`, `take_jobs`, `install`, `digest_at`, `rehash`,
 //!   `rehash_here`, `rehash_some` and `snapshot`; for a moment, whose rows are hashed while the range goes on,
 //!   `hold_moment`, `take_moment_jobs` and `install_moment`, or `hash_moment`, `take_portion` and `install_portion` for
-//!   many of its nodes, `moment`, `open_session_at_moment`, `whole_front` and `drop_moment`;
+//!   many of its nodes, `moment`, `open_session_at_moment`, `whole_front` and `take_moment`;
 //!   `load_rows`, `load_into` and `load_format` for rows as bytes; `migrate` to format 2; `renewed` for a new range
 //!   that begins with the versions held; other reads are had by `store`. For sessions with partners `open_session`,
 //!   `outstanding`, `take_answer`, `take_answer_into`, `cancel_session`, `records` and `open_sessions`, and `sync_with`
 //!   for a whole session; `reconcile` for a session each way; `counts`.
 //! - [`local_rows`]: the choice of the rows now or those of the moment, for `snapshot_of` and `open_session_by`.
-//! - [`portion`]: nodes of a moment that any thread hashes.
+//! - [`moment`]: the rows that a range had at a moment; [`portion`]: nodes of it that any thread hashes.
 //! - [`record`]: a session of a range, and its partner.
 //! - [`event`], [`run`]: the calls as events, and lists of events.
 //! - [`laws`]: laws proved from the definitions, such as that a range that finished a session holds the versions that
@@ -28,7 +28,7 @@
 pub mod event;
 pub mod laws;
 pub mod local_rows;
-mod moment;
+pub mod moment;
 pub mod portion;
 pub mod record;
 pub mod run;
@@ -39,6 +39,7 @@ pub use event::{
     Reply,
 };
 pub use local_rows::LocalRows;
+pub use moment::Moment;
 pub use portion::Portion;
 pub use range_store::{Accepted, ContextTest, LeafRows, Loaded, RangeConfig, Receipt, Seed};
 pub use record::Record;

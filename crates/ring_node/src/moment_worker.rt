@@ -78,8 +78,8 @@ impl<L: Ledger> SharedRange<L> {
         })
     }
 
-    /// Keeps the rows now as the moment of the range, as [`LockedRange::hold_moment`] does. Refused: NoMemory. On error
-    /// the range is unchanged.
+    /// Keeps the rows now as the moment of the range, as [`LockedRange::hold_moment`] does. The moment before is freed
+    /// with no lock held. Refused: NoMemory. On error the range is unchanged.
     ///
     /// [`LockedRange::hold_moment`]: caller_pass::LockedRange::hold_moment
     pub fn hold_moment<R: Wait>(&self, rt: &R, alloc: Global) -> Result<(), Refusal>
@@ -87,21 +87,26 @@ impl<L: Ledger> SharedRange<L> {
         ensures moment { ChangedAtSomeMoment (IsLocked L.parts) (λ before after.
             Does result before after (gives tt (moved before (with_moment before.state)))) }
     {
-        let mut range = self.range.lock(rt);
-        // Called for its clause `valid` alone: the range is right.
-        let _valid = range.store();
-        range.hold_moment(alloc)
+        let _before = {
+            let mut range = self.range.lock(rt);
+            // Called for its clause `valid` alone: the range is right.
+            let _valid = range.store();
+            range.hold_moment(alloc)?
+        };
+        Ok(())
     }
 
-    /// Lets go of the moment, if there is one. Doesn't allocate.
+    /// Lets go of the moment, if there is one, and frees it with no lock held. Doesn't allocate.
     pub fn drop_moment<R: Wait>(&self, rt: &R)
         ensures { ChangedAtSomeMoment (IsLocked L.parts) (λ before after.
             after ≡ moved before (without_moment before.state)) }
     {
-        let mut range = self.range.lock(rt);
-        // Called for its clause `valid` alone: the range is right.
-        let _valid = range.store();
-        range.drop_moment();
+        let _moment = {
+            let mut range = self.range.lock(rt);
+            // Called for its clause `valid` alone: the range is right.
+            let _valid = range.store();
+            range.take_moment()
+        };
     }
 
     /// Makes a snapshot of the moment, as [`LockedRange::moment`] does.

@@ -147,7 +147,8 @@ pub(crate) fn install(state: &mut RangeState, job: Job) -> Result<(), Refusal> {
 
 /// Keeps the rows now as the moment of a range.
 pub(crate) fn hold_moment(alloc: Global, state: &mut RangeState) -> Result<(), Refusal> {
-    state.hold_moment(alloc)
+    let _before = state.hold_moment(alloc)?;
+    Ok(())
 }
 
 /// Returns this number of jobs of a range's moment, or all if there are fewer.

@@ -55,7 +55,7 @@ fn hold(rt: &(impl Threads + Sync), alloc: Global) -> Result<u64, Refusal> {
     let mut state = held_range(rt, alloc)?;
     put_at(alloc, &mut state, 2)?;
     match state.hold_moment(alloc) {
-        Ok(()) => Ok(u64::from(is_whole(alloc, &state)?)),
+        Ok(_before) => Ok(u64::from(is_whole(alloc, &state)?)),
         Err(refusal) => Err(unchanged(refusal, is_whole(alloc, &state))),
     }
 }

@@ -22,7 +22,7 @@ impl RangeState {
             Format::One => {
                 self.store.migrate(alloc)?;
                 cancel_all(&mut self.records);
-                self.drop_moment();
+                let _moment = self.take_moment();
                 Ok(())
             }
             Format::Two => Ok(()),

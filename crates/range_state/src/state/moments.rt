@@ -21,26 +21,29 @@ use vclock::Refusal;
 use walk_messages::Offer;
 
 impl RangeState {
-    /// Keeps the rows now, and the digests of their tree, as the moment of the range, in the place of another one.
-    /// Shares the leaves, and copies no row: while the moment is kept, the first change of a chunk of rows copies it.
+    /// Keeps the rows now, and the digests of their tree, as the moment of the range, in the place of another one, which
+    /// it returns. Shares the leaves, and copies no row: while the moment is kept, the first change of a chunk of rows
+    /// copies it.
     ///
     /// Refused: NoMemory. On error the state is unchanged.
-    pub fn hold_moment(&mut self, alloc: Global) -> Result<(), Refusal>
-        ensures { Does result self.old self.new (gives tt (with_moment self.old)) }
+    pub fn hold_moment(&mut self, alloc: Global) -> Result<Option<Moment>, Refusal>
+        ensures { Does result self.old self.new (gives self.old.moment (with_moment self.old)) }
     {
         let tree = self.store.tree().share(alloc)?;
         let front = self.store.journal().len();
-        self.drop_moment();
+        let before = self.take_moment();
         self.moment = Some(Moment { tree, front });
-        Ok(())
+        Ok(before)
     }
 
-    /// Lets go of the moment, if there is one; `whole_front` stays. Doesn't allocate.
-    pub fn drop_moment(&mut self)
-        ensures { self.new ≡ without_moment self.old }
+    /// Lets go of the moment, and returns it, if there is one; `whole_front` is unchanged. Its rows are freed with it, so
+    /// a caller that holds a lock drops it without the lock. Doesn't allocate.
+    pub fn take_moment(&mut self) -> Option<Moment>
+        ensures moment { result ≡ self.old.moment }
+        ensures state { self.new ≡ without_moment self.old }
     {
         self.whole_before = self.whole_front();
-        self.moment = None;
+        self.moment.take()
     }
 
     /// Returns jobs of different nodes of the moment: of all its dirty nodes whose children are clean, or of the first
