@@ -20,9 +20,11 @@ impl RangeState {
     {
         match self.store.config().format() {
             Format::One => {
+                let whole = self.whole_front();
                 self.store.migrate(alloc)?;
                 cancel_all(&mut self.records);
-                let _moment = self.take_moment();
+                self.moment = None;
+                self.whole_before = whole;
                 Ok(())
             }
             Format::Two => Ok(()),
