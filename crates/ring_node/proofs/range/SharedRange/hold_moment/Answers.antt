@@ -1,0 +1,5 @@
+use Rattle.std.proofs.Common.{rules}
+use Rattle.ring_node.proofs.range.SharedRange.hold_moment.Goals as goal
+
+pub returns-clause-moment : goal.returns-clause-moment
+returns-clause-moment g c = record { before = c.deref_mut.result.now; after = c.hold_moment.new.self; right = search rules; step = search rules }
