@@ -10,6 +10,7 @@ pub mod PortionWord
 pub mod ReplicaWord
 mod Sent
 pub mod KeyLaws
+pub mod ReaderLaws
 pub mod PairLaws
 pub mod PartLaws
 pub mod LengthLaws

@@ -1,5 +1,5 @@
 -- What the installing of a portion owes, from what its parts did.
-use Rattle.std.proofs.Common.{◌≡◌, ℕ, List, sym, subst}
+use Rattle.std.proofs.Common.{◌≡◌, ℕ, List, subst}
 use Rattle.std.specs.Prelude.{Bool, true, false}
 use Rattle.rehash.specs.Jobs.{NodeText}
 use Rattle.range_state.specs.State.{State}

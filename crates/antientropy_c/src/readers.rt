@@ -165,5 +165,8 @@ fn node_of(snapshot: &Snapshot, depth: u64, index: u64) -> Option<NodeAt>
     if depth > u64::from(tree_depth(snapshot.format())) {
         return None;
     }
-    NodeAt::new(depth as u8, u16::try_from(index).ok()?)
+    if index > u64::from(u16::MAX) {
+        return None;
+    }
+    NodeAt::new(depth as u8, index as u16)
 }

@@ -17,8 +17,8 @@ use range_state::RangeState;
 use row_bytes::write_held;
 use std::alloc::Global;
 use tree_nodes::Text;
-use version_set::Held;
 use vclock::{Format, Refusal, check_key};
+use version_set::Held;
 
 /// Writes the text of the row of a key: no bytes if no version is held. Refused, in order: EMPTY, BadKey, NoMemory,
 /// SMALL.
