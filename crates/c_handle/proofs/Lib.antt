@@ -1,0 +1,3 @@
+pub mod HandleLaws
+mod Steps
+mod Words
