@@ -1,4 +1,3 @@
-pub mod Handles
 pub mod Numbers
 pub mod Hands
 pub mod Calls
@@ -6,8 +5,6 @@ pub mod Makes
 pub mod Merges
 pub mod Offers
 pub mod Pairs
-pub mod Publications
-pub mod PortionHandles
 pub mod Portions
 pub mod Puts
 pub mod Sessions
@@ -25,6 +22,4 @@ pub mod Spots
 pub mod Carried
 pub mod HintSteps
 pub mod Handoff
-pub mod HintHandles
 pub mod SlotCalls
-pub mod SlotHandles

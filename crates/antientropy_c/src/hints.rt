@@ -1,15 +1,14 @@
 //! The handle of a store of hints.
-ghost use Rattle.std.specs.Prelude.{◌≡◌, true, false, MatchOption};
-ghost use Rattle.std.specs.Prelude.{List};
+ghost use Rattle.std.specs.Prelude.{◌≡◌, true, false, List, MatchOption, Some, IfSome};
 ghost use Rattle.hint_store.specs.declared.hint.Kept.{Kept};
-ghost use Rattle.antientropy_c.specs.HintHandles.{hints_owns};
+ghost use Rattle.c_handle.specs.Handles.{c_owns};
+ghost use Rattle.hint_store.specs.contracts.store.HintStore.{the_row};
 
-use crate::place::Place;
+use c_handle::Handle;
 use hint_store::HintStore;
 use std::alloc::Global;
 use std::marker::Model;
 use std::mem::replace;
-use std::ptr::null_mut;
 
 /// A store of hints on the heap, or nothing: then all its bytes are zero, and the ghost hints are arbitrary.
 #[repr(C)]
@@ -22,29 +21,18 @@ pub struct Hints {
 }
 
 impl Model for Hints {
-    ghost also_owns = { λ h. hints_owns h.alloc h.held h.at h.kept };
+    ghost also_owns = { λ h. c_owns the_row h.alloc h.held h.at h.kept };
 }
 
 // The allocator and the contents may go to another thread, and so may the handle.
 unsafe impl Send for Hints {}
 
 impl Hints {
-    /// Makes an empty handle.
-    fn none(alloc: Global) -> Hints
-        ensures { result.held ≡ false }
+    /// Converts a handle into the one of C.
+    fn of(handle: Handle<HintStore, Global>) -> Hints
+        ensures { (result.held ≡ handle.held) × IfSome handle.value (λ x. result.kept ≡ x) }
     {
-        Hints {
-            at: null_mut(),
-            held: false,
-            alloc,
-        }
-    }
-
-    /// Makes the handle of a place.
-    fn of(place: Place<HintStore, Global>) -> Hints
-        ensures { (result.held ≡ place.held) × (result.kept ≡ place.value) }
-    {
-        let Place { at, held, alloc } = place;
+        let Handle { at, held, alloc } = handle;
         Hints {
             at: at as *mut u8,
             held,
@@ -52,12 +40,12 @@ impl Hints {
         }
     }
 
-    /// Makes the place of a handle.
-    fn into_place(self) -> Place<HintStore, Global>
-        ensures { (result.held ≡ self.held) × (result.value ≡ self.kept) }
+    /// Converts the handle of C into a handle.
+    fn into_handle(self) -> Handle<HintStore, Global>
+        ensures { (result.held ≡ self.held) × (result.value ≡ Some self.kept) }
     {
         let Hints { at, held, alloc } = self;
-        Place {
+        Handle {
             at: at as *mut HintStore,
             held,
             alloc,
@@ -70,8 +58,8 @@ impl Hints {
             (λ boxed. (self.old.held ≡ true) × (boxed.value ≡ self.old.kept)) }
         ensures none { self.new.held ≡ false }
     {
-        replace(self, Hints::none(alloc))
-            .into_place()
+        replace(self, Hints::of(Handle::none(alloc)))
+            .into_handle()
             .into_box()
             .ok()
     }
@@ -82,6 +70,6 @@ impl Hints {
         ensures held { self.new.held ≡ true }
         ensures kept { self.new.kept ≡ kept.value }
     {
-        let _before = replace(self, Hints::of(Place::of(kept)));
+        let _before = replace(self, Hints::of(Handle::of(kept)));
     }
 }

@@ -21,7 +21,6 @@ pub mod offer_parts;
 pub mod offers;
 mod output;
 pub mod pair;
-mod place;
 pub mod portion_handle;
 pub mod portions;
 pub mod publication;

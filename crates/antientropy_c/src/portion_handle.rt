@@ -1,14 +1,14 @@
 //! The handle of a portion of a moment's nodes.
-ghost use Rattle.std.specs.Prelude.{◌≡◌, true, false, List, MatchOption};
+ghost use Rattle.std.specs.Prelude.{◌≡◌, true, false, List, MatchOption, Some, IfSome};
 ghost use Rattle.rehash.specs.Jobs.{NodeText};
-ghost use Rattle.antientropy_c.specs.PortionHandles.{portion_owns};
+ghost use Rattle.c_handle.specs.Handles.{c_owns};
+ghost use Rattle.range_state.specs.contracts.portion.Portion.{the_row};
 
-use crate::place::Place;
+use c_handle::Handle;
 use range_state::Portion;
 use std::alloc::Global;
 use std::marker::Model;
 use std::mem::replace;
-use std::ptr::null_mut;
 
 /// A portion on the heap, or nothing: then all its bytes are zero, and the ghost nodes are arbitrary.
 #[repr(C)]
@@ -21,29 +21,18 @@ pub struct PortionHandle {
 }
 
 impl Model for PortionHandle {
-    ghost also_owns = { λ h. portion_owns h.alloc h.held h.at h.nodes };
+    ghost also_owns = { λ h. c_owns the_row h.alloc h.held h.at h.nodes };
 }
 
 // The allocator and the contents may go to another thread, and so may the handle.
 unsafe impl Send for PortionHandle {}
 
 impl PortionHandle {
-    /// Makes an empty handle.
-    fn none(alloc: Global) -> PortionHandle
-        ensures { result.held ≡ false }
+    /// Converts a handle into the one of C.
+    fn of(handle: Handle<Portion, Global>) -> PortionHandle
+        ensures { (result.held ≡ handle.held) × IfSome handle.value (λ x. result.nodes ≡ x) }
     {
-        PortionHandle {
-            at: null_mut(),
-            held: false,
-            alloc,
-        }
-    }
-
-    /// Makes the handle of a place.
-    fn of(place: Place<Portion, Global>) -> PortionHandle
-        ensures { (result.held ≡ place.held) × (result.nodes ≡ place.value) }
-    {
-        let Place { at, held, alloc } = place;
+        let Handle { at, held, alloc } = handle;
         PortionHandle {
             at: at as *mut u8,
             held,
@@ -51,12 +40,12 @@ impl PortionHandle {
         }
     }
 
-    /// Makes the place of a handle.
-    fn into_place(self) -> Place<Portion, Global>
-        ensures { (result.held ≡ self.held) × (result.value ≡ self.nodes) }
+    /// Converts the handle of C into a handle.
+    fn into_handle(self) -> Handle<Portion, Global>
+        ensures { (result.held ≡ self.held) × (result.value ≡ Some self.nodes) }
     {
         let PortionHandle { at, held, alloc } = self;
-        Place {
+        Handle {
             at: at as *mut Portion,
             held,
             alloc,
@@ -69,8 +58,8 @@ impl PortionHandle {
             (λ nodes. (self.old.held ≡ true) × (nodes.value ≡ self.old.nodes)) }
         ensures none { self.new.held ≡ false }
     {
-        replace(self, PortionHandle::none(alloc))
-            .into_place()
+        replace(self, PortionHandle::of(Handle::none(alloc)))
+            .into_handle()
             .into_box()
             .ok()
     }
@@ -81,6 +70,6 @@ impl PortionHandle {
         ensures held { self.new.held ≡ true }
         ensures nodes { self.new.nodes ≡ nodes.value }
     {
-        let _before = replace(self, PortionHandle::of(Place::of(nodes)));
+        let _before = replace(self, PortionHandle::of(Handle::of(nodes)));
     }
 }

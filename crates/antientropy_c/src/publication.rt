@@ -1,14 +1,14 @@
 //! The handle of a snapshot.
-ghost use Rattle.std.specs.Prelude.{◌≡◌, true, false, MatchOption};
+ghost use Rattle.std.specs.Prelude.{◌≡◌, true, false, MatchOption, Some, IfSome};
 ghost use Rattle.snapshot.specs.RowMaps.{RowMap};
-ghost use Rattle.antientropy_c.specs.Publications.{publication_owns};
+ghost use Rattle.c_handle.specs.Handles.{c_owns};
+ghost use Rattle.antientropy_c.specs.contracts.published.Published.{the_row};
 
-use crate::place::Place;
 use crate::published::Published;
+use c_handle::Handle;
 use std::alloc::Global;
 use std::marker::Model;
 use std::mem::replace;
-use std::ptr::null_mut;
 
 /// A snapshot on the heap, or nothing: then all its bytes are zero, and the ghost rows are arbitrary.
 #[repr(C)]
@@ -21,29 +21,18 @@ pub struct Publication {
 }
 
 impl Model for Publication {
-    ghost also_owns = { λ h. publication_owns h.alloc h.held h.at h.rows };
+    ghost also_owns = { λ h. c_owns the_row h.alloc h.held h.at h.rows };
 }
 
 // The allocator and the contents may go to another thread, and so may the handle.
 unsafe impl Send for Publication {}
 
 impl Publication {
-    /// Makes an empty handle.
-    fn none(alloc: Global) -> Publication
-        ensures { result.held ≡ false }
+    /// Converts a handle into the one of C.
+    fn of(handle: Handle<Published, Global>) -> Publication
+        ensures { (result.held ≡ handle.held) × IfSome handle.value (λ x. result.rows ≡ x) }
     {
-        Publication {
-            at: null_mut(),
-            held: false,
-            alloc,
-        }
-    }
-
-    /// Makes the handle of a place.
-    fn of(place: Place<Published, Global>) -> Publication
-        ensures { (result.held ≡ place.held) × (result.rows ≡ place.value) }
-    {
-        let Place { at, held, alloc } = place;
+        let Handle { at, held, alloc } = handle;
         Publication {
             at: at as *mut u8,
             held,
@@ -51,12 +40,12 @@ impl Publication {
         }
     }
 
-    /// Makes the place of a handle.
-    fn into_place(self) -> Place<Published, Global>
-        ensures { (result.held ≡ self.held) × (result.value ≡ self.rows) }
+    /// Converts the handle of C into a handle.
+    fn into_handle(self) -> Handle<Published, Global>
+        ensures { (result.held ≡ self.held) × (result.value ≡ Some self.rows) }
     {
         let Publication { at, held, alloc } = self;
-        Place {
+        Handle {
             at: at as *mut Published,
             held,
             alloc,
@@ -69,8 +58,8 @@ impl Publication {
             (λ rows. (self.old.held ≡ true) × (rows.value ≡ self.old.rows)) }
         ensures none { self.new.held ≡ false }
     {
-        replace(self, Publication::none(alloc))
-            .into_place()
+        replace(self, Publication::of(Handle::none(alloc)))
+            .into_handle()
             .into_box()
             .ok()
     }
@@ -81,6 +70,6 @@ impl Publication {
         ensures held { self.new.held ≡ true }
         ensures rows { self.new.rows ≡ rows.value }
     {
-        let _before = replace(self, Publication::of(Place::of(rows)));
+        let _before = replace(self, Publication::of(Handle::of(rows)));
     }
 }

@@ -1,14 +1,14 @@
 //! The handle of a replica.
-ghost use Rattle.std.specs.Prelude.{◌≡◌, true, false, MatchOption};
+ghost use Rattle.std.specs.Prelude.{◌≡◌, true, false, MatchOption, Some, IfSome};
 ghost use Rattle.range_state.specs.State.{State};
-ghost use Rattle.antientropy_c.specs.Handles.{replica_owns};
+ghost use Rattle.c_handle.specs.Handles.{c_owns};
+ghost use Rattle.range_state.specs.contracts.state.RangeState.{the_row};
 
-use crate::place::Place;
+use c_handle::Handle;
 use range_state::RangeState;
 use std::alloc::Global;
 use std::marker::Model;
 use std::mem::replace;
-use std::ptr::null_mut;
 
 /// A replica on the heap, or nothing: then all its bytes are zero, and the ghost state is arbitrary.
 #[repr(C)]
@@ -21,29 +21,18 @@ pub struct Replica {
 }
 
 impl Model for Replica {
-    ghost also_owns = { λ h. replica_owns h.alloc h.held h.at h.state };
+    ghost also_owns = { λ h. c_owns the_row h.alloc h.held h.at h.state };
 }
 
 // The allocator and the contents may go to another thread, and so may the handle.
 unsafe impl Send for Replica {}
 
 impl Replica {
-    /// Makes an empty handle.
-    fn none(alloc: Global) -> Replica
-        ensures { result.held ≡ false }
+    /// Converts a handle into the one of C.
+    fn of(handle: Handle<RangeState, Global>) -> Replica
+        ensures { (result.held ≡ handle.held) × IfSome handle.value (λ x. result.state ≡ x) }
     {
-        Replica {
-            at: null_mut(),
-            held: false,
-            alloc,
-        }
-    }
-
-    /// Makes the handle of a place.
-    fn of(place: Place<RangeState, Global>) -> Replica
-        ensures { (result.held ≡ place.held) × (result.state ≡ place.value) }
-    {
-        let Place { at, held, alloc } = place;
+        let Handle { at, held, alloc } = handle;
         Replica {
             at: at as *mut u8,
             held,
@@ -51,12 +40,12 @@ impl Replica {
         }
     }
 
-    /// Makes the place of a handle.
-    fn into_place(self) -> Place<RangeState, Global>
-        ensures { (result.held ≡ self.held) × (result.value ≡ self.state) }
+    /// Converts the handle of C into a handle.
+    fn into_handle(self) -> Handle<RangeState, Global>
+        ensures { (result.held ≡ self.held) × (result.value ≡ Some self.state) }
     {
         let Replica { at, held, alloc } = self;
-        Place {
+        Handle {
             at: at as *mut RangeState,
             held,
             alloc,
@@ -69,8 +58,8 @@ impl Replica {
             (λ state. (self.old.held ≡ true) × (state.value ≡ self.old.state)) }
         ensures none { self.new.held ≡ false }
     {
-        replace(self, Replica::none(alloc))
-            .into_place()
+        replace(self, Replica::of(Handle::none(alloc)))
+            .into_handle()
             .into_box()
             .ok()
     }
@@ -81,6 +70,6 @@ impl Replica {
         ensures held { self.new.held ≡ true }
         ensures state { self.new.state ≡ state.value }
     {
-        let _before = replace(self, Replica::of(Place::of(state)));
+        let _before = replace(self, Replica::of(Handle::of(state)));
     }
 }

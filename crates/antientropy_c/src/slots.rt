@@ -1,14 +1,14 @@
 //! The handle of slots.
-ghost use Rattle.std.specs.Prelude.{◌≡◌, true, false, MatchOption};
+ghost use Rattle.std.specs.Prelude.{◌≡◌, true, false, MatchOption, Some, IfSome};
 ghost use Rattle.admission.specs.Admission.{Admission};
-ghost use Rattle.antientropy_c.specs.SlotHandles.{slots_owns};
+ghost use Rattle.c_handle.specs.Handles.{c_owns};
+ghost use Rattle.admission.specs.contracts.budget.SlotBudget.{the_row};
 
-use crate::place::Place;
 use admission::SlotBudget;
+use c_handle::Handle;
 use std::alloc::Global;
 use std::marker::Model;
 use std::mem::replace;
-use std::ptr::null_mut;
 
 /// A budget of slots on the heap, or nothing: then all its bytes are zero, and the ghost budget is arbitrary.
 #[repr(C)]
@@ -21,29 +21,18 @@ pub struct Slots {
 }
 
 impl Model for Slots {
-    ghost also_owns = { λ h. slots_owns h.alloc h.held h.at h.budget };
+    ghost also_owns = { λ h. c_owns the_row h.alloc h.held h.at h.budget };
 }
 
 // The allocator and the contents may go to another thread, and so may the handle.
 unsafe impl Send for Slots {}
 
 impl Slots {
-    /// Makes an empty handle.
-    fn none(alloc: Global) -> Slots
-        ensures { result.held ≡ false }
+    /// Converts a handle into the one of C.
+    fn of(handle: Handle<SlotBudget, Global>) -> Slots
+        ensures { (result.held ≡ handle.held) × IfSome handle.value (λ x. result.budget ≡ x) }
     {
-        Slots {
-            at: null_mut(),
-            held: false,
-            alloc,
-        }
-    }
-
-    /// Makes the handle of a place.
-    fn of(place: Place<SlotBudget, Global>) -> Slots
-        ensures { (result.held ≡ place.held) × (result.budget ≡ place.value) }
-    {
-        let Place { at, held, alloc } = place;
+        let Handle { at, held, alloc } = handle;
         Slots {
             at: at as *mut u8,
             held,
@@ -51,12 +40,12 @@ impl Slots {
         }
     }
 
-    /// Makes the place of a handle.
-    fn into_place(self) -> Place<SlotBudget, Global>
-        ensures { (result.held ≡ self.held) × (result.value ≡ self.budget) }
+    /// Converts the handle of C into a handle.
+    fn into_handle(self) -> Handle<SlotBudget, Global>
+        ensures { (result.held ≡ self.held) × (result.value ≡ Some self.budget) }
     {
         let Slots { at, held, alloc } = self;
-        Place {
+        Handle {
             at: at as *mut SlotBudget,
             held,
             alloc,
@@ -69,8 +58,8 @@ impl Slots {
             (λ boxed. (self.old.held ≡ true) × (boxed.value ≡ self.old.budget)) }
         ensures none { self.new.held ≡ false }
     {
-        replace(self, Slots::none(alloc))
-            .into_place()
+        replace(self, Slots::of(Handle::none(alloc)))
+            .into_handle()
             .into_box()
             .ok()
     }
@@ -81,6 +70,6 @@ impl Slots {
         ensures held { self.new.held ≡ true }
         ensures budget { self.new.budget ≡ budget.value }
     {
-        let _before = replace(self, Slots::of(Place::of(budget)));
+        let _before = replace(self, Slots::of(Handle::of(budget)));
     }
 }
