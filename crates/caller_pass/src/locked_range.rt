@@ -22,8 +22,8 @@ use crate::unread::Unread;
 use key_ring::HashedKey;
 use range_journal::Source;
 use range_state::{
-    Accepted, AnswerCounted, ContextTest, LeafRows, Loaded, Moment, RangeCounts, RangeState, Receipt,
-    Record,
+    Accepted, AnswerCounted, ContextTest, LeafRows, Loaded, Moment, RangeCounts, RangeState,
+    Receipt, Record,
 };
 use range_store::RangeStore;
 use rehash::Job;
