@@ -49,16 +49,26 @@ CALL(REPLICA, hash_moment)
 /* A call that is refused as DIRTY without a whole moment. */
 typedef uint32_t of_moment(struct resource *at, void *of);
 
-/* Holds a moment first if `holds`. Makes a call of the moment. If it isn't whole, hashes portions of it for some
- * milliseconds, and if it is whole then, makes the call before the lock is free, so that no other moment can take its
- * place. Returns MORE if nodes are left, or DIRTY if the moment was dropped. */
+/* Makes a call of the moment, and then drops the moment: its rows stay with what the call made, and no later hold frees
+ * them under the lock. */
+static uint32_t call_and_drop(struct resource *at, of_moment *call, void *of)
+{
+    uint32_t number = call(at, of);
+    if (number != ANTIENTROPY_DIRTY)
+        antientropy_drop_moment(&at->replica);
+    return number;
+}
+
+/* Holds a moment first if `holds`. Makes a call of the moment, and drops it. If it isn't whole, hashes portions of it
+ * for some milliseconds, and if it is whole then, makes the call before the lock is free, so that no other moment can
+ * take its place. Returns MORE if nodes are left, or DIRTY if the moment was dropped. */
 static uint32_t call_or_hash(struct resource *at, bool holds, uint64_t most, of_moment *call, void *of)
 {
     uint64_t left;
     ErlNifTime end = enif_monotonic_time(ERL_NIF_MSEC) + HASH_MS;
     uint32_t number = holds ? antientropy_hold(&at->replica) : ANTIENTROPY_OK;
     if (number == ANTIENTROPY_OK)
-        number = call(at, of);
+        number = call_and_drop(at, call, of);
     if (number != ANTIENTROPY_DIRTY)
         return number;
     do {
@@ -66,7 +76,7 @@ static uint32_t call_or_hash(struct resource *at, bool holds, uint64_t most, of_
         if (number != ANTIENTROPY_OK)
             return number;
     } while (left > 0 && enif_monotonic_time(ERL_NIF_MSEC) < end);
-    return left > 0 ? MORE : call(at, of);
+    return left > 0 ? MORE : call_and_drop(at, call, of);
 }
 
 /* Makes the snapshot of the moment, with the number of its entries. */
@@ -106,11 +116,13 @@ CALL(REPLICA, snapshot_of_moment)
     return handle_result(env, made, call_or_hash(at, holds, most, fill, made));
 }
 
-/* A session that is opened with a partner's offer: if `compares`, only if the rows aren't equal. */
+/* A session that is opened with a partner's offer: if `compares`, only if the rows aren't those of the moment's
+ * snapshot, which is to be freed without the lock. */
 struct opening {
     uint64_t partner, session;
     ErlNifBinary offer;
     bool compares, is_equal;
+    struct antientropy_snapshot moment;
 };
 
 /* Reads the second and the third argument. */
@@ -122,17 +134,15 @@ static uint32_t get_opening(ErlNifEnv *env, const ERL_NIF_TERM argv[], struct op
 }
 
 /* Compares the root of the moment with that of an offer. */
-static uint32_t compare_roots(struct resource *at, const struct antientropy_offer_parts *parts, bool *is_equal)
+static uint32_t compare_roots(struct resource *at, const struct antientropy_offer_parts *parts, struct opening *opening)
 {
-    struct antientropy_snapshot snapshot = {0};
     uint8_t root[ANTIENTROPY_ROOT_LEN];
     uint64_t len;
-    uint32_t number = antientropy_moment(&at->replica, &snapshot);
+    uint32_t number = antientropy_moment(&at->replica, &opening->moment);
     if (number == ANTIENTROPY_OK)
-        number = antientropy_root(&snapshot, root, sizeof root, &len);
-    antientropy_snapshot_free(&snapshot);
+        number = antientropy_root(&opening->moment, root, sizeof root, &len);
     if (number == ANTIENTROPY_OK)
-        *is_equal = memcmp(root, parts->root, sizeof root) == 0;
+        opening->is_equal = memcmp(root, parts->root, sizeof root) == 0;
     return number;
 }
 
@@ -145,7 +155,7 @@ static uint32_t compare(struct resource *at, struct opening *opening)
         return number;
     if (parts.format != at->range.format || parts.range != at->range.number)
         return ANTIENTROPY_OK;
-    return compare_roots(at, &parts, &opening->is_equal);
+    return compare_roots(at, &parts, opening);
 }
 
 /* Opens a session at the moment, unless the rows are equal. */
@@ -188,5 +198,8 @@ CALL(REPLICA, open_of_moment)
     uint32_t number = get_opening(env, argv, &opening);
     if (number == ANTIENTROPY_OK)
         number = call_or_hash(at, holds, most, open_session, &opening);
+    enif_mutex_unlock(at->lock);
+    antientropy_snapshot_free(&opening.moment);
+    enif_mutex_lock(at->lock);
     return opening_result(env, number, &opening);
 }

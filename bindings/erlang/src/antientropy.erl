@@ -157,7 +157,7 @@ info(Replica) ->
 
 %% @doc Returns the counts of entries, dirty nodes and sessions.
 %%
-%% `front' is the number of entries at the last whole moment, 0 if there is none or after it is dropped. `first' is 0.
+%% `front' is the number of entries at the last moment that was whole: 0 if there was none. `first' is 0.
 -spec count(replica()) -> {ok, Counts} | refused() when
     Counts :: #{
         entries := non_neg_integer(),
@@ -341,8 +341,8 @@ root(Replica) ->
 %% @doc Returns a snapshot of the rows now, whether or not the tree is dirty.
 %%
 %% It holds a moment, and hashes it in portions while other processes put: see {@link hold/1}. So it ends however many
-%% puts there are. If another process holds a moment meanwhile, the snapshot is of that later one. The moment stays
-%% until the next one, or until {@link drop_moment/1}.
+%% puts there are. If another process holds a moment meanwhile, the snapshot is of that later one. The moment is dropped
+%% when its snapshot is made.
 -spec snapshot(replica()) -> {ok, antientropy_snapshot:snapshot()} | refused().
 snapshot(Replica) ->
     antientropy_moment:snapshot(Replica).
@@ -430,9 +430,12 @@ load(File, Limit) ->
 %% @doc Keeps the rows now as the replica's moment, in the place of another one. Copies no row.
 %%
 %% A moment never changes, so it is hashed while the replica goes on: repeat {@link hash_moment/2} until no node is
-%% left. Then {@link moment/1} and {@link open_at_moment/3} use it. {@link snapshot/1}, {@link root/1}, {@link save/2},
-%% {@link open/3} and {@link sync/4} make all these calls. While the moment is kept, the first change of each block of
-%% some rows copies the block.
+%% left. Then {@link moment/1} and {@link open_at_moment/3} use it. While the moment is kept, the first change of each
+%% block of some rows copies the block. The next hold frees the blocks that only this moment has, and other calls wait
+%% meanwhile: so call {@link drop_moment/1} before the snapshot is closed.
+%%
+%% {@link snapshot/1}, {@link root/1}, {@link save/2}, {@link open/3} and {@link sync/4} make all these calls. Each
+%% holds a moment in the place of another one, and drops it before it returns.
 -spec hold(replica()) -> ok | refused().
 hold(Replica) ->
     antientropy_nif:hold(Replica).

@@ -107,7 +107,7 @@ load_leaf(Replica, Leaf, Rows) ->
 
 check_root(Replica, Root) ->
     case antientropy:root(Replica) of
-        {ok, Root} -> antientropy:drop_moment(Replica);
+        {ok, Root} -> ok;
         {ok, _} -> damaged(root);
         Refused -> Refused
     end.

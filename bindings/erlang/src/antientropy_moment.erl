@@ -1,5 +1,6 @@
 %% @private
-%% @doc The moment that a replica keeps: calls that hold one, hash it in portions while other calls go on, and use it.
+%% @doc The moment that a replica keeps: calls that hold one, hash it in portions while other calls go on, use it, and
+%% drop it.
 %%
 %% Another process may hold another moment meanwhile. It is a later one, so a call goes on with it.
 -module(antientropy_moment).

@@ -64,7 +64,7 @@ long_calls_test_() ->
             {timeout, 60, fun long_texts_go_elsewhere/0},
             {timeout, 60, fun() -> long_arguments_are_not_read(Replica) end},
             {timeout, 60, fun() -> processes_wait(Replica) end},
-            {timeout, 60, fun() -> a_moment_is_hashed_beside_calls(Replica) end},
+            {timeout, 60, fun a_portion_is_hashed_beside_calls/0},
             {timeout, 60, fun() -> a_snapshot_does_not_wait(Replica) end},
             {timeout, 60, fun() -> a_process_is_killed(Replica) end},
             {timeout, 60, fun() -> close_meanwhile(Replica) end}
@@ -202,15 +202,22 @@ processes_wait(Replica) ->
     ?assertEqual(ok, await(Rehash)),
     support:badarg(fun() -> antientropy:put(Replica, 2, none, <<>>) end).
 
-%% The nodes of a moment are hashed without the lock.
-a_moment_is_hashed_beside_calls(Replica) ->
-    put_large(Replica),
+%% The nodes of a portion are hashed without the lock. It ends with a leaf of some 50 MB, which takes long.
+a_portion_is_hashed_beside_calls() ->
+    Replica = replica(),
+    [{ok, _} = antientropy:put(Replica, Node, Key, ?LARGE_VALUE) || Key <- keys_of_a_leaf(), Node <- lists:seq(1, 64)],
     ok = antientropy:hold(Replica),
-    {Process, _} = Hashing = async(fun() -> antientropy:hash_moment(Replica, ?LARGE_KEYS) end),
+    {Process, _} = Hashing = async(fun() -> antientropy:hash_moment(Replica, 4096) end),
     wait_until_running(Process),
     {ok, _} = antientropy:put(Replica, 2, <<"beside">>, <<>>),
     ?assertEqual(pending, peek(Hashing)),
-    ?assertMatch({ok, Left} when Left > 0, await(Hashing)).
+    ?assertMatch({ok, Left} when Left > 0, await(Hashing)),
+    ok = antientropy:close(Replica).
+
+%% Returns some keys of one leaf.
+keys_of_a_leaf() ->
+    Leaf = antientropy:place(2, 0, support:key(1)),
+    [Key || Number <- lists:seq(1, 50_000), Key <- [support:key(Number)], antientropy:place(2, 0, Key) =:= Leaf].
 
 %% A snapshot has a lock of its own.
 a_snapshot_does_not_wait(Replica) ->

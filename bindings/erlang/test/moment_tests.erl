@@ -24,7 +24,7 @@ hold_and_hash_test() ->
     ok = antientropy:drop_moment(Replica),
     ?assertEqual({error, dirty}, antientropy:moment(Replica)),
     ?assertEqual({ok, 0}, antientropy:hash_moment(Replica, 7)),
-    ?assertMatch({ok, #{front := 0}}, antientropy:count(Replica)),
+    ?assertMatch({ok, #{front := 50}}, antientropy:count(Replica)),
     ?assertEqual(antientropy:root(fill(replica(), 50)), antientropy_snapshot:root(Snapshot)).
 
 %% `front' stays that of the last whole moment until the next one is whole.
@@ -36,6 +36,25 @@ front_test() ->
     ?assertMatch({ok, #{front := 10}}, antientropy:count(Replica)),
     ok = hash_all(Replica),
     ?assertMatch({ok, #{front := 11}}, antientropy:count(Replica)).
+
+%% A call that holds a moment drops it, also if it is refused.
+no_moment_is_left_test() ->
+    Replica = fill(replica(), 10),
+    {ok, Snapshot} = antientropy:snapshot(Replica),
+    {ok, Offer} = antientropy_snapshot:offer(Snapshot, 1),
+    no_moment(10, Replica),
+    {ok, #{asks := 0}} = antientropy:sync(Replica, 2, Offer, fun(_) -> [] end),
+    no_moment(10, Replica),
+    {ok, _} = antientropy:put(Replica, 1, <<"later">>, <<>>),
+    {error, bad_message} = antientropy:open(Replica, 2, <<>>),
+    no_moment(10, Replica),
+    {ok, _} = antientropy:open(Replica, 2, Offer),
+    no_moment(11, Replica).
+
+no_moment(Front, Replica) ->
+    ?assertEqual({error, dirty}, antientropy:moment(Replica)),
+    ?assertEqual({ok, 0}, antientropy:hash_moment(Replica, 0)),
+    ?assertMatch({ok, #{front := Front}}, antientropy:count(Replica)).
 
 open_at_moment_test() ->
     Replica = fill(replica(), 10),
@@ -72,10 +91,10 @@ hold_and_drop(Replica) ->
     ok = antientropy:drop_moment(Replica),
     hold_and_drop(Replica).
 
-%% A replica may be closed while its moment is hashed, which takes some hundredths of a second here.
+%% A replica may be closed while a portion is hashed, which takes some hundredths of a second here.
 close_while_hashing_test() ->
     Replica = replica(),
-    [{ok, _} = antientropy:put(Replica, 1, <<Key>>, binary:copy(<<"v">>, 65_536)) || Key <- lists:seq(1, 100)],
+    [{ok, _} = antientropy:put(Replica, Node, <<"k">>, binary:copy(<<"v">>, 65_536)) || Node <- lists:seq(1, 64)],
     ok = antientropy:hold(Replica),
     {Hashing, Monitor} = spawn_monitor(fun() -> exit({result, antientropy:hash_moment(Replica, 5000)}) end),
     timer:sleep(1),

@@ -110,7 +110,6 @@ dirty(Replica) ->
     {ok, Offer} = antientropy_snapshot:offer(Snapshot, 1),
     {ok, _} = antientropy:put(Replica, 1, <<"other">>, <<>>),
     refused(dirty, Replica, open, [Replica, 2, Offer, #{rehash => false}]),
-    ok = antientropy:drop_moment(Replica),
     refused(dirty, Replica, moment, [Replica]),
     refused(dirty, Replica, open_at_moment, [Replica, 2, Offer]).
 
