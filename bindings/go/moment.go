@@ -15,8 +15,12 @@ type portion struct {
 
 // Hold keeps the rows now as the replica's moment, in the place of another one. No later call changes it.
 //
-// [Replica.Snapshot], [Replica.Root], [Replica.Save], [Replica.Open] and [Replica.Sync] do it themselves. While a
-// moment is kept, the first change of each block of some rows copies the block.
+// While a moment is kept, the first change of each block of some rows copies the block. The next hold frees the blocks
+// that only this moment has, and other goroutines wait meanwhile: so call [Replica.DropMoment] before its snapshot is
+// closed.
+//
+// [Replica.Snapshot], [Replica.Root], [Replica.Save], [Replica.Open] and [Replica.Sync] hold a moment in the place of
+// another one, and drop it before they return.
 func (r *Replica) Hold() error {
 	held := r.at.locked()
 	defer held.lock.Unlock()
@@ -56,7 +60,8 @@ func (r *Replica) Moment() (*Snapshot, error) {
 // atMoment holds the rows now as a moment, hashes them, and returns what use returns.
 //
 // It calls use with the lock held, as soon as the moment is whole. The lock is free while nodes are hashed. So another
-// goroutine may hold a later moment meanwhile: then use finds that one.
+// goroutine may hold a later moment meanwhile: then use finds that one. The moment is dropped then: its rows stay with
+// what use made, and no later hold frees them under the lock.
 func atMoment[T any](r *replica, use func(held *replica) (T, error)) (result T, err error) {
 	nodes := new(portion)
 	defer nodes.free()
@@ -86,6 +91,7 @@ func afterPortion[T any](r *replica, nodes *portion, use func(*replica) (T, erro
 	left, err := held.installPortion(nodes)
 	if err == nil && left == 0 {
 		if result, err = use(held); !errors.Is(err, ErrDirty) {
+			C.antientropy_drop_moment(&held.handle)
 			return true, result, err
 		}
 		// (another goroutine let go of the moment)

@@ -36,7 +36,29 @@ func TestAMoment(t *testing.T) {
 	want := []any{uint32(7), uint64(0), uint64(1)}
 	equal(t, []any{session.OfferNumber(), session.Number(), must(session.Outstanding())}, want)
 	check(r.DropMoment())
-	equal(t, must(r.Count()).Front, uint64(0))
+	equal(t, must(r.Count()).Front, uint64(20))
+}
+
+// A call that holds a moment drops it, also if it is refused.
+func TestNoMomentIsLeft(t *testing.T) {
+	r := filled(20)
+	noMoment := func(front uint64) {
+		t.Helper()
+		unchanged(t, r, antientropy.ErrDirty, func() error { _, err := r.Moment(); return err })
+		equal(t, []uint64{must(r.HashMoment(0)), must(r.Count()).Front}, []uint64{0, front})
+	}
+	snapshot := must(r.Snapshot())
+	noMoment(20)
+	offer := must(snapshot.Offer(7))
+	equal(t, must(r.Sync(2, offer, reachOf(snapshot, 7))).Asks, 0)
+	noMoment(20)
+	put(r, "later", "value")
+	_, err := r.Open(2, nil)
+	refused(t, err, antientropy.ErrBadMessage)
+	noMoment(21)
+	put(r, "last", "value")
+	must(r.Open(2, offer))
+	noMoment(22)
 }
 
 func TestNoWholeMoment(t *testing.T) {

@@ -38,7 +38,7 @@ type Counts struct {
 	Sessions     uint64 // sessions, ever: at 1,024 no other can be opened
 	OpenSessions uint64 // open sessions: at 64 no other can be opened until one has ended
 	First        uint64 // 0; reserved for journals that are trimmed
-	Front        uint64 // entries of the journal at the last moment that was whole: 0 if there is none
+	Front        uint64 // entries of the journal at the last moment that was whole: 0 if there was none
 }
 
 // A Receipt is the result of a put.

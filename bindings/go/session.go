@@ -69,21 +69,31 @@ func (r *replica) openAtMoment(partner uint16, offer []byte) (*Session, error) {
 	})
 }
 
-// openUnlessEqual opens a session as openAtMoment, or returns nil if the moment has the offer's root. The caller holds
-// the lock.
+// openUnlessEqual opens a session as [Replica.Open], or returns nil if the rows have the offer's root.
 func (r *replica) openUnlessEqual(partner uint16, offer []byte) (*Session, error) {
+	var moment Snapshot
+	defer moment.Close() // without the lock of the replica
+	return atMoment(r, func(held *replica) (*Session, error) {
+		made, err := held.moment()
+		if err != nil {
+			return nil, err
+		}
+		moment = *made
+		if isEqual, err := moment.isOffered(offer); err != nil || isEqual {
+			return nil, err
+		}
+		return held.openAtMoment(partner, offer)
+	})
+}
+
+// isOffered returns true if the snapshot has the format, the range and the root of a partner's offer.
+func (s *Snapshot) isOffered(offer []byte) (bool, error) {
 	parts, err := ReadOffer(offer)
 	if err != nil {
-		return nil, err
+		return false, err
 	}
-	root, err := r.momentRoot()
-	if err != nil {
-		return nil, err
-	}
-	if parts.Format == r.config.Format && parts.Range == r.config.Range && parts.Root == root {
-		return nil, nil
-	}
-	return r.openAtMoment(partner, offer)
+	root, err := s.Root()
+	return parts.Format == s.config.Format && parts.Range == s.config.Range && parts.Root == root, err
 }
 
 // open opens a session by a call. The caller holds the lock.

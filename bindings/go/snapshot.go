@@ -25,7 +25,8 @@ type snapshot struct {
 	room   room
 }
 
-// Snapshot returns a snapshot of the rows now, which are held as a moment and hashed while other goroutines put.
+// Snapshot returns a snapshot of the rows now, which are held as a moment and hashed while other goroutines put. The
+// replica keeps no moment then.
 func (r *Replica) Snapshot() (*Snapshot, error) {
 	return atMoment(r.at, (*replica).moment)
 }
@@ -50,16 +51,6 @@ func (r *replica) moment() (*Snapshot, error) {
 	}
 	made := new(snapshot)
 	return made.owned(r.config, counts.Front, C.antientropy_moment(&r.handle, &made.handle))
-}
-
-// momentRoot returns the digest of the moment's root. The caller holds the lock.
-func (r *replica) momentRoot() (Root, error) {
-	moment, err := r.moment()
-	if err != nil {
-		return Root{}, err
-	}
-	defer moment.Close()
-	return moment.Root()
 }
 
 // owned returns the snapshot, unless the call that makes it was refused. The garbage collector closes it, once no copy

@@ -53,9 +53,7 @@ func (r *Replica) SyncWithin(bounds Bounds, partner uint16, offer []byte, reach 
 	if reach == nil {
 		return Synced{}, ErrNoReach
 	}
-	session, err := atMoment(r.at, func(held *replica) (*Session, error) {
-		return held.openUnlessEqual(partner, offer)
-	})
+	session, err := r.at.openUnlessEqual(partner, offer)
 	if err != nil {
 		return Synced{}, err
 	}

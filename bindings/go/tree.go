@@ -40,5 +40,10 @@ func (r *Replica) RehashSome(most uint64) (left uint64, err error) {
 
 // Root returns the digest of the root now. The rows are held as a moment, and hashed while other goroutines put.
 func (r *Replica) Root() (Root, error) {
-	return atMoment(r.at, (*replica).momentRoot)
+	snapshot, err := r.Snapshot()
+	if err != nil {
+		return Root{}, err
+	}
+	defer snapshot.Close()
+	return snapshot.Root()
 }
