@@ -2,6 +2,7 @@
 
 from __future__ import annotations
 
+from threading import get_ident
 from typing import TYPE_CHECKING, Any, Callable, ContextManager, TypeVar
 
 from ._handle import Handle
@@ -29,16 +30,38 @@ def at_moment(replica: Replica, lock: ContextManager[Any], use: Callable[[], T])
     hashed. So another thread may hold a later moment meanwhile: then `use` finds that one. If another thread drops the
     moment, another one is held.
     """
-    with _Portion(replica._library) as portion:
+    thread = get_ident()
+    replica._moment_threads.append(thread)
+    try:
+        with _Portion(replica._library) as portion:
+            return _hash_and_use(replica, lock, use, portion)
+    finally:
+        replica._moment_threads.remove(thread)
+
+
+def _hash_and_use(replica: Replica, lock: ContextManager[Any], use: Callable[[], T], portion: _Portion) -> T:
+    with lock:
+        replica._call_held("hold")
+        replica._call_held("take_portion", _NODES, portion._at)
+    while True:
+        portion._call("hash_portion")
         with lock:
-            replica._call_held("hold")
+            if not replica._words_held(1, "install_portion", portion._at)[0]:
+                try:
+                    return _use_held(replica, use)
+                except class_of("Dirty"):
+                    replica._call_held("hold")
             replica._call_held("take_portion", _NODES, portion._at)
-        while True:
-            portion._call("hash_portion")
-            with lock:
-                if not replica._words_held(1, "install_portion", portion._at)[0]:
-                    try:
-                        return use()
-                    except class_of("Dirty"):
-                        replica._call_held("hold")
-                replica._call_held("take_portion", _NODES, portion._at)
+
+
+def _use_held(replica: Replica, use: Callable[[], T]) -> T:
+    """Returns what `use` returns, and drops the moment.
+
+    Its rows stay with what `use` made, and no later hold frees them under the lock. A call of a signal handler leaves
+    its moment to the call that it interrupted.
+    """
+    try:
+        return use()
+    finally:
+        if replica._moment_threads.count(get_ident()) == 1:
+            replica._call_held("drop_moment")

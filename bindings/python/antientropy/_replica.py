@@ -58,6 +58,8 @@ class Replica(Handle):
     def _prepare(self, library: Library, format: int, bits: int, range: int) -> None:
         super().__init__(library)
         self.format, self.bits, self.range = format, bits, range
+        #: The threads that are in calls at a moment, once for each call.
+        self._moment_threads: List[int] = []
 
     def renew(self, limit: int = _LIMIT) -> Replica:
         """Returns a new replica with the versions that are held: one entry for each, and no sessions.
@@ -288,8 +290,10 @@ class Replica(Handle):
     def hold(self) -> None:
         """Keeps the rows now as the replica's moment, in the place of another one. No later call changes it.
 
-        `snapshot`, `root`, `save`, `open` and `sync` do it themselves. While a moment is kept, the first change of each
-        block of some rows copies the block.
+        While a moment is kept, the first change of each block of some rows copies the block. The next hold frees the
+        blocks that only this moment has, and other threads wait meanwhile: so drop the moment before its snapshot is
+        closed. `snapshot`, `root`, `save`, `open` and `sync` hold a moment in the place of another one, and drop it
+        before they return.
         """
         self._call("hold")
 
@@ -315,7 +319,8 @@ class Replica(Handle):
     def snapshot(self, rehash: bool = True) -> Snapshot:
         """Returns a snapshot of the rows now, which are held as a moment and hashed while other threads put.
 
-        If `rehash` is False it holds no moment, and raises Dirty if a node of the tree has no digest.
+        The replica keeps no moment then. If `rehash` is False it holds no moment, and raises Dirty if a node of the
+        tree has no digest.
         """
         return Snapshot(self, rehash)
 

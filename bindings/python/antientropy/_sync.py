@@ -2,7 +2,7 @@
 
 from __future__ import annotations
 
-from typing import TYPE_CHECKING, Callable, List, Optional, Sequence
+from typing import TYPE_CHECKING, Callable, List, Optional, Sequence, Tuple
 
 from ._functions import read_offer
 from ._moment import at_moment
@@ -39,13 +39,15 @@ def _open_unless_equal(replica: Replica, partner: int, offer: bytes) -> Optional
     """Opens a session with an offer at a moment of the replica. Returns None if the moment has the offer's root."""
     offered = read_offer(offer)
 
-    def open_held() -> Optional[Session]:
-        with Snapshot._of_moment_held(replica) as moment:
-            if (offered.format, offered.range, offered.root) == (moment.format, moment.range, moment.root()):
-                return None
-        return Session._at_moment_held(replica, partner, offer)
+    def open_held() -> Tuple[Snapshot, Optional[Session]]:
+        moment = Snapshot._of_moment_held(replica)
+        if (offered.format, offered.range, offered.root) == (moment.format, moment.range, moment.root()):
+            return moment, None
+        return moment, Session._at_moment_held(replica, partner, offer)
 
-    return at_moment(replica, replica._to_change(), open_held)
+    moment, session = at_moment(replica, replica._to_change(), open_held)
+    moment.close()
+    return session
 
 
 class _Run:

@@ -136,7 +136,7 @@ class Loaded(NamedTuple):
 class Counts(NamedTuple):
     """Counts of a replica. `first` is 0: it is reserved for journals that are trimmed.
 
-    `front` is the number of entries at the last moment that was whole, or 0 if there is none.
+    `front` is the number of entries at the last moment that was whole, or 0 if there was none.
     """
 
     entries: int

@@ -5,7 +5,7 @@ import threading
 import unittest
 from itertools import islice
 
-from antientropy import Replica
+from antientropy import BadClock, Replica
 
 from tests.support import Hashing, ReplicaCase, reach, sync
 
@@ -44,7 +44,25 @@ class MomentTest(ReplicaCase):
         session = self.replica.open_at_moment(2, offer)
         self.assertEqual((session.offer_number, session.number, session.outstanding), (7, 0, 1))
         self.replica.drop_moment()
-        self.assertEqual(self.replica.count().front, 0)
+        self.assertEqual(self.replica.count().front, 20)
+
+    def test_no_moment_is_left(self):
+        """A call that holds a moment drops it, also if it is refused."""
+
+        def assert_no_moment(front):
+            self.assert_refused("Dirty", self.replica, self.replica.moment)
+            self.assertEqual((self.replica.hash_moment(0), self.replica.count().front), (0, front))
+
+        with self.replica.snapshot() as offered:
+            assert_no_moment(20)
+            self.assertEqual(self.replica.sync(2, offered.offer(7), reach(offered, 7)).asks, 0)
+            assert_no_moment(20)
+            self.replica.put(1, b"later", b"value")
+            self.assertRaises(BadClock, self.replica.open, 65_536, offered.offer(7))
+            assert_no_moment(21)
+            self.replica.put(1, b"last", b"value")
+            self.replica.open(2, offered.offer(7))
+            assert_no_moment(22)
 
     def test_no_whole_moment(self):
         with self.partner.snapshot() as offered:
