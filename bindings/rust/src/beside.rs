@@ -20,8 +20,8 @@ impl<T: AsMut<Replica>> Access for Shared<'_, T> {
 
 /// Returns a snapshot of a replica that threads share. The lock is free while nodes are hashed, so other threads put.
 ///
-/// The rows are those of a moment of the call, which is the replica's moment then. Offer them when the entries that the
-/// snapshot counts are on the disk. `T` is [`Replica`], or a type that has one. Panics if the lock is poisoned.
+/// The rows are those of a moment of the call, and the replica keeps no moment then. Offer them when the entries that
+/// the snapshot counts are on the disk. `T` is [`Replica`], or a type that has one. Panics if the lock is poisoned.
 ///
 /// ```
 /// use std::sync::Mutex;

@@ -26,7 +26,8 @@ impl Access for Replica {
     }
 }
 
-/// Holds a moment, hashes it, and makes a call as soon as it is whole, with no others between.
+/// Holds a moment, hashes it, and makes a call as soon as it is whole, with no others between. Drops the moment then:
+/// its rows stay with what the call made, and no later hold frees them under a lock.
 pub(crate) fn at_moment<A: Access, T>(
     access: &mut A,
     mut call: impl FnMut(&mut Replica) -> Result<T, Refusal>,
@@ -47,7 +48,7 @@ fn first_portion(replica: &mut Replica) -> Result<Portion, Refusal> {
     replica.take_portion(PORTION_MAX)
 }
 
-/// Installs a portion. Takes the next one, or makes the call if none is left.
+/// Installs a portion. Takes the next one, or makes the call and drops the moment if none is left.
 fn next_portion<T>(
     replica: &mut Replica,
     portion: Portion,
@@ -59,6 +60,9 @@ fn next_portion<T>(
     match call(replica) {
         // Another thread has dropped the moment.
         Err(Refusal::Dirty) => first_portion(replica).map(ControlFlow::Continue),
-        result => result.map(ControlFlow::Break),
+        result => {
+            replica.drop_moment()?;
+            result.map(ControlFlow::Break)
+        }
     }
 }

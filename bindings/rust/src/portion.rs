@@ -22,7 +22,9 @@ use crate::sys;
 ///     portion.hash()?; // without the lock
 ///     let mut replica = locked();
 ///     if replica.install_portion(portion)? == 0 {
-///         break replica.moment()?; // under the same lock: another thread may hold another moment next
+///         let snapshot = replica.moment()?; // under the same lock: another thread may hold another moment next
+///         replica.drop_moment()?; // the rows are freed with the snapshot, without the lock
+///         break snapshot;
 ///     }
 /// };
 /// assert_eq!(snapshot.entries(), 1);

@@ -488,7 +488,7 @@ impl Replica {
         })
     }
 
-    /// Returns a snapshot of the rows now, which are the replica's moment then. Hashes the nodes that have no digest.
+    /// Returns a snapshot of the rows now. Hashes the nodes that have no digest. The replica keeps no moment then.
     pub fn snapshot(&mut self) -> Result<Snapshot, Refusal> {
         at_moment(self, Replica::moment)
     }
@@ -569,13 +569,14 @@ impl Replica {
 
 /// The moment: the rows at a time, which are hashed and offered while the replica goes on.
 ///
-/// It is whole when each of its nodes has a digest. [`Replica::snapshot`], `root`, `save`, `open` and `sync` hold and
-/// hash a moment in one call.
+/// It is whole when each of its nodes has a digest. [`Replica::snapshot`], `root`, `save`, `open` and `sync` hold, hash
+/// and drop a moment in one call, in the place of another one.
 impl Replica {
     /// Keeps the rows now as the replica's moment, in the place of another one. No later call changes it.
     ///
     /// Copies no row, and keeps the digests that the nodes have. While the moment is kept, the first change of each
-    /// block of some rows copies the block.
+    /// block of some rows copies the block. The next hold frees the blocks that only this moment has: if threads share
+    /// the replica, call `drop_moment` before its snapshot is dropped, and they don't wait for that.
     ///
     /// ```
     /// # use antientropy::{Clock, Config, Replica};
@@ -641,8 +642,7 @@ impl Replica {
 
 /// Sessions.
 impl Replica {
-    /// Opens a session with a partner's offer. Hashes the nodes that have no digest: the rows now are the replica's
-    /// moment then.
+    /// Opens a session with a partner's offer. Hashes the nodes that have no digest. The replica keeps no moment then.
     ///
     /// A session is never freed before its replica, so compare roots first. Refused as `BadMessage`, `OtherFormat`,
     /// `OtherRange` or `SessionsFull`.

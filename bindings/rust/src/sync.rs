@@ -5,6 +5,7 @@ use crate::moment::{at_moment, Access};
 use crate::refusal::Refusal;
 use crate::replica::Replica;
 use crate::session::{Session, SessionId};
+use crate::snapshot::Snapshot;
 use crate::values::State;
 
 /// The bounds of a sync.
@@ -64,7 +65,8 @@ where
     A: Access,
     R: FnMut(&[Vec<u8>]) -> Vec<Option<Vec<u8>>>,
 {
-    match at_moment(access, |replica| open_unless_equal(replica, partner, offer))? {
+    let (_moment, opened) = at_moment(access, |replica| open_unless_equal(replica, partner, offer))?;
+    match opened {
         Some(id) => {
             let session = Opened { access, id };
             Run { session, reach, bounds, synced: Synced::nothing(State::Open) }.finish()
@@ -73,13 +75,19 @@ where
     }
 }
 
-/// Opens a session at the moment, unless its root is that of the offer.
-fn open_unless_equal(replica: &mut Replica, partner: u16, offer: &[u8]) -> Result<Option<SessionId>, Refusal> {
-    let (root, offered) = (replica.moment()?.root()?, read_offer(offer)?);
-    if (offered.format, offered.range, offered.root) == (replica.format(), replica.range(), root) {
-        return Ok(None);
+/// Opens a session at the moment, unless its root is that of the offer. Returns the moment's snapshot too, which is to
+/// be dropped without a lock.
+fn open_unless_equal(
+    replica: &mut Replica,
+    partner: u16,
+    offer: &[u8],
+) -> Result<(Snapshot, Option<SessionId>), Refusal> {
+    let (mut moment, offered) = (replica.moment()?, read_offer(offer)?);
+    if (offered.format, offered.range, offered.root) == (moment.format(), moment.range(), moment.root()?) {
+        return Ok((moment, None));
     }
-    replica.open_at_moment(partner, offer).map(Some)
+    let id = replica.open_at_moment(partner, offer)?;
+    Ok((moment, Some(id)))
 }
 
 /// An open session, which is cancelled when it is dropped: after a refusal, or when `reach` panics.

@@ -286,7 +286,7 @@ pub struct Counts {
     pub open_sessions: u64,
     /// 0; reserved for journals that are trimmed.
     pub first: u64,
-    /// Entries of the journal at the last moment that was whole: 0 if there is none.
+    /// Entries of the journal at the last moment that was whole: 0 if there was none.
     pub front: u64,
 }
 

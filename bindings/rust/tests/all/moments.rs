@@ -29,9 +29,32 @@ fn a_moment() {
     assert_eq!(replica.count().unwrap().front, 50);
     assert_eq!(replica.snapshot().unwrap().entries(), 51);
     assert_eq!(replica.count().unwrap().front, 51);
+    replica.hold().unwrap();
     replica.drop_moment().unwrap();
-    assert_eq!((replica.count().unwrap().front, replica.hash_moment(1)), (0, Ok(0)));
+    assert_eq!((replica.count().unwrap().front, replica.hash_moment(1)), (51, Ok(0)));
     assert_eq!(snapshot.root(), filled(50).root());
+}
+
+fn assert_no_moment(replica: &mut Replica, front: u64) {
+    assert_refused(Refusal::Dirty, replica, Replica::moment);
+    assert_eq!((replica.hash_moment(0), replica.count().unwrap().front), (Ok(0), front));
+}
+
+/// A call that holds a moment drops it, also if it is refused.
+#[test]
+fn no_moment_is_left() {
+    let mut replica = filled(50);
+    let mut snapshot = replica.snapshot().unwrap();
+    let offer = snapshot.offer(1).unwrap();
+    assert_no_moment(&mut replica, 50);
+    assert_eq!(replica.sync(2, &offer, |asks| serve(&mut snapshot, 1, asks)).unwrap().asks, 0);
+    assert_no_moment(&mut replica, 50);
+    replica.put(1, b"later", Some(b""), &NONE).unwrap();
+    assert_eq!(replica.open(2, b""), Err(Refusal::BadMessage));
+    assert_no_moment(&mut replica, 51);
+    replica.put(1, b"last", Some(b""), &NONE).unwrap();
+    replica.open(2, &offer).unwrap();
+    assert_no_moment(&mut replica, 52);
 }
 
 #[test]
