@@ -355,7 +355,7 @@ using Receipt = c::antientropy_receipt;
 using Spot = c::antientropy_spot;
 
 /// Counts of a replica: `entries`, their `limit`, `dirty` nodes, `sessions` ever, and `open_sessions`. `front` is the
-/// number of entries at the last moment that was whole: 0 if there is none. `first` is 0.
+/// number of entries at the last moment that was whole: 0 if there was none. `first` is 0.
 using Counts = c::antientropy_counts;
 
 /// Counts of hints: `pending` and `delivered`.
@@ -1440,8 +1440,8 @@ public:
         return detail::result(number, left);
     }
 
-    /// Returns a snapshot of the rows now, which are the replica's moment then. Hashes the nodes that have no digest,
-    /// unless `hash` is false. Refused: Dirty (a node has no digest, and `hash` is false).
+    /// Returns a snapshot of the rows now. Hashes the nodes that have no digest, and drops the moment, unless `hash` is
+    /// false. Refused: Dirty (a node has no digest, and `hash` is false).
     Result<Snapshot> snapshot(bool hash = true) {
         detail::NoLock none;
         if (hash) return snapshot_beside(none);
@@ -1498,7 +1498,9 @@ public:
 
     /// Keeps the rows now as the replica's moment, in the place of another one. No later call changes it. Copies no
     /// row, and keeps the digests that the nodes have. While the moment is kept, the first change of each block of some
-    /// rows copies the block. `snapshot`, `root`, `save`, `open` and `sync` hold and hash a moment in one call.
+    /// rows copies the block. The next hold frees the blocks that only this moment has: if threads share the replica,
+    /// call `drop_moment` before its snapshot is closed, and they don't wait for that. `snapshot`, `root`, `save`,
+    /// `open` and `sync` hold, hash and drop a moment in one call, in the place of another one.
     Result<void> hold() { return detail::done(c::antientropy_hold(at())); }
 
     /// Lets go of the moment, if there is one. Snapshots of it stay.
@@ -1537,9 +1539,9 @@ public:
 
     // ---- sessions
 
-    /// Opens a session with a partner's offer. The rows now are the replica's moment then: hashes the nodes that have
-    /// no digest, unless `hash` is false. The partner's number is recorded. A session's record is never freed before
-    /// its replica, so compare roots first.
+    /// Opens a session with a partner's offer. Hashes the nodes that have no digest, and drops the moment, unless `hash`
+    /// is false. The partner's number is recorded. A session's record is never freed before its replica, so compare
+    /// roots first.
     /// Refused, in order: BadMessage, BadClock (the partner is over 65,535), OtherFormat, OtherRange, SessionsFull,
     /// Dirty (`hash` is false).
     Result<Session> open(std::uint64_t partner, std::string_view offer, bool hash = true) {
@@ -1571,7 +1573,8 @@ public:
     template <class Lock>
     Result<Synced> sync_beside(Lock &lock, std::uint64_t partner, std::string_view offer, const Reach &reach,
                                std::size_t in_flight = 256, std::uint64_t most_bad = 8) {
-        auto session = at_moment(lock, [&] { return open_unless_equal(partner, offer); });
+        std::optional<Snapshot> here; // freed without the lock
+        auto session = at_moment(lock, [&] { return open_unless_equal(partner, offer, here); });
         if (!session) return session.refusal();
         if (!*session) return Synced{};
         return detail::Run<Lock>(std::move(**session), lock, reach, in_flight, most_bad).finish();
@@ -1589,6 +1592,7 @@ private:
     static FileError refused(Refusal refusal) { return {Fault::Refused, refusal}; }
 
     /// Holds a moment, hashes it without the lock, and makes a call as soon as it is whole, before the lock is free.
+    /// Drops the moment then: its rows stay with what the call made, and no later hold frees them under the lock.
     template <class Lock, class Call>
     auto at_moment(Lock &lock, Call call) -> decltype(call()) {
         auto portion = first_portion(lock);
@@ -1604,7 +1608,11 @@ private:
                 continue;
             }
             auto done = call();
-            if (done || done.refusal() != Refusal::Dirty) return done;
+            if (done || done.refusal() != Refusal::Dirty) {
+                const auto dropped = drop_moment();
+                if (!dropped) return dropped.refusal();
+                return done;
+            }
             portion = hold_and_take(); // another thread has dropped the moment
         }
     }
@@ -1643,10 +1651,12 @@ private:
         return Session(handle_.share(), session, static_cast<std::uint32_t>(parts->number));
     }
 
-    /// Opens a session at the moment, unless its root is that of the offer.
-    Result<std::optional<Session>> open_unless_equal(std::uint64_t partner, std::string_view offer) {
-        auto here = moment();
-        if (!here) return here.refusal();
+    /// Opens a session at the moment, unless its root is that of the offer. `here` gets the moment's snapshot.
+    Result<std::optional<Session>> open_unless_equal(std::uint64_t partner, std::string_view offer,
+                                                     std::optional<Snapshot> &here) {
+        auto made = moment();
+        if (!made) return made.refusal();
+        here = *std::move(made);
         const auto root = here->root();
         if (!root) return root.refusal();
         const auto there = read_offer(offer);

@@ -37,9 +37,31 @@ void moment() {
     sure(replica.hold());
     CHECK(sure(replica.count()).front == 50);
     CHECK(sure(replica.snapshot()).entries() == 51 && sure(replica.count()).front == 51);
+    sure(replica.hold());
     sure(replica.drop_moment());
-    CHECK(sure(replica.count()).front == 0 && sure(replica.hash_moment(1)) == 0);
+    CHECK(sure(replica.count()).front == 51 && sure(replica.hash_moment(1)) == 0);
     CHECK(sure(snapshot.root()) == root_of(50));
+}
+
+void check_no_moment(Replica &replica, std::uint64_t front) {
+    REFUSED(Dirty, replica.moment());
+    CHECK(sure(replica.hash_moment(0)) == 0 && sure(replica.count()).front == front);
+}
+
+/// A call that holds a moment drops it, also if it is refused.
+void no_moment_is_left() {
+    Replica replica = filled(50);
+    Snapshot snapshot = sure(replica.snapshot());
+    const std::string offer = sure(snapshot.offer(1));
+    check_no_moment(replica, 50);
+    CHECK(sure(replica.sync(2, offer, reach(snapshot))).asks == 0);
+    check_no_moment(replica, 50);
+    sure(replica.put(1, "later", ""));
+    REFUSED(BadMessage, replica.open(2, ""));
+    check_no_moment(replica, 51);
+    sure(replica.put(1, "last", ""));
+    sure(replica.open(2, offer));
+    check_no_moment(replica, 52);
 }
 
 void session_at_the_moment() {
@@ -187,6 +209,7 @@ int main() {
     return run({{"moment", moment},
                 {"session at the moment", session_at_the_moment},
                 {"no whole moment", no_whole_moment},
+                {"no moment is left", no_moment_is_left},
                 {"portion outlives its replica", portion_outlives_its_replica},
                 {"replica that is never at rest", replica_that_is_never_at_rest},
                 {"snapshots and syncs while a thread puts", snapshots_and_syncs_while_a_thread_puts},
