@@ -319,8 +319,8 @@ class Replica(Handle):
     def snapshot(self, rehash: bool = True) -> Snapshot:
         """Returns a snapshot of the rows now, which are held as a moment and hashed while other threads put.
 
-        The replica keeps no moment then. If `rehash` is False it holds no moment, and raises Dirty if a node of the
-        tree has no digest.
+        The replica keeps no moment then. If `rehash` is False it holds and drops no moment, and raises Dirty if a node
+        of the tree has no digest.
         """
         return Snapshot(self, rehash)
 
