@@ -142,6 +142,8 @@ static void moments(void)
     antientropy_portion_free(&portion);
     OK(antientropy_drop_moment(&replica));
     SEE(moment, DIRTY, antientropy_moment(&replica, &nothing));
+    OK(antientropy_count(&replica, &counts));
+    is("front stays after a drop", counts.front == 2);
     antientropy_snapshot_free(&snapshot);
     antientropy_free(&replica);
 }

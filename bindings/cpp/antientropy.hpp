@@ -1539,9 +1539,9 @@ public:
 
     // ---- sessions
 
-    /// Opens a session with a partner's offer. Hashes the nodes that have no digest, and drops the moment, unless `hash`
-    /// is false. The partner's number is recorded. A session's record is never freed before its replica, so compare
-    /// roots first.
+    /// Opens a session with a partner's offer. Hashes the nodes that have no digest, and drops the moment, unless
+    /// `hash` is false. The partner's number is recorded. A session's record is never freed before its replica, so
+    /// compare roots first.
     /// Refused, in order: BadMessage, BadClock (the partner is over 65,535), OtherFormat, OtherRange, SessionsFull,
     /// Dirty (`hash` is false).
     Result<Session> open(std::uint64_t partner, std::string_view offer, bool hash = true) {
