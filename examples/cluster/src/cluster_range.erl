@@ -343,10 +343,14 @@ new_offer(Partner, Snapshot, #state{offers = Offers, offered = Offered} = State)
     Next = State#state{offers = Number, offered = Offered#{Partner => {Number, Snapshot}}},
     {antientropy_snapshot:offer(Snapshot, Number), Next}.
 
+%% Closes the snapshot of a partner's last offer in another process, so that no call waits until its rows are freed.
 close_offered(Partner, Offered) ->
     case Offered of
-        #{Partner := {_, Snapshot}} -> antientropy_snapshot:close(Snapshot);
-        _ -> ok
+        #{Partner := {_, Snapshot}} ->
+            _ = spawn(fun() -> ok = antientropy_snapshot:close(Snapshot) end),
+            ok;
+        _ ->
+            ok
     end.
 
 %% ---- the log
