@@ -1,13 +1,13 @@
--- The structs of C that are handles, each of one type.
+-- The structs of C that are handles, each of one type. A handle of nothing has any value.
 use Rattle.std.proofs.Common.{[], refl}
 use Rattle.vclock.specs.declared.format.Format.TheVariants.{One}
 use Rattle.admission.specs.Admission.{fresh_admission}
 use Rattle.admission.specs.contracts.budget.SlotBudget as budget
 use Rattle.hint_store.specs.contracts.store.HintStore as store
-use Rattle.range_state.specs.State.{State, fresh}
+use Rattle.range_state.specs.State.{fresh}
 use Rattle.range_state.specs.contracts.portion.Portion as nodes
 use Rattle.range_state.specs.contracts.state.RangeState as state
-use Rattle.c_handle.proofs.HandleLaws.{CStruct}
+pub use Rattle.c_handle.proofs.HandleLaws.{CStruct, Sends, sent, of_handle, into_handle, moved}
 use Rattle.antientropy_c.specs.contracts.hints.Hints as hints
 use Rattle.antientropy_c.specs.contracts.portion_handle.PortionHandle as portion
 use Rattle.antientropy_c.specs.contracts.publication.Publication as publication
@@ -15,12 +15,8 @@ use Rattle.antientropy_c.specs.contracts.published.Published as published
 use Rattle.antientropy_c.specs.contracts.replica.Replica as replica
 use Rattle.antientropy_c.specs.contracts.slots.Slots as slots
 
--- any state: a handle of nothing says nothing of it
-abbrev pub some_state : State
-some_state = fresh (record { format = One; bits = 0; range = 0; limit = 1 })
-
 abbrev pub of_replica : CStruct
-of_replica = record { R = state.the_row; T = replica.the_type; parts_of = λ h. ((h.at, (h.held, (h.alloc, tt))), h.state); make = λ u. record { at = u.0.0; held = u.0.1.0; alloc = u.0.1.1.0; state = u.1 }; any = some_state; made = λ u. refl; owns = λ h. refl }
+of_replica = record { R = state.the_row; T = replica.the_type; parts_of = λ h. ((h.at, (h.held, (h.alloc, tt))), h.state); make = λ u. record { at = u.0.0; held = u.0.1.0; alloc = u.0.1.1.0; state = u.1 }; any = fresh (record { format = One; bits = 0; range = 0; limit = 1 }); made = λ u. refl; owns = λ h. refl }
 
 abbrev pub of_publication : CStruct
 of_publication = record { R = published.the_row; T = publication.the_type; parts_of = λ h. ((h.at, (h.held, (h.alloc, tt))), h.rows); make = λ u. record { at = u.0.0; held = u.0.1.0; alloc = u.0.1.1.0; rows = u.1 }; any = record { format = One; bits = 0; range = 0; rows = [] }; made = λ u. refl; owns = λ h. refl }

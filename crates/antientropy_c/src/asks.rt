@@ -13,6 +13,7 @@ use crate::numbers::{EMPTY, code};
 use crate::output::hand_out;
 use crate::replica::Replica;
 use crate::sessions::{record_of, tell_number};
+use c_handle::InC;
 use range_state::RangeState;
 use std::alloc::Global;
 use tree_nodes::{NodeAt, Text};

@@ -12,6 +12,7 @@ use crate::numbers::{EMPTY, code};
 use crate::puts::node_of;
 use crate::replica::Replica;
 use crate::sessions::tell_number;
+use c_handle::InC;
 use range_state::RangeState;
 use std::alloc::Global;
 use vclock::{Refusal, check_key};

@@ -4,6 +4,7 @@ ghost use Rattle.antientropy_c.specs.Calls.{Calls, counts_of};
 
 use crate::numbers::EMPTY;
 use crate::replica::Replica;
+use c_handle::InC;
 use range_state::RangeState;
 use std::alloc::Global;
 

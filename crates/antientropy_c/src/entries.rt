@@ -10,6 +10,7 @@ use crate::output::copy_out;
 use crate::pair::Pair;
 use crate::replica::Replica;
 use crate::versions::copy_pairs;
+use c_handle::InC;
 use range_journal::Source;
 use range_state::RangeState;
 use std::alloc::Global;

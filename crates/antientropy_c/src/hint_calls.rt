@@ -23,6 +23,7 @@ use crate::pair::{Pair, clock_of};
 use crate::puts::{kind_of_parts, node_of};
 use crate::sessions::tell_number;
 use crate::versions::copy_pairs;
+use c_handle::InC;
 use hint_store::{HintStore, Kept};
 use std::alloc::Global;
 use vclock::limits::PENDING_HINTS_MAX;

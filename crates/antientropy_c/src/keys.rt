@@ -11,6 +11,7 @@ ghost use Rattle.antientropy_c.specs.Keys.{key_after, HandsKeyAfter, HandsKeyNex
 use crate::numbers::{EMPTY, NO_VERSION, SMALL};
 use crate::output::copy_out;
 use crate::replica::Replica;
+use c_handle::InC;
 use hash_tree::SharedLeaf;
 use key_ring::leaf_count;
 use range_state::RangeState;

@@ -11,6 +11,7 @@ ghost use Rattle.antientropy_c.specs.Makes.{Makes, TakesState, config_fault, IsF
 
 use crate::numbers::{EMPTY, HELD, code};
 use crate::replica::Replica;
+use c_handle::InC;
 use range_state::{RangeConfig, RangeState, Seed};
 use std::alloc::Global;
 use vclock::Refusal;

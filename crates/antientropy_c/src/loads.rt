@@ -23,6 +23,7 @@ use crate::numbers::{EMPTY, code};
 use crate::output::hand_out;
 use crate::publication::Publication;
 use crate::replica::Replica;
+use c_handle::InC;
 use key_ring::leaf_count;
 use range_state::{Loaded, RangeState};
 use snapshot::Snapshot;

@@ -15,6 +15,7 @@ use crate::offers::publish;
 use crate::publication::Publication;
 use crate::replica::Replica;
 use crate::sessions::tell_number;
+use c_handle::InC;
 use range_state::{LocalRows, RangeState};
 use std::alloc::Global;
 use vclock::Refusal;

@@ -15,6 +15,7 @@ use crate::output::{copy_out, hand_out};
 use crate::publication::Publication;
 use crate::published::Published;
 use crate::replica::Replica;
+use c_handle::InC;
 use range_state::{LocalRows, RangeState};
 use snapshot::Snapshot;
 use std::alloc::Global;

@@ -1,14 +1,13 @@
 //! The handle of a portion of a moment's nodes.
-ghost use Rattle.std.specs.Prelude.{◌≡◌, true, false, List, MatchOption, Some, IfSome};
+ghost use Rattle.std.specs.Prelude.{◌≡◌, List, Some, IfSome};
 ghost use Rattle.rehash.specs.Jobs.{NodeText};
 ghost use Rattle.c_handle.specs.Handles.{c_owns};
 ghost use Rattle.range_state.specs.contracts.portion.Portion.{the_row};
 
-use c_handle::Handle;
+use c_handle::{Handle, InC};
 use range_state::Portion;
 use std::alloc::Global;
 use std::marker::Model;
-use std::mem::replace;
 
 /// A portion on the heap, or nothing: then all its bytes are zero, and the ghost nodes are arbitrary.
 #[repr(C)]
@@ -27,8 +26,13 @@ impl Model for PortionHandle {
 // The allocator and the contents may go to another thread, and so may the handle.
 unsafe impl Send for PortionHandle {}
 
-impl PortionHandle {
-    /// Converts a handle into the one of C.
+impl InC for PortionHandle {
+    type Held = Portion;
+
+    ghost held = { λ h. h.held };
+
+    ghost value = { λ h. h.nodes };
+
     fn of(handle: Handle<Portion, Global>) -> PortionHandle
         ensures { (result.held ≡ handle.held) × IfSome handle.value (λ x. result.nodes ≡ x) }
     {
@@ -40,7 +44,6 @@ impl PortionHandle {
         }
     }
 
-    /// Converts the handle of C into a handle.
     fn into_handle(self) -> Handle<Portion, Global>
         ensures { (result.held ≡ self.held) × (result.value ≡ Some self.nodes) }
     {
@@ -50,26 +53,5 @@ impl PortionHandle {
             held,
             alloc,
         }
-    }
-
-    /// Takes the portion out, if any. The handle is empty then.
-    pub(crate) fn take(&mut self, alloc: Global) -> Option<Box<Portion, Global>>
-        ensures nodes { MatchOption result (self.old.held ≡ false)
-            (λ nodes. (self.old.held ≡ true) × (nodes.value ≡ self.old.nodes)) }
-        ensures none { self.new.held ≡ false }
-    {
-        replace(self, PortionHandle::of(Handle::none(alloc)))
-            .into_handle()
-            .into_box()
-            .ok()
-    }
-
-    /// Puts a portion into an empty handle. A portion that is dropped with its handle would never be freed.
-    pub(crate) fn hold(&mut self, nodes: Box<Portion, Global>)
-        requires { self.old.held ≡ false }
-        ensures held { self.new.held ≡ true }
-        ensures nodes { self.new.nodes ≡ nodes.value }
-    {
-        let _before = replace(self, PortionHandle::of(Handle::of(nodes)));
     }
 }

@@ -9,6 +9,7 @@ ghost use Rattle.antientropy_c.specs.Portions.{nodes_in, Installs};
 use crate::numbers::{EMPTY, HELD, code};
 use crate::portion_handle::PortionHandle;
 use crate::replica::Replica;
+use c_handle::InC;
 use range_state::{Portion, RangeState};
 use std::alloc::Global;
 use vclock::Refusal;

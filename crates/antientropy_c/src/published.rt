@@ -11,7 +11,7 @@ use vclock::Refusal;
 
 /// A snapshot of a replica's rows, which shares its leaves with the replica.
 #[derive(Drop)]
-pub(crate) struct Published {
+pub struct Published {
     snapshot: Arc<Snapshot, Global>,
 }
 

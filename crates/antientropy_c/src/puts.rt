@@ -14,6 +14,7 @@ ghost use Rattle.antientropy_c.specs.Puts.{node_fault, kind_fault, kind_numbered
 use crate::numbers::{EMPTY, code};
 use crate::pair::{Pair, check_pairs, clock_of};
 use crate::replica::Replica;
+use c_handle::InC;
 use range_journal::Source;
 use range_state::{Accepted, ContextTest, RangeState, Receipt};
 use std::alloc::Global;

@@ -12,6 +12,7 @@ use crate::output::{copy_out, hand_out};
 use crate::publication::Publication;
 use crate::published::Published;
 use crate::rows::held_row;
+use c_handle::InC;
 use key_ring::leaf_count;
 use snapshot::Snapshot;
 use std::alloc::Global;

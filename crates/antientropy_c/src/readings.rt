@@ -9,6 +9,7 @@ use crate::output::copy_out;
 use crate::pair::Pair;
 use crate::replica::Replica;
 use crate::versions::{copy_pairs, versions_of};
+use c_handle::InC;
 use range_state::RangeState;
 use std::alloc::Global;
 

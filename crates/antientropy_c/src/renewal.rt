@@ -8,6 +8,7 @@ ghost use Rattle.antientropy_c.specs.Makes.{Makes, TakesState};
 
 use crate::numbers::{EMPTY, HELD, code};
 use crate::replica::Replica;
+use c_handle::InC;
 use range_state::RangeState;
 use std::alloc::Global;
 use vclock::Refusal;

@@ -1,14 +1,13 @@
 //! The handle of a replica.
-ghost use Rattle.std.specs.Prelude.{◌≡◌, true, false, MatchOption, Some, IfSome};
+ghost use Rattle.std.specs.Prelude.{◌≡◌, Some, IfSome};
 ghost use Rattle.range_state.specs.State.{State};
 ghost use Rattle.c_handle.specs.Handles.{c_owns};
 ghost use Rattle.range_state.specs.contracts.state.RangeState.{the_row};
 
-use c_handle::Handle;
+use c_handle::{Handle, InC};
 use range_state::RangeState;
 use std::alloc::Global;
 use std::marker::Model;
-use std::mem::replace;
 
 /// A replica on the heap, or nothing: then all its bytes are zero, and the ghost state is arbitrary.
 #[repr(C)]
@@ -27,8 +26,13 @@ impl Model for Replica {
 // The allocator and the contents may go to another thread, and so may the handle.
 unsafe impl Send for Replica {}
 
-impl Replica {
-    /// Converts a handle into the one of C.
+impl InC for Replica {
+    type Held = RangeState;
+
+    ghost held = { λ h. h.held };
+
+    ghost value = { λ h. h.state };
+
     fn of(handle: Handle<RangeState, Global>) -> Replica
         ensures { (result.held ≡ handle.held) × IfSome handle.value (λ x. result.state ≡ x) }
     {
@@ -40,7 +44,6 @@ impl Replica {
         }
     }
 
-    /// Converts the handle of C into a handle.
     fn into_handle(self) -> Handle<RangeState, Global>
         ensures { (result.held ≡ self.held) × (result.value ≡ Some self.state) }
     {
@@ -50,26 +53,5 @@ impl Replica {
             held,
             alloc,
         }
-    }
-
-    /// Takes the replica out, if any. The handle is empty then.
-    pub(crate) fn take(&mut self, alloc: Global) -> Option<Box<RangeState, Global>>
-        ensures state { MatchOption result (self.old.held ≡ false)
-            (λ state. (self.old.held ≡ true) × (state.value ≡ self.old.state)) }
-        ensures none { self.new.held ≡ false }
-    {
-        replace(self, Replica::of(Handle::none(alloc)))
-            .into_handle()
-            .into_box()
-            .ok()
-    }
-
-    /// Puts a replica into an empty handle. A replica that is dropped with its handle would never be freed.
-    pub(crate) fn hold(&mut self, state: Box<RangeState, Global>)
-        requires { self.old.held ≡ false }
-        ensures held { self.new.held ≡ true }
-        ensures state { self.new.state ≡ state.value }
-    {
-        let _before = replace(self, Replica::of(Handle::of(state)));
     }
 }

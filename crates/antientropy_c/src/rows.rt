@@ -13,6 +13,7 @@ use crate::numbers::EMPTY;
 use crate::output::hand_out;
 use crate::replica::Replica;
 use crate::versions::versions_of;
+use c_handle::InC;
 use range_state::RangeState;
 use row_bytes::write_held;
 use std::alloc::Global;

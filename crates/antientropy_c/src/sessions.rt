@@ -13,6 +13,7 @@ ghost use Rattle.antientropy_c.specs.Sessions.{Opens, OpensUnless, partner_fault
 
 use crate::numbers::{EMPTY, code};
 use crate::replica::Replica;
+use c_handle::InC;
 use range_state::{AnswerTaken, LocalRows, RangeState, Record};
 use std::alloc::Global;
 use sync_session::SessionState;

@@ -12,6 +12,7 @@ ghost use Rattle.antientropy_c.specs.SlotCalls.{slots_in, bounds_fault, set_targ
 use crate::numbers::{EMPTY, HELD, code};
 use crate::slots::Slots;
 use admission::SlotBudget;
+use c_handle::InC;
 use std::alloc::Global;
 use vclock::Refusal;
 

@@ -10,6 +10,7 @@ ghost use Rattle.antientropy_c.specs.Sessions.{TellsNumber};
 use crate::numbers::{EMPTY, code};
 use crate::replica::Replica;
 use crate::sessions::tell_number;
+use c_handle::InC;
 use range_state::RangeState;
 use std::alloc::Global;
 use vclock::Refusal;

@@ -9,6 +9,7 @@ use crate::numbers::{EMPTY, NO_VERSION, SMALL};
 use crate::output::copy_out;
 use crate::pair::Pair;
 use crate::replica::Replica;
+use c_handle::InC;
 use range_state::RangeState;
 use std::alloc::Global;
 use vclock::check_key;

@@ -17,7 +17,7 @@ use Rattle.std.specs.declared.alloc.Global.{Global}
 use Rattle.std.specs.contracts.alloc.Global as heap
 use Rattle.std.proofs.alloc.Global.TheLaws as heap_laws
 use Rattle.std_alloc.proofs.SendSync as any
-use Rattle.c_handle.specs.contracts.Handle as handle
+use Rattle.c_handle.specs.contracts.handle.Handle as handle
 
 abbrev pub parts : List Field
 parts = RawPtr-field ∷ bool-field ∷ heap.the_field ∷ []

@@ -1,8 +1,10 @@
 -- The names that the proofs of this crate share.
-pub use Rattle.std.proofs.Common.{◌≡◌, Option, Some, None, List, [], ◌∷◌, ◌++◌, refl, sym, ap, ◌∙◌, subst}
+pub use Rattle.std.proofs.Common.{◌≡◌, Option, Some, None, List, [], ◌∷◌, ◌++◌, refl, sym, ap, ◌∙◌, subst, lit<}
 pub use Rattle.std.specs.Prelude.{IfSome}
 pub use mathlib.Core.Bool.{Bool, true, false, not, ◌&&◌}
 pub use lib.Dec.{T}
+pub use lib.Ieee.Bits.{is_false}
+pub use mir.ValLaws.{and_in}
 pub use seplogic.Ra.Ura.{Ura}
 pub use mir.Syntax.{a_type, dcons, dnil, ty_ptr, ty_bool}
 pub use mir.Val.{Val, vbool, vstruct, vcons, vnil, of_list, has_ty, WT}
@@ -29,6 +31,7 @@ pub use denote.Steps.{nothing, only, heard}
 pub use denote.Struct.Owning.{Owning, row, shape}
 pub use denote.Struct.Struct.{Struct, within, exits_of}
 pub use denote.Struct.Values.{Values, intos}
+pub use denote.Triple.Call.{calls_at, calls_at_last}
 pub use denote.Triple.Clauses.{Ended, Clauses, Lasts, lasts, closing}
 pub use denote.Triple.Spec.{Meets, triple_of}
 pub use denote.Triple.Walked.{Stays, stay_dropped, walk_of, Goes-dropped}
@@ -36,4 +39,5 @@ pub use Rattle.core.proofs.alloc.Calls.{Al, Goes-blank, handle_tells}
 pub use Rattle.core.proofs.atomic.Steps.{fm, Ptr-Good}
 pub use Rattle.core.proofs.cell.Inside.{Good}
 pub use Rattle.std.proofs.raw_atomic.Walks.{proved, proved_at, leaves}
+pub use Rattle.std_alloc.proofs.ResultValues.{and_tt, ok_of, err_of}
 pub use Rattle.std_alloc.specs.Box.Ownership.{box_owns}

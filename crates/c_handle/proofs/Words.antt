@@ -1,27 +1,17 @@
 -- A pointer, a flag and an allocator as a machine value, and the `Handle` that has them. Assumes `Logic`.
-use Rattle.c_handle.proofs.Steps.{◌≡◌, List, [], ◌∷◌, refl, Option, Some, None, Bool, true, false, not, ◌&&◌, T, Ura, ty_ptr, Val, vbool, vstruct, vcons, vnil, has_ty, WT, Logic, never_e, ftrue, given, use1, learn, Item, Goal, Seq, Step, step, ‵, ◌$◌, move, fjoin, fpack, feq_i, RattleType, Valss, RawPtr, bool, Ptr, ptr_val, nothing, layout, within, shape, Ptr-Good, Good, box_owns}
+use Rattle.c_handle.proofs.Steps.{and_in, and_tt, ◌≡◌, List, [], ◌∷◌, refl, Option, Some, None, Bool, true, false, not, ◌&&◌, T, Ura, ty_ptr, Val, vbool, vstruct, vcons, vnil, has_ty, WT, Logic, never_e, ftrue, given, use1, learn, Item, Goal, Seq, Step, step, ‵, ◌$◌, move, fjoin, fpack, feq_i, RattleType, Valss, RawPtr, bool, Ptr, ptr_val, nothing, layout, within, shape, Ptr-Good, Good, box_owns}
 use Rattle.core.specs.declared.alloc.Allocator.{Ghosts}
 use Rattle.c_handle.specs.Handles.{held_owns}
-use Rattle.c_handle.specs.contracts.Handle as handle
+use Rattle.c_handle.specs.contracts.handle.Handle as handle
 
 -- the machine value of the three
 abbrev pub word : Ptr → Bool → Val → Val
 word p held h = vstruct (vcons (ptr_val p) (vcons (vbool held) (vcons h vnil)))
 
-pub both_last : (x y : Bool) → T x → T y → T (x && (y && true))
-both_last true true s t = tt
-both_last true false s t = absurd t
-both_last false y s t = absurd s
-
--- what a branch on `!held` tells, if it is not taken
-pub empty_if : (b : Bool) → T (not b) → b ≡ false
-empty_if true t = absurd t
-empty_if false t = refl
-
 -- it has its layout
 pub word_good : (Z : RattleType) (p : Ptr) (held : Bool) (h : Val) → Good (layout Z) h
     → T (has_ty ty_ptr (ptr_val p) && (has_ty (layout Z) h && true)) × WT (word p held h)
-word_good Z p held h fits = (both_last _ _ (Ptr-Good p).0 fits.0, ((Ptr-Good p).1, (tt, (fits.1, tt))))
+word_good Z p held h fits = (and_in _ _ (Ptr-Good p).0 (and_tt _ fits.0), ((Ptr-Good p).1, (tt, (fits.1, tt))))
 
 module _ (R Z : RattleType) (g : Ghosts Z.Denot) where
   abbrev pub Handle : RattleType

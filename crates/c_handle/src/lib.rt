@@ -1,7 +1,7 @@
 //! Values on the heap in the form in which C keeps them: a pointer and a flag.
 //!
-//! An export takes no struct with type arguments. So a library for C has a struct of its own for each type, with the
-//! fields of a [`Handle`], and makes each of the other field by field:
+//! - [`handle`]: a value on the heap, or nothing.
+//! - [`in_c`]: the structs of C that are handles, one for each type.
 //!
 //! ```
 //! let Handle { at, held, alloc } = handle;
@@ -11,63 +11,10 @@
 //!     alloc,
 //! }
 //! ```
-//!
-//! `proofs/HandleLaws.antt` proves such a function, and `proofs/StructLaws.antt` what it needs of the struct.
 #![tactic(auto)]
 
-ghost use Rattle.std.specs.Prelude.{◌≡◌, true, false, MatchResult, Option, Some, None};
-ghost use Rattle.c_handle.specs.Handles.{held_owns};
+pub mod handle;
+pub mod in_c;
 
-use std::alloc::Allocator;
-use std::marker::Model;
-use std::ptr::null_mut;
-
-/// A value on the heap, or nothing.
-#[repr(C)]
-pub struct Handle<T, A: Allocator> {
-    pub at: *mut T,
-    pub held: bool,
-    pub alloc: A,
-    pub ghost value: { Option T },
-}
-
-impl<T, A: Allocator> Model for Handle<T, A> {
-    ghost also_owns = { λ h. held_owns (A.dealloc_token h.alloc) T.row h.held h.at h.value };
-}
-
-impl<T: Drop, A: Allocator> Handle<T, A> {
-    /// Makes the handle of nothing.
-    pub fn none(alloc: A) -> Handle<T, A>
-        ensures { (result.held ≡ false) × (result.value ≡ None) }
-    {
-        Handle {
-            at: null_mut(),
-            held: false,
-            alloc,
-        }
-    }
-
-    /// Makes the handle of a value.
-    pub fn of(whole: Box<T, A>) -> Handle<T, A>
-        ensures { (result.held ≡ true) × (result.value ≡ Some whole.value) }
-    {
-        let (at, alloc) = Box::into_raw_with_allocator(whole);
-        Handle {
-            at,
-            held: true,
-            alloc,
-        }
-    }
-
-    /// Returns the value. If nothing is held, returns the allocator.
-    pub fn into_box(self) -> Result<Box<T, A>, A>
-        ensures { MatchResult result (λ whole. (self.held ≡ true) × (self.value ≡ Some whole.value))
-            (λ _. self.held ≡ false) }
-    {
-        let Handle { at, held, alloc } = self;
-        if !held {
-            return Err(alloc);
-        }
-        Ok(unsafe { Box::from_raw(alloc, at) })
-    }
-}
+pub use handle::Handle;
+pub use in_c::InC;

@@ -5,4 +5,4 @@ use Rattle.antientropy_c.proofs.MakeLaws.{made}
 use Rattle.antientropy_c.proofs.hint_calls.begin.Goals as goal
 
 pub returns : goal.returns
-returns c = made c.code.result (hints_in c.args.hints.now) (hints_in c.make.new.hints) (restore_fault c.args.first) (λ s. s ≡ restored c.args.first) c.make.result c.in_default.ensures.kept c.code.ensures c.make.ensures
+returns c = made c.code.result (hints_in c.args.hints.now) (hints_in c.make.new.hints) (restore_fault c.args.first) (λ s. s ≡ restored c.args.first) c.make.result c.in_default.ensures.value c.code.ensures c.make.ensures

@@ -7,4 +7,4 @@ use Rattle.antientropy_c.proofs.portions.take_portion.Goals as goal
 pub returns : goal.returns
 returns c =
     let a = c.args in
-    made c.code.result (nodes_in a.portion.now) (nodes_in c.make.new.portion) None (IsPortion a.state.now.moment a.most) c.make.result c.in_default.ensures.nodes c.code.ensures c.make.ensures
+    made c.code.result (nodes_in a.portion.now) (nodes_in c.make.new.portion) None (IsPortion a.state.now.moment a.most) c.make.result c.in_default.ensures.value c.code.ensures c.make.ensures

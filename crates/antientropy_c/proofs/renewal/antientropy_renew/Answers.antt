@@ -19,4 +19,4 @@ returns c =
     let limit = c.args.limit in
     let s = c.in-Some.state.value in
     let made : Renews code into new limit s = subst (Renews code into new limit) c.deref.ensures c.renew-number.ensures in
-    held code (replica_in c.args.from.now) (replica_in c.hold.new.self) (new ≡ into) (λ a b. (b ≡ a) × Renews code into new limit a) s s c.in-Some.ensures.state.0 c.hold.ensures.held c.in-Some.ensures.state.1 c.hold.ensures.state (refl, made)
+    held code (replica_in c.args.from.now) (replica_in c.hold.new.self) (new ≡ into) (λ a b. (b ≡ a) × Renews code into new limit a) s s c.in-Some.ensures.value.0 c.hold.ensures.held c.in-Some.ensures.value.1 c.hold.ensures.value (refl, made)

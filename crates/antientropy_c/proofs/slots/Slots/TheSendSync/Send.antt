@@ -1,6 +1,5 @@
 use Rattle.admission.proofs.budget.SlotBudget.TheSendSync.{the_send}
-use Rattle.c_handle.proofs.HandleLaws.{Sends, sent}
-use Rattle.antientropy_c.proofs.Structs.{of_slots}
+use Rattle.antientropy_c.proofs.Structs.{Sends, sent, of_slots}
 
 pub send : Sends of_slots
 send = sent of_slots the_send

@@ -1,15 +1,14 @@
 -- The box is taken apart by its own call, and what it owned is held.
-use Rattle.c_handle.proofs.Steps.{◌≡◌, Some, List, [], ◌∷◌, ◌++◌, refl, sym, ap, ◌∙◌, subst, true, a_type, dcons, dnil, Val, vstruct, of_list, inst_fn, SProp, ent, emp, id⊢, ftrue, flft, WpFn, ‵, raw, ◌⊛◌, some, later, ◌$◌, ◌∵◌, !, qed, by, move, keep, drop, split, split3, join, fsplit, fjoin, fpick, pick, suffices, use0, use1, await, rewrite, feq_l, stop, fld, of_opd, no_more, and_then, true_lit, returns, enter, alloc_all, pass_all, free_all, look_at, get, get_in, sets, lands_as, agg, sub, whole, fact, fact_i, tables, no, RattleType, owns, types_at, plain, RawPtr, Ptr, nothing, only, heard, param, bounded, Lasts, lasts, triple_of, Stays, stay_dropped, walk_of, Goes-blank, handle_tells, fm, Ptr-Good, box_owns, proved_at, leaves}
+use Rattle.c_handle.proofs.Steps.{and_in, and_tt, calls_at, ◌≡◌, Some, List, [], ◌∷◌, ◌++◌, refl, sym, ap, ◌∙◌, subst, true, a_type, dcons, dnil, Val, vstruct, of_list, inst_fn, SProp, ent, emp, id⊢, ftrue, flft, WpFn, ‵, raw, ◌⊛◌, some, later, ◌$◌, ◌∵◌, !, qed, by, move, keep, drop, split, split3, join, fsplit, fjoin, fpick, pick, suffices, use0, use1, await, rewrite, feq_l, stop, fld, of_opd, no_more, and_then, true_lit, returns, enter, alloc_all, pass_all, free_all, look_at, get, get_in, sets, lands_as, agg, sub, whole, fact, fact_i, tables, no, RattleType, owns, types_at, plain, RawPtr, Ptr, nothing, only, heard, param, bounded, Lasts, lasts, triple_of, Stays, stay_dropped, walk_of, Goes-blank, handle_tells, fm, Ptr-Good, box_owns, proved_at, leaves}
 use denote.Struct.Tuple.{Tuple}
-use denote.Triple.Call.{calls_at}
 use Rattle.std_alloc.proofs.BoxSteps.Form as box
 use Rattle.std_alloc.proofs.BoxSteps.Steps.{box_out, box_in}
-use Rattle.c_handle.proofs.Words.{word, word_good, both_last, handle_in}
+use Rattle.c_handle.proofs.Words.{word, word_good, handle_in}
 use Rattle.std_alloc.specs.contracts.boxed.Box.into_raw_with_allocator as callee
 use Rattle.std_alloc.proofs.boxed.Box.into_raw_with_allocator.Met.{met}
-use Rattle.c_handle.specs.contracts.Handle.of as f
-use Rattle.c_handle.proofs.Handle.of.Statement.{statement}
-use Rattle.c_handle.proofs.Handle.of.Code as code
+use Rattle.c_handle.specs.contracts.handle.Handle.of as f
+use Rattle.c_handle.proofs.handle.Handle.of.Statement.{statement}
+use Rattle.c_handle.proofs.handle.Handle.of.Code as code
 
 pub of_spec : {M : Type 1} → statement M
 of_spec 𝓤 𝓛 𝓜 𝓡 wired T A L LA g d dT dA allocator glueT glueA =
@@ -36,7 +35,7 @@ of_spec 𝓤 𝓛 𝓜 𝓡 wired T A L LA g d dT dA allocator glueT glueA =
     -- [what the box owned; the tokens with the pair]
     move ! (1 ∷ []) $ split ! $ move ! (1 ∷ []) $ fpick ! (λ vss. fsplit ! $ feq_l ! (λ is_pair. fsplit ! $ feq_l ! (λ is_at. fsplit ! $
     rewrite ! 0 (λ (s : A.Denot). ‵ (A.own_val s vss.1.0)) same refl $ handle_tells E.al ! a vss.1.0 (λ h' is_alloc fits'.
-    lands_as ! (ap only (is_pair ∙ (λ j. vstruct (of_list (is_at j ++ (is_alloc j ++ []))) ∷ []))) refl (both_last _ _ (Ptr-Good r.0).0 fits'.0, ((Ptr-Good r.0).1, (fits'.1, tt))) $
+    lands_as ! (ap only (is_pair ∙ (λ j. vstruct (of_list (is_at j ++ (is_alloc j ++ []))) ∷ []))) refl (and_in _ _ (Ptr-Good r.0).0 (and_tt _ fits'.0), ((Ptr-Good r.0).1, (fits'.1, tt))) $
     sets ! (of_opd ! (get_in ! (fld ! refl (stop !)) (sub ! 0 refl (whole !)))) refl (Ptr-Good r.0) $
     sets ! (of_opd ! (get_in ! (fld ! refl (stop !)) (sub ! 1 refl (whole !)))) refl fits' $ sets ! (of_opd ! (get ! refl)) refl fits' $
     sets ! (agg ! (and_then ! (get ! refl) (and_then ! (true_lit !) (and_then ! (get ! refl) (no_more !))))) refl (word_good Z r.0 true h' fits') $

@@ -1,9 +1,9 @@
 -- Nothing is held at null.
 use Rattle.c_handle.proofs.Steps.{◌≡◌, None, List, [], ◌∷◌, ◌++◌, refl, sym, subst, false, a_type, dcons, dnil, Val, inst_fn, SProp, ent, emp, id⊢, ftrue, flft, WpFn, ‵, raw, ◌⊛◌, ◌$◌, ◌∵◌, !, qed, by, move, keep, split, fsplit, fjoin, suffices, use0, of_opd, lit, false_lit, no_more, and_then, returns, enter, alloc_all, pass_all, free_all, look_at, get, sets, agg, fact, fact_i, tables, no, RattleType, owns, types_at, plain, null_ptr, nothing, param, bounded, param_laws, Stays, stay_dropped, walk_of, Al, Goes-blank, handle_tells, proved_at, leaves}
 use Rattle.c_handle.proofs.Words.{word, word_good, handle_in}
-use Rattle.c_handle.specs.contracts.Handle.none as f
-use Rattle.c_handle.proofs.Handle.none.Statement.{statement}
-use Rattle.c_handle.proofs.Handle.none.Code as code
+use Rattle.c_handle.specs.contracts.handle.Handle.none as f
+use Rattle.c_handle.proofs.handle.Handle.none.Statement.{statement}
+use Rattle.c_handle.proofs.handle.Handle.none.Code as code
 
 pub none_spec : {M : Type 1} → statement M
 none_spec 𝓤 𝓛 𝓜 𝓡 wired T A L LA g d dT dA allocator glueT glueA =

@@ -1,20 +1,17 @@
 -- If something is held, the box is made of it by its own call; else the allocator alone is left.
-use Rattle.c_handle.proofs.Steps.{◌≡◌, List, [], ◌∷◌, ◌++◌, Some, refl, sym, ap, ◌∙◌, subst, true, false, a_type, dcons, dnil, Val, vcons, vnil, inst_fn, SProp, ent, emp, id⊢, ftrue, flft, WpFn, ‵, raw, ◌⊛◌, some, later, at_ret, ◌$◌, ◌∵◌, !, qed, by, move, keep, drop, split, split3, join, fsplit, fjoin, fpick, feq_l, vstruct, of_list, pick, suffices, use0, use1, await, rewrite, feq_i, stop, fld, lit, of_opd, un, no_more, and_then, first, blocks, branches, skips, exec, returns, returns_within, enter, alloc_all, pass_all, free_all, look_at, get, get_in, sets, lands_last, env, agg, sub, whole, fact, fact_i, tables, no, RattleType, owns, types_at, type_at, plain, ptr_val, nothing, only, heard, param, layout, bounded, Lasts, lasts, triple_of, Stays, stay_dropped, walk_of, Goes-blank, handle_tells, fm, Ptr-Good, Good, proved_at, leaves}
-use Rattle.std.proofs.Common.{lit<}
+use Rattle.c_handle.proofs.Steps.{is_false, lit<, calls_at_last, and_tt, ok_of, err_of, ◌≡◌, List, [], ◌∷◌, ◌++◌, Some, refl, sym, ap, ◌∙◌, subst, true, false, a_type, dcons, dnil, Val, vcons, vnil, inst_fn, SProp, ent, emp, id⊢, ftrue, flft, WpFn, ‵, raw, ◌⊛◌, some, later, at_ret, ◌$◌, ◌∵◌, !, qed, by, move, keep, drop, split, split3, join, fsplit, fjoin, fpick, feq_l, vstruct, of_list, pick, suffices, use0, use1, await, rewrite, feq_i, stop, fld, lit, of_opd, un, no_more, and_then, first, blocks, branches, skips, exec, returns, returns_within, enter, alloc_all, pass_all, free_all, look_at, get, get_in, sets, lands_last, env, agg, sub, whole, fact, fact_i, tables, no, RattleType, owns, types_at, type_at, plain, ptr_val, nothing, only, heard, param, layout, bounded, Lasts, lasts, triple_of, Stays, stay_dropped, walk_of, Goes-blank, handle_tells, fm, Ptr-Good, Good, proved_at, leaves}
 use types.Match.{live}
 use contract.BorrowLft.{◌⊑◌}
-use denote.Triple.Call.{calls_at_last}
 use Rattle.core.specs.declared.result.Result.TheVariants.{Ok, Err}
 use Rattle.core.proofs.alloc.Shapes.{after}
-use Rattle.std_alloc.proofs.ResultValues.{and_tt, ok_of, err_of}
 use Rattle.std_alloc.proofs.BoxSteps.Form as box
 use Rattle.std_alloc.proofs.BoxSteps.Steps.{box_out, box_in}
-use Rattle.c_handle.proofs.Words.{word, word_good, empty_if, held_out, Handle}
+use Rattle.c_handle.proofs.Words.{word, word_good, held_out, Handle}
 use Rattle.std_alloc.specs.contracts.boxed.Box.from_raw as callee
 use Rattle.std_alloc.proofs.boxed.Box.from_raw.Met.{met}
-use Rattle.c_handle.specs.contracts.Handle.into_box as f
-use Rattle.c_handle.proofs.Handle.into_box.Statement.{statement}
-use Rattle.c_handle.proofs.Handle.into_box.Code as code
+use Rattle.c_handle.specs.contracts.handle.Handle.into_box as f
+use Rattle.c_handle.proofs.handle.Handle.into_box.Statement.{statement}
+use Rattle.c_handle.proofs.handle.Handle.into_box.Code as code
 
 pub into_box_spec : {M : Type 1} → statement M
 into_box_spec 𝓤 𝓛 𝓜 𝓡 wired T A L LA g d dT dA allocator glueT glueA =
@@ -42,7 +39,7 @@ into_box_spec 𝓤 𝓛 𝓜 𝓡 wired T A L LA g d dT dA allocator glueT glueA
     (λ empty. let v₁ : Val = live 1 (vcons h vnil) in sets ! (of_opd ! (get ! refl)) refl fits $
     sets ! (agg ! (and_then ! (lit ! tt) (and_then ! (get ! refl) (no_more !)))) refl (and_tt _ fits.0, (record { fits = lit< tt }, (fits.1, tt))) $
     move ! (1 ∷ []) $ use1 𝓛 (‵ (Out.own_val (Err a) (v₁ ∷ []))) (err_of 𝓛 (box.B E) Z a h) $
-    use0 𝓛 (raw (fact 𝓤 (v.held ≡ false))) (fact_i 𝓤 (v.held ≡ false) (emp 𝓤) (empty_if v.held empty)) $ nothing ! $ nothing ! $ fjoin ! $
+    use0 𝓛 (raw (fact 𝓤 (v.held ≡ false))) (fact_i 𝓤 (v.held ≡ false) (emp 𝓤) (is_false v.held empty)) $ nothing ! $ nothing ! $ fjoin ! $
     returns_within ! Post refl (look_at ! 0 refl) $ free_all ! refl $ keep ! (5 ∷ 0 ∷ 2 ∷ 1 ∷ []) $ by ! (leaves 𝓛 En stayed c y v₁ (Err a) ((tt, (tt, (tt, tt))), tt) (tt, tt)))
     (λ some_held. held_out R Z g ! a v.held v.at v.value some_held (λ whole held is_whole. let x : B.Ghost = ((κs, qs, tt, (a, (v.at, tt)), (h ∷ [], (ptr_val v.at ∷ [], tt))), whole) in
     skips ! $ exec ! 𝓣.C 𝓣.Λ Ev (after 6 fn.body) (at_ret Ev Post) $ first ! $ blocks ! $

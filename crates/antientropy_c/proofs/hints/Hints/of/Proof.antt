@@ -1,7 +1,0 @@
-use Rattle.c_handle.proofs.HandleLaws.{of_handle, moved}
-use Rattle.antientropy_c.proofs.Structs.{of_hints}
-use Rattle.antientropy_c.proofs.hints.Hints.of.Statement.{statement}
-use Rattle.antientropy_c.proofs.hints.Hints.of.Code.{unfolded}
-
-pub of_spec : {M : Type 1} → statement M
-of_spec 𝓤 𝓛 𝓜 𝓡 wired = moved (of_handle of_hints) 𝓤 𝓛 𝓜 𝓡 _ (unfolded 𝓤 𝓛.H 𝓜 𝓡 wired)

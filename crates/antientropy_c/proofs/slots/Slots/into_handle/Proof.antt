@@ -1,7 +1,0 @@
-use Rattle.c_handle.proofs.HandleLaws.{into_handle, moved}
-use Rattle.antientropy_c.proofs.Structs.{of_slots}
-use Rattle.antientropy_c.proofs.slots.Slots.into_handle.Statement.{statement}
-use Rattle.antientropy_c.proofs.slots.Slots.into_handle.Code.{unfolded}
-
-pub into_handle_spec : {M : Type 1} → statement M
-into_handle_spec 𝓤 𝓛 𝓜 𝓡 wired = moved (into_handle of_slots) 𝓤 𝓛 𝓜 𝓡 _ (unfolded 𝓤 𝓛.H 𝓜 𝓡 wired)
