@@ -8,6 +8,7 @@ pub mod clocks;
 pub mod counters;
 pub mod counts;
 pub mod entries;
+mod frame;
 pub mod hint_calls;
 pub mod hints;
 pub mod keys;

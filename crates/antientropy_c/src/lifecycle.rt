@@ -9,7 +9,8 @@ ghost use Rattle.antientropy_c.specs.Numbers.{Returns};
 ghost use Rattle.antientropy_c.specs.Calls.{Calls};
 ghost use Rattle.antientropy_c.specs.Makes.{Makes, TakesState, config_fault, IsFresh};
 
-use crate::numbers::{EMPTY, HELD, code};
+use crate::frame::with;
+use crate::numbers::{HELD, code};
 use crate::replica::Replica;
 use c_handle::InC;
 use range_state::{RangeConfig, RangeState, Seed};
@@ -113,12 +114,8 @@ pub extern "C" fn antientropy_migrate(alloc: Global, replica: &mut Replica) -> u
     ensures { Calls result replica.old replica.new ⊤ (λ s t. Returns result (λ (r : Result (Unit {0}) Refusal).
         Does r s t (migrate s))) }
 {
-    let Some(mut state) = replica.take(alloc) else {
-        return EMPTY;
-    };
-    let outcome = state.migrate(alloc);
-    replica.hold(state);
-    code(&outcome)
+    let mut call = |state: &mut RangeState| code(&state.migrate(alloc));
+    with(replica, alloc, &mut call)
 }
 
 /// Frees the replica of a handle, if any.

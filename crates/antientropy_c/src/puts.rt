@@ -11,6 +11,7 @@ ghost use Rattle.antientropy_c.specs.Pairs.{clock_pairs};
 ghost use Rattle.range_store.specs.declared.receipt.Accepted.{Accepted};
 ghost use Rattle.antientropy_c.specs.Puts.{node_fault, kind_fault, kind_numbered, parts_fault, put_at_by, put_at, put_read_at, accept_at, NoMemoryAfter, TellsPut, TellsAccepted};
 
+use crate::frame::with;
 use crate::numbers::{EMPTY, code};
 use crate::pair::{Pair, check_pairs, clock_of};
 use crate::replica::Replica;
@@ -57,14 +58,13 @@ pub extern "C" fn antientropy_put(
         (parts_fault s.store.config.format key.now (clock_pairs context.now) kind value.now)) r
         × TellsPut node r receipt.old receipt.new)) }
 {
-    let Some(mut state) = replica.take(alloc) else {
-        return EMPTY;
-    };
     let test = ContextTest::Fresh;
-    let outcome = put(alloc, &mut state, test, node, key, context, kind, value);
-    replica.hold(state);
-    tell_put(&outcome, node, receipt);
-    code(&outcome)
+    let mut call = |state: &mut RangeState| {
+        let outcome = put(alloc, state, test, node, key, context, kind, value);
+        tell_put(&outcome, node, receipt);
+        code(&outcome)
+    };
+    with(replica, alloc, &mut call)
 }
 
 /// Puts a value, or a tombstone, for a key at a node, as [`antientropy_put`] does, if its client has read all that the
