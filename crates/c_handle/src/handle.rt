@@ -9,8 +9,11 @@ use std::ptr::null_mut;
 /// A value on the heap, or nothing.
 #[repr(C)]
 pub struct Handle<T, A: Allocator> {
+    /// The place of the value, or null.
     pub at: *mut T,
+    /// True if a value is held.
     pub held: bool,
+    /// The allocator of the value's memory.
     pub alloc: A,
     pub ghost value: { Option T },
 }
@@ -20,7 +23,7 @@ impl<T, A: Allocator> Model for Handle<T, A> {
 }
 
 impl<T: Drop, A: Allocator> Handle<T, A> {
-    /// Makes the handle of nothing.
+    /// Makes a handle of nothing.
     pub fn none(alloc: A) -> Handle<T, A>
         ensures { (result.held ≡ false) × (result.value ≡ None) }
     {
@@ -31,7 +34,7 @@ impl<T: Drop, A: Allocator> Handle<T, A> {
         }
     }
 
-    /// Makes the handle of a value.
+    /// Makes a handle of a value.
     pub fn of(whole: Box<T, A>) -> Handle<T, A>
         ensures { (result.held ≡ true) × (result.value ≡ Some whole.value) }
     {

@@ -10,6 +10,7 @@ use std::mem::replace;
 /// An export takes no struct with type arguments, so there is a struct for each type, with the fields of a [`Handle`].
 /// `proofs/HandleLaws.antt` proves its two conversions.
 pub trait InC: Drop {
+    /// The type of the value.
     type Held: Drop;
 
     ghost held: { Self → Bool };
