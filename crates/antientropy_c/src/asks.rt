@@ -9,11 +9,11 @@ ghost use Rattle.antientropy_c.specs.Hands.{HandsNothing, HandsOutRight};
 ghost use Rattle.antientropy_c.specs.Numbers.{Returns};
 ghost use Rattle.antientropy_c.specs.Sessions.{TellsNumber};
 
-use crate::numbers::{EMPTY, code};
+use crate::frame::with;
+use crate::numbers::code;
 use crate::output::hand_out;
 use crate::replica::Replica;
 use crate::sessions::{record_of, tell_number};
-use c_handle::InC;
 use range_state::RangeState;
 use std::alloc::Global;
 use tree_nodes::{NodeAt, Text};
@@ -33,13 +33,12 @@ pub extern "C" fn antientropy_outstanding(
         (λ s t. (t ≡ s) × Returns result (λ (r : Result ℕ Refusal).
         (r ≡ outstanding_count s session) × TellsNumber r count.old count.new)) }
 {
-    let Some(state) = replica.take(alloc) else {
-        return EMPTY;
+    let mut call = |state: &mut RangeState| {
+        let outcome = count_of(state, session);
+        tell_number(&outcome, count);
+        code(&outcome)
     };
-    let outcome = count_of(&state, session);
-    replica.hold(state);
-    tell_number(&outcome, count);
-    code(&outcome)
+    with(replica, alloc, &mut call)
 }
 
 /// Counts the nodes that a session has outstanding. Refused: UnknownSession.
@@ -65,12 +64,11 @@ pub extern "C" fn antientropy_ask(
         (λ s t. (t ≡ s) × HandsOutRight result (need.old, out.old) (need.new, out.new)
         (Asks s session 0 number)) }
 {
-    let Some(state) = replica.take(alloc) else {
-        return EMPTY;
+    let mut call = |state: &mut RangeState| {
+        let outcome = ask(alloc, state, session, 0, number);
+        hand_out(&outcome, out, need)
     };
-    let outcome = ask(alloc, &state, session, 0, number);
-    replica.hold(state);
-    hand_out(&outcome, out, need)
+    with(replica, alloc, &mut call)
 }
 
 /// Writes the message that asks for one of the outstanding nodes of a session, by its place from 0 in the order in which
@@ -90,12 +88,11 @@ pub extern "C" fn antientropy_ask_at(
         (λ s t. (t ≡ s) × HandsOutRight result (need.old, out.old) (need.new, out.new)
         (Asks s session place number)) }
 {
-    let Some(state) = replica.take(alloc) else {
-        return EMPTY;
+    let mut call = |state: &mut RangeState| {
+        let outcome = ask(alloc, state, session, place, number);
+        hand_out(&outcome, out, need)
     };
-    let outcome = ask(alloc, &state, session, place, number);
-    replica.hold(state);
-    hand_out(&outcome, out, need)
+    with(replica, alloc, &mut call)
 }
 
 /// Writes the message that asks for the node that a session has outstanding at a place, with the number of the partner's

@@ -8,11 +8,11 @@ ghost use Rattle.antientropy_c.specs.Numbers.{Returns};
 ghost use Rattle.antientropy_c.specs.Puts.{node_fault};
 ghost use Rattle.antientropy_c.specs.Sessions.{TellsNumber};
 
-use crate::numbers::{EMPTY, code};
+use crate::frame::with;
+use crate::numbers::code;
 use crate::puts::node_of;
 use crate::replica::Replica;
 use crate::sessions::tell_number;
-use c_handle::InC;
 use range_state::RangeState;
 use std::alloc::Global;
 use vclock::{Refusal, check_key};
@@ -35,13 +35,12 @@ pub extern "C" fn antientropy_top_counter(
         AnswersAtOnce r (node_fault node) (λ n. n ≡ top_counter (take entries s.store.entries) key.now node)
         × TellsNumber r counter.old counter.new)) }
 {
-    let Some(state) = replica.take(alloc) else {
-        return EMPTY;
+    let mut call = |state: &mut RangeState| {
+        let outcome = top_counter(state, node, key, entries);
+        tell_number(&outcome, counter);
+        code(&outcome)
     };
-    let outcome = top_counter(&state, node, key, entries);
-    replica.hold(state);
-    tell_number(&outcome, counter);
-    code(&outcome)
+    with(replica, alloc, &mut call)
 }
 
 /// Returns the greatest counter of a node for a key, over the first entries: 0 for a key that isn't 1 to 255 bytes long,

@@ -2,9 +2,8 @@
 ghost use Rattle.std.specs.Prelude.{◌≡◌};
 ghost use Rattle.antientropy_c.specs.Calls.{Calls, counts_of};
 
-use crate::numbers::EMPTY;
+use crate::frame::with;
 use crate::replica::Replica;
-use c_handle::InC;
 use range_state::RangeState;
 use std::alloc::Global;
 
@@ -39,12 +38,11 @@ pub extern "C" fn antientropy_count(
     ensures { Calls result replica.old replica.new (counts.new ≡ counts.old)
         (λ s t. (t ≡ s) × (result ≡ 0) × (counts.new ≡ counts_of s)) }
 {
-    let Some(state) = replica.take(alloc) else {
-        return EMPTY;
+    let mut call = |state: &mut RangeState| {
+        *counts = count(state);
+        0
     };
-    *counts = count(&state);
-    replica.hold(state);
-    0
+    with(replica, alloc, &mut call)
 }
 
 /// Counts the parts of a replica.

@@ -5,12 +5,12 @@ ghost use Rattle.antientropy_c.specs.Entries.{key_in, version_in, source_in, num
 ghost use Rattle.antientropy_c.specs.Hands.{HandsNothing, HandsAny, TellsAny};
 ghost use Rattle.antientropy_c.specs.Versions.{ShowsValue, ShowsClock};
 
-use crate::numbers::{EMPTY, NO_VERSION};
+use crate::frame::with;
+use crate::numbers::NO_VERSION;
 use crate::output::copy_out;
 use crate::pair::Pair;
 use crate::replica::Replica;
 use crate::versions::copy_pairs;
-use c_handle::InC;
 use range_journal::Source;
 use range_state::RangeState;
 use std::alloc::Global;
@@ -28,12 +28,8 @@ pub extern "C" fn antientropy_entry_key(
     ensures { Calls result replica.old replica.new (HandsNothing (need.old, out.old) (need.new, out.new)) (λ s t. (t ≡ s)
         × HandsAny (key_in (slice_get s.store.entries number)) result (need.old, out.old) (need.new, out.new)) }
 {
-    let Some(state) = replica.take(alloc) else {
-        return EMPTY;
-    };
-    let result = show_key(&state, number, out, need);
-    replica.hold(state);
-    result
+    let mut call = |state: &mut RangeState| show_key(state, number, out, need);
+    with(replica, alloc, &mut call)
 }
 
 /// Copies out the key of an entry.
@@ -63,12 +59,8 @@ pub extern "C" fn antientropy_entry_value(
         (λ s t. (t ≡ s)
         × ShowsValue (version_in (slice_get s.store.entries number)) result kind.old kind.new (need.old, out.old) (need.new, out.new)) }
 {
-    let Some(state) = replica.take(alloc) else {
-        return EMPTY;
-    };
-    let result = show_value(&state, number, kind, out, need);
-    replica.hold(state);
-    result
+    let mut call = |state: &mut RangeState| show_value(state, number, kind, out, need);
+    with(replica, alloc, &mut call)
 }
 
 /// Copies out the value of an entry's version, and stores its kind.
@@ -97,12 +89,8 @@ pub extern "C" fn antientropy_entry_clock(
     ensures { Calls result replica.old replica.new (HandsNothing (need.old, out.old) (need.new, out.new)) (λ s t. (t ≡ s)
         × ShowsClock (version_in (slice_get s.store.entries number)) result (need.old, out.old) (need.new, out.new)) }
 {
-    let Some(state) = replica.take(alloc) else {
-        return EMPTY;
-    };
-    let result = show_clock(&state, number, out, need);
-    replica.hold(state);
-    result
+    let mut call = |state: &mut RangeState| show_clock(state, number, out, need);
+    with(replica, alloc, &mut call)
 }
 
 /// Copies out the pairs of the clock of an entry's version.
@@ -128,12 +116,8 @@ pub extern "C" fn antientropy_entry_source(
     ensures { Calls result replica.old replica.new (source.new ≡ source.old) (λ s t. (t ≡ s)
         × TellsAny (source_in (slice_get s.store.entries number)) result source.old source.new) }
 {
-    let Some(state) = replica.take(alloc) else {
-        return EMPTY;
-    };
-    let result = show_source(&state, number, source);
-    replica.hold(state);
-    result
+    let mut call = |state: &mut RangeState| show_source(state, number, source);
+    with(replica, alloc, &mut call)
 }
 
 /// Stores the number of the source of an entry's version.

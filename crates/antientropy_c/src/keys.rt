@@ -8,10 +8,10 @@ ghost use Rattle.antientropy_c.specs.Calls.{Calls};
 ghost use Rattle.antientropy_c.specs.Hands.{HandsNothing};
 ghost use Rattle.antientropy_c.specs.Keys.{key_after, HandsKeyAfter, HandsKeyNext, HandsNext, Replaces};
 
-use crate::numbers::{EMPTY, NO_VERSION, SMALL};
+use crate::frame::with;
+use crate::numbers::{NO_VERSION, SMALL};
 use crate::output::copy_out;
 use crate::replica::Replica;
-use c_handle::InC;
 use hash_tree::SharedLeaf;
 use key_ring::leaf_count;
 use range_state::RangeState;
@@ -35,12 +35,8 @@ pub extern "C" fn antientropy_key_after(
     ensures { Calls result replica.old replica.new (HandsNothing (need.old, out.old) (need.new, out.new)) (λ s t. (t ≡ s)
         × HandsKeyAfter s leaf key.now result (need.old, out.old) (need.new, out.new)) }
 {
-    let Some(state) = replica.take(alloc) else {
-        return EMPTY;
-    };
-    let result = show_key_after(&state, leaf, key, out, need);
-    replica.hold(state);
-    result
+    let mut call = |state: &mut RangeState| show_key_after(state, leaf, key, out, need);
+    with(replica, alloc, &mut call)
 }
 
 /// Copies out the least key of a leaf above a key.
@@ -72,12 +68,8 @@ pub extern "C" fn antientropy_key_next(
     ensures { Calls result replica.old replica.new (HandsNothing (key_len.old, key.old) (key_len.new, key.new)) (λ s t. (t ≡ s)
         × HandsKeyNext s leaf result (key_len.old, key.old) (key_len.new, key.new)) }
 {
-    let Some(state) = replica.take(alloc) else {
-        return EMPTY;
-    };
-    let result = show_key_next(&state, leaf, key, key_len);
-    replica.hold(state);
-    result
+    let mut call = |state: &mut RangeState| show_key_next(state, leaf, key, key_len);
+    with(replica, alloc, &mut call)
 }
 
 /// Puts the least key of a leaf above a key in that key's place.

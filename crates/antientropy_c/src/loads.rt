@@ -19,11 +19,12 @@ ghost use Rattle.antientropy_c.specs.Numbers.{Returns};
 ghost use Rattle.antientropy_c.specs.Offers.{ShowsRows};
 ghost use Rattle.antientropy_c.specs.Puts.{NoMemoryAfter};
 
-use crate::numbers::{EMPTY, code};
+use crate::frame::with;
+use crate::numbers::code;
 use crate::output::hand_out;
 use crate::publication::Publication;
+use crate::published::Published;
 use crate::replica::Replica;
-use c_handle::InC;
 use key_ring::leaf_count;
 use range_state::{Loaded, RangeState};
 use snapshot::Snapshot;
@@ -59,12 +60,11 @@ pub extern "C" fn antientropy_rows(
         (λ r. Answers r (leaf_fault m.format leaf)
         (λ bytes. bytes ≡ flat_map (row_text m.format) (rows_in_leaf (leaf_in m) leaf m.rows)))) }
 {
-    let Some(rows) = publication.take(alloc) else {
-        return EMPTY;
+    let mut call = |rows: &mut Published| {
+        let outcome = rows_of(alloc, rows.snapshot(), leaf);
+        hand_out(&outcome, out, need)
     };
-    let outcome = rows_of(alloc, rows.snapshot(), leaf);
-    publication.hold(rows);
-    hand_out(&outcome, out, need)
+    with(publication, alloc, &mut call)
 }
 
 /// Writes the texts of the rows of a leaf of a snapshot.
@@ -95,13 +95,12 @@ pub extern "C" fn antientropy_load(
         (λ s t. Returns result (λ (r : Result Loaded Refusal).
         DoesOrNoMemory r s t (load_text s 0 rows.now) × TellsLoaded r loaded.old loaded.new)) }
 {
-    let Some(mut state) = replica.take(alloc) else {
-        return EMPTY;
+    let mut call = |state: &mut RangeState| {
+        let outcome = state.load_rows(alloc, 0, rows);
+        tell_loaded(&outcome, loaded);
+        code(&outcome)
     };
-    let outcome = state.load_rows(alloc, 0, rows);
-    replica.hold(state);
-    tell_loaded(&outcome, loaded);
-    code(&outcome)
+    with(replica, alloc, &mut call)
 }
 
 /// Loads rows of a format, of any leaves, from their texts, as
@@ -124,13 +123,12 @@ pub extern "C" fn antientropy_load_format(
         DoesOrNoMemory r s t (load_numbered s (format_of format) rows.now)
         × NoMemoryAfter (numbered_fault s (format_of format)) r × TellsLoaded r loaded.old loaded.new)) }
 {
-    let Some(mut state) = replica.take(alloc) else {
-        return EMPTY;
+    let mut call = |state: &mut RangeState| {
+        let outcome = load_format(alloc, state, format, rows);
+        tell_loaded(&outcome, loaded);
+        code(&outcome)
     };
-    let outcome = load_format(alloc, &mut state, format, rows);
-    replica.hold(state);
-    tell_loaded(&outcome, loaded);
-    code(&outcome)
+    with(replica, alloc, &mut call)
 }
 
 /// Loads rows of the format of a number.

@@ -10,12 +10,12 @@ ghost use Rattle.antientropy_c.specs.Numbers.{Returns};
 ghost use Rattle.antientropy_c.specs.Offers.{Publishes};
 ghost use Rattle.antientropy_c.specs.Sessions.{TellsNumber};
 
-use crate::numbers::{EMPTY, code};
+use crate::frame::with;
+use crate::numbers::code;
 use crate::offers::publish;
 use crate::publication::Publication;
 use crate::replica::Replica;
 use crate::sessions::tell_number;
-use c_handle::InC;
 use range_state::{LocalRows, RangeState};
 use std::alloc::Global;
 use vclock::Refusal;
@@ -28,12 +28,11 @@ pub extern "C" fn antientropy_hold(alloc: Global, replica: &mut Replica) -> u32
     ensures { Calls result replica.old replica.new ⊤ (λ s t. Returns result (λ (r : Result (Unit {0}) Refusal).
         Does r s t (gives tt (with_moment s)))) }
 {
-    let Some(mut state) = replica.take(alloc) else {
-        return EMPTY;
+    let mut call = |state: &mut RangeState| {
+        let outcome = hold(alloc, state);
+        code(&outcome)
     };
-    let outcome = hold(alloc, &mut state);
-    replica.hold(state);
-    code(&outcome)
+    with(replica, alloc, &mut call)
 }
 
 /// Keeps the rows now as the moment of a replica, and frees the one before.
@@ -50,12 +49,11 @@ fn hold(alloc: Global, state: &mut RangeState) -> Result<(), Refusal>
 pub extern "C" fn antientropy_drop_moment(alloc: Global, replica: &mut Replica) -> u32
     ensures { Calls result replica.old replica.new ⊤ (λ s t. (result ≡ 0) × (t ≡ without_moment s)) }
 {
-    let Some(mut state) = replica.take(alloc) else {
-        return EMPTY;
+    let mut call = |state: &mut RangeState| {
+        let _moment = state.take_moment();
+        0
     };
-    let _moment = state.take_moment();
-    replica.hold(state);
-    0
+    with(replica, alloc, &mut call)
 }
 
 /// Hashes at most `most` of the moment's dirty nodes whose children are clean, and stores the number of its nodes that are
@@ -71,13 +69,12 @@ pub extern "C" fn antientropy_hash_moment(
     ensures { Calls result replica.old replica.new (left.new ≡ left.old) (λ s t. Returns result (λ (r : Result ℕ Refusal).
         HashesMoment r most s t × TellsNumber r left.old left.new)) }
 {
-    let Some(mut state) = replica.take(alloc) else {
-        return EMPTY;
+    let mut call = |state: &mut RangeState| {
+        let outcome = hash_moment(alloc, state, most);
+        tell_number(&outcome, left);
+        code(&outcome)
     };
-    let outcome = hash_moment(alloc, &mut state, most);
-    replica.hold(state);
-    tell_number(&outcome, left);
-    code(&outcome)
+    with(replica, alloc, &mut call)
 }
 
 /// Hashes at most `most` of the moment's dirty nodes whose children are clean, and returns the number of its nodes that
@@ -101,10 +98,6 @@ pub extern "C" fn antientropy_moment(
     ensures { Calls result replica.old replica.new (publication.new ≡ publication.old) (λ s t. (t ≡ s)
         × Publishes result publication.old publication.new (moment_fault s.moment) (rows_at s.store (front_of s.moment))) }
 {
-    let Some(state) = replica.take(alloc) else {
-        return EMPTY;
-    };
-    let number = publish(alloc, &state, LocalRows::Moment, publication);
-    replica.hold(state);
-    number
+    let mut call = |state: &mut RangeState| publish(alloc, state, LocalRows::Moment, publication);
+    with(replica, alloc, &mut call)
 }

@@ -10,7 +10,8 @@ ghost use Rattle.antientropy_c.specs.Calls.{Calls, Reads};
 ghost use Rattle.antientropy_c.specs.Hands.{HandsNothing, HandsOut, HandsOutRight};
 ghost use Rattle.antientropy_c.specs.Offers.{ShowsRows, Publishes, TakesRows, offer_numbered, ServesAsk, Serves};
 
-use crate::numbers::{EMPTY, HELD, code};
+use crate::frame::with;
+use crate::numbers::{HELD, code};
 use crate::output::{copy_out, hand_out};
 use crate::publication::Publication;
 use crate::published::Published;
@@ -35,12 +36,8 @@ pub extern "C" fn antientropy_snapshot(
     ensures { Calls result replica.old replica.new (publication.new ≡ publication.old) (λ s t. (t ≡ s)
         × Publishes result publication.old publication.new (dirty_fault s.store) (rows_now s.store)) }
 {
-    let Some(state) = replica.take(alloc) else {
-        return EMPTY;
-    };
-    let number = publish(alloc, &state, LocalRows::Now, publication);
-    replica.hold(state);
-    number
+    let mut call = |state: &mut RangeState| publish(alloc, state, LocalRows::Now, publication);
+    with(replica, alloc, &mut call)
 }
 
 /// Publishes the rows now or those of the moment.
@@ -99,12 +96,11 @@ pub extern "C" fn antientropy_root(
     ensures { ShowsRows result publication.old publication.new (HandsNothing (need.old, out.old) (need.new, out.new))
         (λ m. HandsOut (Ok (root_of m)) result (need.old, out.old) (need.new, out.new)) }
 {
-    let Some(rows) = publication.take(alloc) else {
-        return EMPTY;
+    let mut call = |rows: &mut Published| {
+        let root = rows.snapshot().root();
+        copy_out(&root, out, need)
     };
-    let root = rows.snapshot().root();
-    publication.hold(rows);
-    copy_out(&root, out, need)
+    with(publication, alloc, &mut call)
 }
 
 /// Frees the snapshot of a publication, if any.
@@ -129,12 +125,11 @@ pub extern "C" fn antientropy_offer(
         (λ m. HandsOutRight result (need.old, out.old) (need.new, out.new)
         (λ r. Answers r None (λ bytes. bytes ≡ message_text (messages.Offer (offer_numbered number m))))) }
 {
-    let Some(rows) = publication.take(alloc) else {
-        return EMPTY;
+    let mut call = |rows: &mut Published| {
+        let outcome = offer(alloc, rows.snapshot(), number);
+        hand_out(&outcome, out, need)
     };
-    let outcome = offer(alloc, rows.snapshot(), number);
-    publication.hold(rows);
-    hand_out(&outcome, out, need)
+    with(publication, alloc, &mut call)
 }
 
 /// Writes the message of the offer of a snapshot.
@@ -163,12 +158,11 @@ pub extern "C" fn antientropy_serve(
         (λ m. HandsOutRight result (need.old, out.old) (need.new, out.new)
         (λ r. Reads ask.now (Serves m number r))) }
 {
-    let Some(rows) = publication.take(alloc) else {
-        return EMPTY;
+    let mut call = |rows: &mut Published| {
+        let outcome = serve(alloc, rows.snapshot(), number, ask);
+        hand_out(&outcome, out, need)
     };
-    let outcome = serve(alloc, rows.snapshot(), number, ask);
-    publication.hold(rows);
-    hand_out(&outcome, out, need)
+    with(publication, alloc, &mut call)
 }
 
 /// Answers the bytes of an ask from a snapshot.

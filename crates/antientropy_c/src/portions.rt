@@ -6,6 +6,7 @@ ghost use Rattle.antientropy_c.specs.Calls.{Calls, CallsOn};
 ghost use Rattle.antientropy_c.specs.Makes.{MakesIn, Takes};
 ghost use Rattle.antientropy_c.specs.Portions.{nodes_in, Installs};
 
+use crate::frame::with;
 use crate::numbers::{EMPTY, HELD, code};
 use crate::portion_handle::PortionHandle;
 use crate::replica::Replica;
@@ -30,12 +31,8 @@ pub extern "C" fn antientropy_take_portion(
     ensures { Calls result replica.old replica.new (portion.new ≡ portion.old) (λ s t. (t ≡ s)
         × MakesIn result (nodes_in portion.old) (nodes_in portion.new) None (IsPortion s.moment most)) }
 {
-    let Some(state) = replica.take(alloc) else {
-        return EMPTY;
-    };
-    let number = take_portion(alloc, &state, most, portion);
-    replica.hold(state);
-    number
+    let mut call = |state: &mut RangeState| take_portion(alloc, state, most, portion);
+    with(replica, alloc, &mut call)
 }
 
 /// Takes a portion into a handle.
@@ -79,12 +76,11 @@ fn boxed(alloc: Global, state: &RangeState, most: u64) -> Result<Box<Portion, Gl
 pub extern "C" fn antientropy_hash_portion(alloc: Global, portion: &mut PortionHandle) -> u32
     ensures { CallsOn result (nodes_in portion.old) (nodes_in portion.new) ⊤ (λ nodes after. (result ≡ 0) × (after ≡ nodes)) }
 {
-    let Some(mut nodes) = portion.take(alloc) else {
-        return EMPTY;
+    let mut call = |nodes: &mut Portion| {
+        nodes.run(alloc);
+        0
     };
-    nodes.run(alloc);
-    portion.hold(nodes);
-    0
+    with(portion, alloc, &mut call)
 }
 
 /// Installs the digests of a portion in the moment of its replica, and where the replica's node has that text now, in the
@@ -104,12 +100,8 @@ pub extern "C" fn antientropy_install_portion(
     ensures { Calls result replica.old replica.new ((portion.new ≡ portion.old) × (left.new ≡ left.old)) (λ s t.
         Installs result (nodes_in portion.old) (nodes_in portion.new) s t left.old left.new) }
 {
-    let Some(mut state) = replica.take(alloc) else {
-        return EMPTY;
-    };
-    let number = install(alloc, &mut state, portion, left);
-    replica.hold(state);
-    number
+    let mut call = |state: &mut RangeState| install(alloc, state, portion, left);
+    with(replica, alloc, &mut call)
 }
 
 /// Installs the digests of a portion, if there is one.

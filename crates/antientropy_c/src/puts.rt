@@ -12,10 +12,9 @@ ghost use Rattle.range_store.specs.declared.receipt.Accepted.{Accepted};
 ghost use Rattle.antientropy_c.specs.Puts.{node_fault, kind_fault, kind_numbered, parts_fault, put_at_by, put_at, put_read_at, accept_at, NoMemoryAfter, TellsPut, TellsAccepted};
 
 use crate::frame::with;
-use crate::numbers::{EMPTY, code};
+use crate::numbers::code;
 use crate::pair::{Pair, check_pairs, clock_of};
 use crate::replica::Replica;
-use c_handle::InC;
 use range_journal::Source;
 use range_state::{Accepted, ContextTest, RangeState, Receipt};
 use std::alloc::Global;
@@ -93,14 +92,13 @@ pub extern "C" fn antientropy_put_read(
         (parts_fault s.store.config.format key.now (clock_pairs context.now) kind value.now)) r
         × TellsPut node r receipt.old receipt.new)) }
 {
-    let Some(mut state) = replica.take(alloc) else {
-        return EMPTY;
+    let mut call = |state: &mut RangeState| {
+        let test = ContextTest::Read;
+        let outcome = put(alloc, state, test, node, key, context, kind, value);
+        tell_put(&outcome, node, receipt);
+        code(&outcome)
     };
-    let test = ContextTest::Read;
-    let outcome = put(alloc, &mut state, test, node, key, context, kind, value);
-    replica.hold(state);
-    tell_put(&outcome, node, receipt);
-    code(&outcome)
+    with(replica, alloc, &mut call)
 }
 
 /// Puts a value into a replica, by a test of its context.
@@ -162,13 +160,12 @@ pub extern "C" fn antientropy_accept(
         × NoMemoryAfter (parts_fault s.store.config.format key.now (clock_pairs clock.now) kind value.now) r
         × TellsAccepted r taken.old taken.new)) }
 {
-    let Some(mut state) = replica.take(alloc) else {
-        return EMPTY;
+    let mut call = |state: &mut RangeState| {
+        let outcome = accept(alloc, state, key, clock, kind, value);
+        tell_accepted(&outcome, taken);
+        code(&outcome)
     };
-    let outcome = accept(alloc, &mut state, key, clock, kind, value);
-    replica.hold(state);
-    tell_accepted(&outcome, taken);
-    code(&outcome)
+    with(replica, alloc, &mut call)
 }
 
 /// Accepts a version into a replica, as [`antientropy_accept`] does.

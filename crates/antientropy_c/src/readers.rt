@@ -6,8 +6,9 @@ ghost use Rattle.antientropy_c.specs.Hands.{HandsNothing, HandsOut, HandsOutRigh
 ghost use Rattle.antientropy_c.specs.Offers.{ShowsRows, Publishes, TakesRows};
 ghost use Rattle.antientropy_c.specs.Readers.{row_in, HandsKeyNextIn, has_node, digest_in};
 
+use crate::frame::with;
 use crate::keys::next_key;
-use crate::numbers::{EMPTY, HELD, code};
+use crate::numbers::{HELD, code};
 use crate::output::{copy_out, hand_out};
 use crate::publication::Publication;
 use crate::published::Published;
@@ -31,12 +32,8 @@ pub extern "C" fn antientropy_snapshot_share(
     ensures { ShowsRows result publication.old publication.new (other.new ≡ other.old)
         (λ m. Publishes result other.old other.new None m) }
 {
-    let Some(rows) = publication.take(alloc) else {
-        return EMPTY;
-    };
-    let number = share(alloc, &rows, other);
-    publication.hold(rows);
-    number
+    let mut call = |rows: &mut Published| share(alloc, rows, other);
+    with(publication, alloc, &mut call)
 }
 
 /// Shares published rows with another handle.
@@ -76,12 +73,11 @@ pub extern "C" fn antientropy_snapshot_get(
         (λ m. HandsOutRight result (need.old, out.old) (need.new, out.new)
         (λ r. Answers r (key_fault key.now) (λ bytes. bytes ≡ row_in m key.now))) }
 {
-    let Some(rows) = publication.take(alloc) else {
-        return EMPTY;
+    let mut call = |rows: &mut Published| {
+        let outcome = row(alloc, rows.snapshot(), key);
+        hand_out(&outcome, out, need)
     };
-    let outcome = row(alloc, rows.snapshot(), key);
-    publication.hold(rows);
-    hand_out(&outcome, out, need)
+    with(publication, alloc, &mut call)
 }
 
 /// Writes the text of the row of a key.
@@ -107,12 +103,8 @@ pub extern "C" fn antientropy_snapshot_key_next(
     ensures { ShowsRows result publication.old publication.new (HandsNothing (key_len.old, key.old) (key_len.new, key.new))
         (λ m. HandsKeyNextIn m leaf result (key_len.old, key.old) (key_len.new, key.new)) }
 {
-    let Some(rows) = publication.take(alloc) else {
-        return EMPTY;
-    };
-    let result = show_key_next(rows.snapshot(), leaf, key, key_len);
-    publication.hold(rows);
-    result
+    let mut call = |rows: &mut Published| show_key_next(rows.snapshot(), leaf, key, key_len);
+    with(publication, alloc, &mut call)
 }
 
 /// Puts the least key of a leaf above a key in that key's place.
@@ -140,12 +132,8 @@ pub extern "C" fn antientropy_digest(
     ensures { ShowsRows result publication.old publication.new (HandsNothing (need.old, out.old) (need.new, out.new))
         (λ m. HandsOut (digest_in m depth index) result (need.old, out.old) (need.new, out.new)) }
 {
-    let Some(rows) = publication.take(alloc) else {
-        return EMPTY;
-    };
-    let result = show_digest(rows.snapshot(), depth, index, out, need);
-    publication.hold(rows);
-    result
+    let mut call = |rows: &mut Published| show_digest(rows.snapshot(), depth, index, out, need);
+    with(publication, alloc, &mut call)
 }
 
 /// Copies out the digest of a node.

@@ -4,12 +4,12 @@ ghost use Rattle.range_journal.specs.Journal.{held};
 ghost use Rattle.antientropy_c.specs.Calls.{Calls};
 ghost use Rattle.antientropy_c.specs.Readings.{ReadsVersion};
 
-use crate::numbers::{EMPTY, NO_VERSION};
+use crate::frame::with;
+use crate::numbers::NO_VERSION;
 use crate::output::copy_out;
 use crate::pair::Pair;
 use crate::replica::Replica;
 use crate::versions::{copy_pairs, versions_of};
-use c_handle::InC;
 use range_state::RangeState;
 use std::alloc::Global;
 
@@ -46,12 +46,8 @@ pub extern "C" fn antientropy_read(
         × ReadsVersion (slice_get (held s.store.entries key.now) index) (length (held s.store.entries key.now)) result
         reading.old reading.new (pairs.old, value.old) (pairs.new, value.new)) }
 {
-    let Some(state) = replica.take(alloc) else {
-        return EMPTY;
-    };
-    let result = read(&state, key, index, reading, pairs, value);
-    replica.hold(state);
-    result
+    let mut call = |state: &mut RangeState| read(state, key, index, reading, pairs, value);
+    with(replica, alloc, &mut call)
 }
 
 /// Copies out the clock and the value of a version, and stores their sizes and its kind.

@@ -9,11 +9,10 @@ ghost use Rattle.antientropy_c.specs.Calls.{Calls};
 ghost use Rattle.antientropy_c.specs.Hands.{HandsNothing, HandsOutRight};
 ghost use Rattle.antientropy_c.specs.Shows.{row_of, row_shown};
 
-use crate::numbers::EMPTY;
+use crate::frame::with;
 use crate::output::hand_out;
 use crate::replica::Replica;
 use crate::versions::versions_of;
-use c_handle::InC;
 use range_state::RangeState;
 use row_bytes::write_held;
 use std::alloc::Global;
@@ -36,12 +35,11 @@ pub extern "C" fn antientropy_get(
         (λ s t. (t ≡ s) × HandsOutRight result (need.old, out.old) (need.new, out.new)
         (λ r. Answers r (key_fault key.now) (λ bytes. bytes ≡ row_shown s key.now))) }
 {
-    let Some(state) = replica.take(alloc) else {
-        return EMPTY;
+    let mut call = |state: &mut RangeState| {
+        let outcome = row(alloc, state, key);
+        hand_out(&outcome, out, need)
     };
-    let outcome = row(alloc, &state, key);
-    replica.hold(state);
-    hand_out(&outcome, out, need)
+    with(replica, alloc, &mut call)
 }
 
 /// Writes the text of the row of a key. Copies neither the key nor the versions.
@@ -86,10 +84,9 @@ pub extern "C" fn antientropy_versions(
     ensures { Calls result replica.old replica.new (count.new ≡ count.old) (λ s t. (t ≡ s) × (result ≡ 0)
         × (count.new ≡ length (held s.store.entries key.now))) }
 {
-    let Some(state) = replica.take(alloc) else {
-        return EMPTY;
+    let mut call = |state: &mut RangeState| {
+        *count = versions_of(state, key).len() as u64;
+        0
     };
-    *count = versions_of(&state, key).len() as u64;
-    replica.hold(state);
-    0
+    with(replica, alloc, &mut call)
 }

@@ -11,9 +11,9 @@ ghost use Rattle.antientropy_c.specs.Numbers.{Returns};
 ghost use Rattle.antientropy_c.specs.Calls.{Calls, Reads};
 ghost use Rattle.antientropy_c.specs.Sessions.{Opens, OpensUnless, partner_fault, asked_fault, TellsNumber, TakesWith, TakesMessage, TellsTaken, number_of_state, session_seen};
 
-use crate::numbers::{EMPTY, code};
+use crate::frame::with;
+use crate::numbers::code;
 use crate::replica::Replica;
-use c_handle::InC;
 use range_state::{AnswerTaken, LocalRows, RangeState, Record};
 use std::alloc::Global;
 use sync_session::SessionState;
@@ -40,13 +40,12 @@ pub extern "C" fn antientropy_open(
         (λ s t. Returns result (λ (r : Result ℕ Refusal).
         OpensUnless (partner_fault partner) rows.Now s partner offer.now r t × TellsNumber r session.old session.new)) }
 {
-    let Some(mut state) = replica.take(alloc) else {
-        return EMPTY;
+    let mut call = |state: &mut RangeState| {
+        let outcome = open(alloc, state, LocalRows::Now, partner, offer);
+        tell_number(&outcome, session);
+        code(&outcome)
     };
-    let outcome = open(alloc, &mut state, LocalRows::Now, partner, offer);
-    replica.hold(state);
-    tell_number(&outcome, session);
-    code(&outcome)
+    with(replica, alloc, &mut call)
 }
 
 /// Opens a session as [`antientropy_open`] does, but one that compares the rows of the moment that the replica keeps: it
@@ -67,13 +66,12 @@ pub extern "C" fn antientropy_open_at_moment(
         (λ s t. Returns result (λ (r : Result ℕ Refusal).
         OpensUnless (partner_fault partner) rows.Moment s partner offer.now r t × TellsNumber r session.old session.new)) }
 {
-    let Some(mut state) = replica.take(alloc) else {
-        return EMPTY;
+    let mut call = |state: &mut RangeState| {
+        let outcome = open(alloc, state, LocalRows::Moment, partner, offer);
+        tell_number(&outcome, session);
+        code(&outcome)
     };
-    let outcome = open(alloc, &mut state, LocalRows::Moment, partner, offer);
-    replica.hold(state);
-    tell_number(&outcome, session);
-    code(&outcome)
+    with(replica, alloc, &mut call)
 }
 
 /// Opens a session by the bytes of an offer, if the partner's number isn't over 65,535.
@@ -165,13 +163,12 @@ pub extern "C" fn antientropy_take(
         (λ s t. Returns result (λ (r : Result AnswerTaken Refusal).
         Reads answer.now (TakesMessage s session number r t) × TellsTaken r receipt.old receipt.new)) }
 {
-    let Some(mut state) = replica.take(alloc) else {
-        return EMPTY;
+    let mut call = |state: &mut RangeState| {
+        let outcome = take(alloc, state, session, number, answer);
+        tell_taken(&outcome, receipt);
+        code(&outcome)
     };
-    let outcome = take(alloc, &mut state, session, number, answer);
-    replica.hold(state);
-    tell_taken(&outcome, receipt);
-    code(&outcome)
+    with(replica, alloc, &mut call)
 }
 
 /// Takes the bytes of an answer.
@@ -275,12 +272,11 @@ pub extern "C" fn antientropy_cancel(alloc: Global, replica: &mut Replica, sessi
     ensures { Calls result replica.old replica.new ⊤ (λ s t. Returns result (λ (r : Result (Unit {0}) Refusal).
         DoesAtOnce r s t (cancel_session s session))) }
 {
-    let Some(mut state) = replica.take(alloc) else {
-        return EMPTY;
+    let mut call = |state: &mut RangeState| {
+        let outcome = state.cancel_session(session);
+        code(&outcome)
     };
-    let outcome = state.cancel_session(session);
-    replica.hold(state);
-    code(&outcome)
+    with(replica, alloc, &mut call)
 }
 
 /// Stores the state of a session: 0 open, 1 finished, 2 failed, 3 cancelled. Refused, in order: EMPTY, UnknownSession.
@@ -296,13 +292,12 @@ pub extern "C" fn antientropy_session(
         (λ s t. (t ≡ s) × Returns result (λ (r : Result ℕ Refusal).
         (r ≡ session_seen s session) × TellsNumber r standing.old standing.new)) }
 {
-    let Some(state) = replica.take(alloc) else {
-        return EMPTY;
+    let mut call = |state: &mut RangeState| {
+        let outcome = standing_of(state, session);
+        tell_number(&outcome, standing);
+        code(&outcome)
     };
-    let outcome = standing_of(&state, session);
-    replica.hold(state);
-    tell_number(&outcome, standing);
-    code(&outcome)
+    with(replica, alloc, &mut call)
 }
 
 /// Returns the number of a session's state. Refused: UnknownSession.

@@ -9,7 +9,8 @@ ghost use Rattle.antientropy_c.specs.Makes.{MakesIn, Takes};
 ghost use Rattle.antientropy_c.specs.Numbers.{Returns};
 ghost use Rattle.antientropy_c.specs.SlotCalls.{slots_in, bounds_fault, set_target, percentile_from, TellsPercentile, numbers_of};
 
-use crate::numbers::{EMPTY, HELD, code};
+use crate::frame::with;
+use crate::numbers::{HELD, code};
 use crate::slots::Slots;
 use admission::SlotBudget;
 use c_handle::InC;
@@ -112,12 +113,11 @@ pub extern "C" fn antientropy_slot_lend(alloc: Global, slots: &mut Slots) -> u32
         (λ s t. Returns result (λ (r : Result (Unit {0}) Refusal).
         DoesAtOnce r s t (lend s))) }
 {
-    let Some(mut budget) = slots.take(alloc) else {
-        return EMPTY;
+    let mut call = |budget: &mut SlotBudget| {
+        let outcome = budget.lend();
+        code(&outcome)
     };
-    let outcome = budget.lend();
-    slots.hold(budget);
-    code(&outcome)
+    with(slots, alloc, &mut call)
 }
 
 /// Takes a slot back. Refused, in order: EMPTY, NoSlot (none is lent).
@@ -128,12 +128,11 @@ pub extern "C" fn antientropy_slot_give_back(alloc: Global, slots: &mut Slots) -
         (λ s t. Returns result (λ (r : Result (Unit {0}) Refusal).
         DoesAtOnce r s t (give_back s))) }
 {
-    let Some(mut budget) = slots.take(alloc) else {
-        return EMPTY;
+    let mut call = |budget: &mut SlotBudget| {
+        let outcome = budget.give_back();
+        code(&outcome)
     };
-    let outcome = budget.give_back();
-    slots.hold(budget);
-    code(&outcome)
+    with(slots, alloc, &mut call)
 }
 
 /// Records the latency of a reply of the foreground, in microseconds, with its moment in milliseconds. Refused, in order:
@@ -149,12 +148,11 @@ pub extern "C" fn antientropy_slots_sample(
     ensures { CallsOn result (slots_in slots.old) (slots_in slots.new) ⊤ (λ s t. Returns result (λ (r : Result ℕ Refusal).
         DoesAtOnce r s t (sample s moment micros))) }
 {
-    let Some(mut budget) = slots.take(alloc) else {
-        return EMPTY;
+    let mut call = |budget: &mut SlotBudget| {
+        let outcome = budget.sample(moment, micros);
+        code(&outcome)
     };
-    let outcome = budget.sample(moment, micros);
-    slots.hold(budget);
-    code(&outcome)
+    with(slots, alloc, &mut call)
 }
 
 /// Sets the target by the samples of the last 60,000 milliseconds, and stores their 99th percentile. Refused, in order:
@@ -171,13 +169,12 @@ pub extern "C" fn antientropy_slots_adjust(
         (λ s t. Returns result (λ (r : Result (Option ℕ) Refusal).
         DoesAtOnce r s t (adjust s now) × TellsPercentile r percentile.old percentile.new)) }
 {
-    let Some(mut budget) = slots.take(alloc) else {
-        return EMPTY;
+    let mut call = |budget: &mut SlotBudget| {
+        let outcome = budget.adjust(now);
+        tell_percentile(&outcome, percentile);
+        code(&outcome)
     };
-    let outcome = budget.adjust(now);
-    slots.hold(budget);
-    tell_percentile(&outcome, percentile);
-    code(&outcome)
+    with(slots, alloc, &mut call)
 }
 
 /// Stores a percentile, if the adjustment was not refused.
@@ -214,12 +211,11 @@ pub extern "C" fn antientropy_slots_set_target(alloc: Global, slots: &mut Slots,
         (λ s t. Returns result (λ (r : Result (Unit {0}) Refusal).
         DoesAtOnce r s t (set_target s target))) }
 {
-    let Some(mut budget) = slots.take(alloc) else {
-        return EMPTY;
+    let mut call = |budget: &mut SlotBudget| {
+        let outcome = set_target(budget, target);
+        code(&outcome)
     };
-    let outcome = set_target(&mut budget, target);
-    slots.hold(budget);
-    code(&outcome)
+    with(slots, alloc, &mut call)
 }
 
 /// Sets the target, if it is within the bounds.
@@ -245,12 +241,11 @@ pub extern "C" fn antientropy_slots_count(
     ensures { CallsOn result (slots_in slots.old) (slots_in slots.new) (numbers.new ≡ numbers.old)
         (λ s t. (t ≡ s) × (result ≡ 0) × (numbers.new ≡ numbers_of s)) }
 {
-    let Some(budget) = slots.take(alloc) else {
-        return EMPTY;
+    let mut call = |budget: &mut SlotBudget| {
+        *numbers = numbers_of(budget);
+        0
     };
-    *numbers = numbers_of(&budget);
-    slots.hold(budget);
-    0
+    with(slots, alloc, &mut call)
 }
 
 /// Returns the numbers of slots.

@@ -7,10 +7,10 @@ ghost use Rattle.antientropy_c.specs.Numbers.{Returns};
 ghost use Rattle.antientropy_c.specs.Calls.{Calls};
 ghost use Rattle.antientropy_c.specs.Sessions.{TellsNumber};
 
-use crate::numbers::{EMPTY, code};
+use crate::frame::with;
+use crate::numbers::code;
 use crate::replica::Replica;
 use crate::sessions::tell_number;
-use c_handle::InC;
 use range_state::RangeState;
 use std::alloc::Global;
 use vclock::Refusal;
@@ -23,12 +23,11 @@ pub extern "C" fn antientropy_rehash(alloc: Global, replica: &mut Replica) -> u3
     ensures { Calls result replica.old replica.new ⊤ (λ s t. Returns result (λ (r : Result (Unit {0}) Refusal).
         Answers r None (λ _. t ≡ rehashed s) × IsSameRange s t)) }
 {
-    let Some(mut state) = replica.take(alloc) else {
-        return EMPTY;
+    let mut call = |state: &mut RangeState| {
+        let outcome = rehash(alloc, state);
+        code(&outcome)
     };
-    let outcome = rehash(alloc, &mut state);
-    replica.hold(state);
-    code(&outcome)
+    with(replica, alloc, &mut call)
 }
 
 /// Hashes every dirty node of a replica.
@@ -53,13 +52,12 @@ pub extern "C" fn antientropy_rehash_some(
     ensures { Calls result replica.old replica.new (left.new ≡ left.old) (λ s t. Returns result (λ (r : Result ℕ Refusal).
         HashesSome r most s t × TellsNumber r left.old left.new)) }
 {
-    let Some(mut state) = replica.take(alloc) else {
-        return EMPTY;
+    let mut call = |state: &mut RangeState| {
+        let outcome = rehash_some(alloc, state, most);
+        tell_number(&outcome, left);
+        code(&outcome)
     };
-    let outcome = rehash_some(alloc, &mut state, most);
-    replica.hold(state);
-    tell_number(&outcome, left);
-    code(&outcome)
+    with(replica, alloc, &mut call)
 }
 
 /// Hashes at most `most` of the dirty nodes whose children are clean, and returns the number of nodes that are dirty

@@ -5,11 +5,11 @@ ghost use Rattle.antientropy_c.specs.Calls.{Calls};
 ghost use Rattle.antientropy_c.specs.Hands.{HandsNothing};
 ghost use Rattle.antientropy_c.specs.Versions.{ShowsValue, ShowsClock, HandsPairs};
 
-use crate::numbers::{EMPTY, NO_VERSION, SMALL};
+use crate::frame::with;
+use crate::numbers::{NO_VERSION, SMALL};
 use crate::output::copy_out;
 use crate::pair::Pair;
 use crate::replica::Replica;
-use c_handle::InC;
 use range_state::RangeState;
 use std::alloc::Global;
 use vclock::check_key;
@@ -46,12 +46,8 @@ pub extern "C" fn antientropy_value(
         (λ s t. (t ≡ s)
         × ShowsValue (slice_get (held s.store.entries key.now) index) result kind.old kind.new (need.old, out.old) (need.new, out.new)) }
 {
-    let Some(state) = replica.take(alloc) else {
-        return EMPTY;
-    };
-    let number = show_value(&state, key, index, kind, out, need);
-    replica.hold(state);
-    number
+    let mut call = |state: &mut RangeState| show_value(state, key, index, kind, out, need);
+    with(replica, alloc, &mut call)
 }
 
 /// Copies out the value of a version, and stores its kind.
@@ -90,12 +86,8 @@ pub extern "C" fn antientropy_clock(
     ensures { Calls result replica.old replica.new (HandsNothing (need.old, out.old) (need.new, out.new)) (λ s t. (t ≡ s)
         × ShowsClock (slice_get (held s.store.entries key.now) index) result (need.old, out.old) (need.new, out.new)) }
 {
-    let Some(state) = replica.take(alloc) else {
-        return EMPTY;
-    };
-    let number = show_clock(&state, key, index, out, need);
-    replica.hold(state);
-    number
+    let mut call = |state: &mut RangeState| show_clock(state, key, index, out, need);
+    with(replica, alloc, &mut call)
 }
 
 /// Copies out the pairs of the clock of a version.
