@@ -19,9 +19,10 @@
 ///
 /// THREADS. No class has a lock: **one call at a time on an object, reads too**, so none of them is const. A
 /// reader-writer lock isn't enough: two concurrent reads can leave a replica empty for good. A `Session` and a
-/// `Sequence` of a replica count as the replica, a `Loan` as its slots. A replica, its snapshots and its portions are
-/// apart, and may be used at once. `snapshot_beside` and `sync_beside` take the program's lock of a replica, and free
-/// it while they hash. Call nothing in a signal handler, or in the forked child of a process with threads.
+/// `Sequence` of a replica count as the replica, a `Sequence` of a snapshot as the snapshot, a `Loan` as its slots. A
+/// replica, its snapshots and its portions are apart, and may be used at once; so may snapshots that share rows.
+/// `snapshot_beside` and `sync_beside` take the program's lock of a replica, and free it while they hash. Call nothing
+/// in a signal handler, or in the forked child of a process with threads.
 #ifndef ANTIENTROPY_HPP
 #define ANTIENTROPY_HPP
 
@@ -624,13 +625,14 @@ inline Result<std::optional<Version>> read_version(ReplicaHandle *replica, std::
     return or_none(read_version(replica, key, index, held));
 }
 
-/// The keys of a leaf, one at a time.
+/// The keys of a leaf, one at a time. `Next` is the call that lists them.
+template <class C, auto Next>
 class LeafKeys {
 public:
-    LeafKeys(Shared<ReplicaHandle> replica, std::uint64_t leaf) : replica_(std::move(replica)), leaf_(leaf) {}
+    LeafKeys(Shared<C> rows, std::uint64_t leaf) : rows_(std::move(rows)), leaf_(leaf) {}
 
     Result<std::optional<std::string>> operator()() {
-        const auto number = c::antientropy_key_next(replica_.get(), leaf_, key_, sizeof key_, &length_);
+        const auto number = Next(rows_.get(), leaf_, key_, sizeof key_, &length_);
         return or_none(result(number, text(key_, length_)));
     }
 
@@ -641,15 +643,19 @@ public:
     }
 
 private:
-    Shared<ReplicaHandle> replica_;
+    Shared<C> rows_;
     std::uint64_t leaf_, length_ = 0;
     std::uint8_t key_[ANTIENTROPY_KEY_MAX];
 };
 
-/// The keys of all leaves, one at a time.
+using ReplicaLeafKeys = LeafKeys<ReplicaHandle, c::antientropy_key_next>;
+using SnapshotLeafKeys = LeafKeys<c::antientropy_offered, c::antientropy_snapshot_key_next>;
+
+/// The keys of all leaves, one at a time, from those of leaf 0 on.
+template <class LeafKeys>
 class Keys {
 public:
-    explicit Keys(Shared<ReplicaHandle> replica) : keys_(std::move(replica), 0) {}
+    explicit Keys(LeafKeys keys) : keys_(std::move(keys)) {}
 
     Result<std::optional<std::string>> operator()() {
         while (true) {
@@ -885,8 +891,17 @@ inline Result<OfferParts> read_offer(std::string_view offer) {
 /// `Replica::snapshot`, `snapshot_beside` and `moment` make it.
 class Snapshot {
 public:
-    /// Frees the memory now.
+    /// Frees the memory now, unless another snapshot shares the rows.
     void close() noexcept { handle_.close(); }
+
+    /// Returns another snapshot of the same rows. Copies no row. Each thread that reads the rows has a snapshot of its
+    /// own; the threads then need no lock. The rows are freed with the last one.
+    Result<Snapshot> share() {
+        Snapshot made(format_, bits_, range_);
+        made.entries_ = entries_;
+        const auto number = c::antientropy_snapshot_share(at(), made.at());
+        return detail::result(number, std::move(made));
+    }
 
     /// Number of the journal's entries at the moment of the snapshot.
     std::uint64_t entries() const noexcept { return entries_; }
@@ -894,6 +909,12 @@ public:
     /// Returns the digest of the root: 32 bytes. Replicas of a range with equal roots hold the same versions.
     Result<std::string> root() {
         return detail::bytes([&](auto... out) { return c::antientropy_root(at(), out...); });
+    }
+
+    /// Returns the digest of a node of the tree: 32 bytes. The root is node 0 at depth 0; the leaves are at depth 2, or
+    /// at 3 in format 2. Refused: BadMessage (the tree has no such node).
+    Result<std::string> digest(std::uint64_t depth, std::uint64_t index) {
+        return detail::bytes([&](auto... out) { return c::antientropy_digest(at(), depth, index, out...); });
     }
 
     /// Returns the message that offers the snapshot: 39 bytes. The caller gives each of its offers a number.
@@ -913,6 +934,23 @@ public:
     /// Returns the texts of the rows of a leaf, from 0. Refused: BadMessage (the tree has no such leaf).
     Result<std::string> rows(std::uint64_t leaf) {
         return detail::bytes([&](auto... out) { return c::antientropy_rows(at(), leaf, out...); });
+    }
+
+    /// Returns the text of the row of a key (docs/FORMATS.md), or no bytes if none is held. Refused: BadKey.
+    Result<std::string> row(std::string_view key) {
+        return detail::bytes([&](auto... out) {
+            return c::antientropy_snapshot_get(at(), detail::data(key), key.size(), out...);
+        });
+    }
+
+    /// Goes through the keys, leaf by leaf.
+    Sequence<std::string> keys() {
+        return Sequence<std::string>(detail::Keys(detail::SnapshotLeafKeys(handle_.share(), 0)));
+    }
+
+    /// Goes through the keys of a leaf, from 0, in ascending order. Refused: BadMessage (the tree has no such leaf).
+    Sequence<std::string> keys_of(std::uint64_t leaf) {
+        return Sequence<std::string>(detail::SnapshotLeafKeys(handle_.share(), leaf));
     }
 
     /// Writes a checkpoint of the rows (docs/FORMATS.md), and returns the number of the journal's entries that are in
@@ -1385,11 +1423,13 @@ public:
     }
 
     /// Goes through the keys, leaf by leaf. Keys that are put meanwhile are met if they lie ahead.
-    Sequence<std::string> keys() { return Sequence<std::string>(detail::Keys(handle_.share())); }
+    Sequence<std::string> keys() {
+        return Sequence<std::string>(detail::Keys(detail::ReplicaLeafKeys(handle_.share(), 0)));
+    }
 
     /// Goes through the keys of a leaf, from 0, in ascending order. Refused: BadMessage (the tree has no such leaf).
     Sequence<std::string> keys_of(std::uint64_t leaf) {
-        return Sequence<std::string>(detail::LeafKeys(handle_.share(), leaf));
+        return Sequence<std::string>(detail::ReplicaLeafKeys(handle_.share(), leaf));
     }
 
     /// Returns the least key of a leaf above a key, or the first one for a key of no bytes; none if no key follows.

@@ -50,6 +50,39 @@ void snapshots() {
     REFUSED(Empty, snapshot.serve(1, ask_of(0)));
 }
 
+/// The keys of a snapshot, and what it has of each.
+std::vector<std::string> rows_of(Snapshot &snapshot) {
+    std::vector<std::string> rows = all(snapshot.keys());
+    for (std::string &key : rows) key += sure(snapshot.row(key));
+    return rows;
+}
+
+void shared_snapshots() {
+    Replica replica = filled(50);
+    Snapshot first = sure(replica.snapshot()), second = sure(first.share());
+    const std::string root = sure(first.root());
+    const auto leaf = sure(place(2, 0, "key 3")).leaf;
+    CHECK(all(second.keys()) == all(replica.keys()) && all(second.keys_of(leaf)) == all(replica.keys_of(leaf)));
+    for (const auto &key : all(replica.keys())) CHECK(sure(second.row(key)) == sure(replica.row(key)));
+    std::vector<std::string> rows;
+    std::thread reader([&] { rows = rows_of(first); });
+    CHECK(rows_of(second).size() == 50);
+    reader.join();
+    first.close();
+    sure(replica.put(2, "later", ""));
+    CHECK(rows_of(second) == rows && second.entries() == 50 && sure(second.root()) == root);
+    CHECK(sure(second.digest(0, 0)) == root && sure(second.digest(3, leaf)) != sure(second.digest(3, leaf ^ 1)));
+    CHECK(sure(second.row("later")).empty());
+    REFUSED(BadKey, second.row(""));
+    REFUSED(BadMessage, ended(second.keys_of(4096)));
+    REFUSED(BadMessage, second.digest(3, 4096));
+    REFUSED(BadMessage, second.digest(4, 0));
+    REFUSED(Empty, first.share());
+    REFUSED(Empty, first.row("key 3"));
+    REFUSED(Empty, ended(first.keys()));
+    REFUSED(Empty, first.digest(0, 0));
+}
+
 void session() {
     Replica a = filled(50), b = sure(Replica::make());
     Snapshot offered = sure(a.snapshot());
@@ -249,6 +282,7 @@ void a_snapshot_serves_from_another_thread() {
 
 int main() {
     return run({{"snapshots", snapshots},
+                {"shared snapshots", shared_snapshots},
                 {"session", session},
                 {"bad answers", bad_answers},
                 {"refused offers", refused_offers},
