@@ -191,7 +191,8 @@ func TestUnknownSession(t *testing.T) {
 	}
 }
 
-// Locks are apart: a replica that is in use doesn't stop its snapshots, or others.
+// Locks are apart: a replica that is in use doesn't stop its snapshots, or others, and a snapshot doesn't stop those
+// that share its rows.
 func TestALockForEachHandle(t *testing.T) {
 	r, err := NewReplica(Config{Format: 2, Limit: 1})
 	if err != nil {
@@ -201,8 +202,16 @@ func TestALockForEachHandle(t *testing.T) {
 	if err != nil {
 		t.Fatal(err)
 	}
+	shared, err := snapshot.Share()
+	if err != nil {
+		t.Fatal(err)
+	}
 	defer r.at.locked().lock.Unlock()
 	if _, err := snapshot.Offer(1); err != nil {
+		t.Error(err)
+	}
+	defer snapshot.at.locked().lock.Unlock()
+	if _, err := shared.Offer(1); err != nil {
 		t.Error(err)
 	}
 }

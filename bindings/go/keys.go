@@ -22,23 +22,23 @@ type seenKey struct {
 	len  C.uint64_t
 }
 
-// keyNext returns the key of a leaf after the one that was seen, and takes it for seen.
-func (r *Replica) keyNext(seen *seenKey) (next []byte, found bool, err error) {
-	held := r.at.locked()
-	defer held.lock.Unlock()
-	number := C.antientropy_key_next(&held.handle, seen.leaf, bytesAt(seen.key[:]), KeyMax, &seen.len)
+// A keyNext returns the key of a leaf after the one that was seen, and takes it for seen.
+type keyNext func(seen *seenKey) (next []byte, found bool, err error)
+
+// read returns the key that a call has written, unless the call was refused.
+func (s *seenKey) read(number C.uint32_t) (key []byte, found bool, err error) {
 	if found, err = isFound(number); !found {
 		return nil, false, err
 	}
-	return clone(seen.key[:seen.len]), true, nil
+	return clone(s.key[:s.len]), true, nil
 }
 
-// Keys returns a scanner of the keys, leaf by leaf. Keys that are put meanwhile are scanned if they lie ahead.
-func (r *Replica) Keys() *Scanner[[]byte] {
+// scanKeys returns a scanner of the keys, leaf by leaf.
+func scanKeys(next keyNext) *Scanner[[]byte] {
 	var seen seenKey
 	return scan(func() ([]byte, bool, error) {
 		for {
-			key, found, err := r.keyNext(&seen)
+			key, found, err := next(&seen)
 			if err == ErrBadMessage {
 				return nil, false, nil // there are no more leaves
 			}
@@ -50,11 +50,44 @@ func (r *Replica) Keys() *Scanner[[]byte] {
 	})
 }
 
+// scanKeysOf returns a scanner of the keys of a leaf.
+func scanKeysOf(leaf uint16, next keyNext) *Scanner[[]byte] {
+	seen := seenKey{leaf: C.uint64_t(leaf)}
+	return scan(func() ([]byte, bool, error) {
+		return next(&seen)
+	})
+}
+
+func (r *Replica) keyNext(seen *seenKey) (next []byte, found bool, err error) {
+	held := r.at.locked()
+	defer held.lock.Unlock()
+	return seen.read(C.antientropy_key_next(&held.handle, seen.leaf, bytesAt(seen.key[:]), KeyMax, &seen.len))
+}
+
+// Keys returns a scanner of the keys, leaf by leaf. Keys that are put meanwhile are scanned if they lie ahead.
+func (r *Replica) Keys() *Scanner[[]byte] {
+	return scanKeys(r.keyNext)
+}
+
 // KeysOf returns a scanner of the keys of a leaf, in ascending order. Its error is [ErrBadMessage] if the tree has no
 // such leaf.
 func (r *Replica) KeysOf(leaf uint16) *Scanner[[]byte] {
-	seen := seenKey{leaf: C.uint64_t(leaf)}
-	return scan(func() ([]byte, bool, error) {
-		return r.keyNext(&seen)
-	})
+	return scanKeysOf(leaf, r.keyNext)
+}
+
+func (s *Snapshot) keyNext(seen *seenKey) (next []byte, found bool, err error) {
+	held := s.at.locked()
+	defer held.lock.Unlock()
+	return seen.read(C.antientropy_snapshot_key_next(&held.handle, seen.leaf, bytesAt(seen.key[:]), KeyMax, &seen.len))
+}
+
+// Keys returns a scanner of the keys, leaf by leaf.
+func (s *Snapshot) Keys() *Scanner[[]byte] {
+	return scanKeys(s.keyNext)
+}
+
+// KeysOf returns a scanner of the keys of a leaf, in ascending order. Its error is [ErrBadMessage] if the tree has no
+// such leaf.
+func (s *Snapshot) KeysOf(leaf uint16) *Scanner[[]byte] {
+	return scanKeysOf(leaf, s.keyNext)
 }

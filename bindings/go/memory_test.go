@@ -33,10 +33,13 @@ var makers = map[string]maker{
 			must(r.Put(1, []byte{byte(n)}, value, nil))
 		}
 		snapshot, renewed := must(r.Snapshot()), must(r.Renew(64))
+		shared := must(snapshot.Share())
 		if close {
 			check(r.Close())
 			must(snapshot.Root())
 			check(snapshot.Close())
+			must(shared.Root())
+			check(shared.Close())
 			must(renewed.Count())
 			check(renewed.Close())
 		}

@@ -10,8 +10,8 @@ import (
 
 // A Snapshot has the rows of a replica at one moment.
 //
-// It serves a partner's asks while the replica goes on, and may outlive the replica. Goroutines may share it. A copy is
-// the same snapshot.
+// It serves a partner's asks while the replica goes on, and may outlive the replica. Goroutines may share it, and wait
+// for its lock then; by [Snapshot.Share] each has a snapshot of its own. A copy is the same snapshot.
 type Snapshot struct {
 	at      *snapshot
 	config  Config
@@ -63,8 +63,17 @@ func (s *snapshot) owned(config Config, entries uint64, number C.uint32_t) (*Sna
 	return &Snapshot{at: s, config: config, entries: entries}, nil
 }
 
-// Close frees the memory. Later calls are refused as [ErrEmpty], those of copies too; another Close does nothing. The
-// error is nil.
+// Share returns another snapshot of the same rows, with a lock of its own. It copies no row. Goroutines that each have
+// one read at the same time. The rows are freed with the last one.
+func (s *Snapshot) Share() (*Snapshot, error) {
+	held := s.at.locked()
+	defer held.lock.Unlock()
+	made := new(snapshot)
+	return made.owned(s.config, s.entries, C.antientropy_snapshot_share(&held.handle, &made.handle))
+}
+
+// Close frees the memory, unless another snapshot shares the rows. Later calls are refused as [ErrEmpty], those of copies
+// too; another Close does nothing. The error is nil.
 func (s *Snapshot) Close() error {
 	s.at.close()
 	return nil
@@ -105,6 +114,17 @@ func (s *Snapshot) Root() (Root, error) {
 	return root, err
 }
 
+// Digest returns the digest of a node of the tree. The root is node 0 at depth 0; the leaves are at depth 2, or at 3 in
+// format 2. Refused as [ErrBadMessage] if the tree has no such node.
+func (s *Snapshot) Digest(depth uint8, index uint16) (Root, error) {
+	var digest Root
+	held := s.at.locked()
+	defer held.lock.Unlock()
+	err := check(C.antientropy_digest(&held.handle, C.uint64_t(depth), C.uint64_t(index), bytesAt(digest[:]), RootLen,
+		&held.room.need))
+	return digest, err
+}
+
 // Offer returns the message that offers the snapshot. The caller gives each of its offers a number.
 func (s *Snapshot) Offer(number uint32) ([]byte, error) {
 	held := s.at.locked()
@@ -130,5 +150,14 @@ func (s *Snapshot) Rows(leaf uint16) ([]byte, error) {
 	defer held.lock.Unlock()
 	return held.room.copy(func(out *C.uint8_t, outLen C.size_t) C.uint32_t {
 		return C.antientropy_rows(&held.handle, C.uint64_t(leaf), out, outLen, &held.room.need)
+	})
+}
+
+// Row returns the text of the row of a key (docs/FORMATS.md). Refused as [ErrBadKey].
+func (s *Snapshot) Row(key []byte) (row []byte, found bool, err error) {
+	held := s.at.locked()
+	defer held.lock.Unlock()
+	return held.room.copyIfAny(func(out *C.uint8_t, outLen C.size_t) C.uint32_t {
+		return C.antientropy_snapshot_get(&held.handle, bytesAt(key), C.size_t(len(key)), out, outLen, &held.room.need)
 	})
 }

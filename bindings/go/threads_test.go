@@ -68,6 +68,60 @@ func TestAGoroutineServesASnapshotWhileAnotherPuts(t *testing.T) {
 	equal(t, []any{synced.Accepted, must(b.Root())}, []any{uint64(puts), must(snapshot.Root())})
 }
 
+// rowsOf returns the keys of a snapshot with their rows.
+func rowsOf(t *testing.T, s *antientropy.Snapshot) [][]byte {
+	rows := must(s.Keys().All())
+	for _, key := range rows {
+		row, found, err := s.Row(key)
+		equal(t, []any{found, err}, []any{true, nil})
+		rows = append(rows, row)
+	}
+	return rows
+}
+
+func TestGoroutinesReadTheRowsOfASnapshot(t *testing.T) {
+	r := filled(puts)
+	first := must(r.Snapshot())
+	root, leaf := must(first.Root()), must(antientropy.Place(2, 0, []byte("key 7"))).Leaf
+	want := must(r.Keys().All())
+	for _, key := range want {
+		row, _, err := r.Row(key)
+		check(err)
+		want = append(want, row)
+	}
+	var group sync.WaitGroup
+	shares := []*antientropy.Snapshot{must(first.Share()), must(first.Share())}
+	check(first.Close())
+	put(r, "later", "value")
+	for _, share := range shares {
+		share := share
+		group.Add(1)
+		go func() {
+			defer group.Done()
+			equal(t, rowsOf(t, share), want)
+		}()
+	}
+	group.Wait()
+	check(shares[0].Close())
+	s := shares[1]
+	equal(t, []any{s.Entries(), s.Config(), must(s.Root())}, []any{uint64(puts), r.Config(), root})
+	equal(t, must(s.Digest(0, 0)), root)
+	equal(t, must(s.Digest(3, leaf)) == must(s.Digest(3, leaf^1)), false)
+	equal(t, must(s.KeysOf(leaf).All()), must(r.KeysOf(leaf).All()))
+	_, found, err := s.Row([]byte("later"))
+	equal(t, []any{found, err}, []any{false, nil})
+	_, _, err = s.Row(nil)
+	refused(t, err, antientropy.ErrBadKey)
+	_, err = s.KeysOf(antientropy.Leaves2).All()
+	refused(t, err, antientropy.ErrBadMessage)
+	for _, node := range [][]int{{3, antientropy.Leaves2}, {4, 0}} {
+		_, err = s.Digest(uint8(node[0]), uint16(node[1]))
+		refused(t, err, antientropy.ErrBadMessage)
+	}
+	_, err = shares[0].Share()
+	refused(t, err, antientropy.ErrEmpty)
+}
+
 // A handle without a reference is in use until its method has returned.
 func TestTheCollectorClosesNoHandleInUse(t *testing.T) {
 	done := make(chan bool)

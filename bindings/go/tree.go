@@ -3,7 +3,8 @@ package antientropy
 // #include <antientropy.h>
 import "C"
 
-// A Root is the digest of a root. Replicas of a range with equal roots hold the same versions.
+// A Root is the digest of a root, or of another node of a tree. Replicas of a range with equal roots hold the same
+// versions.
 type Root [RootLen]byte
 
 // A Spot has the range and the leaf of a key.
