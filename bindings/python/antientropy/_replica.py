@@ -2,16 +2,17 @@
 
 from __future__ import annotations
 
-from ctypes import byref, c_uint64, create_string_buffer
+from ctypes import byref, c_uint64
 from typing import BinaryIO, Callable, Iterable, Iterator, List, Optional, Sequence
 
 from . import _checkpoint, _sync
-from ._calls import CLOCK_MAX, KEY_MAX
+from ._calls import CLOCK_MAX
 from ._convert import fits, to_bytes, to_clock, to_kind, to_pairs, to_value
-from ._handle import Handle, Results
+from ._handle import Results
 from ._library import Library, current
 from ._puts import put_many
 from ._refused import class_of
+from ._rows import Rows
 from ._session import Session
 from ._snapshot import Snapshot
 from ._values import Clock, ClockLike, Counts, Entry, Loaded, Put, Receipt, Source, Synced, Version
@@ -22,13 +23,13 @@ _LIMIT = 1_000_000
 _ALL = (1 << 64) - 1
 
 
-class Replica(Handle):
+class Replica(Rows):
     """A replica of one range of a ring of 2^bits ranges, in format 1 or 2, with a journal of at most `limit` entries.
 
     Raises BadRing if a number is outside its limits. Several threads may use a replica.
     """
 
-    _free = "free"
+    _free, _get_row, _next_key = "free", "get", "key_next"
 
     #: Format of the replica: 1 or 2.
     format: int
@@ -183,34 +184,6 @@ class Replica(Handle):
         key = to_bytes(key)
         with self._lock:
             return self._clock_held("clock", key, len(key), fits(index, 64))
-
-    def row(self, key: bytes) -> bytes:
-        """Returns the text of the row of a key (docs/FORMATS.md), or no bytes if none is held. Raises BadKey."""
-        key = to_bytes(key)
-        return self._get_bytes("get", key, len(key))
-
-    def keys(self) -> Iterator[bytes]:
-        """Yields the keys, leaf by leaf. Keys that are put meanwhile are yielded if they lie ahead."""
-        leaf = 0
-        while True:
-            try:
-                yield from self.keys_of(leaf)
-            except class_of("BadMessage"):
-                return
-            leaf += 1
-
-    def keys_of(self, leaf: int) -> Iterator[bytes]:
-        """Yields the keys of a leaf in ascending order. Raises BadMessage if the tree has no such leaf."""
-        fits(leaf, 64)
-        key, length = create_string_buffer(KEY_MAX), c_uint64()
-        while True:
-            with self._lock:
-                number = self._library.key_next(self._at, leaf, key, KEY_MAX, byref(length))
-            if number == self._library.no_version:
-                return
-            if number:
-                raise self._library.refusal("key_next", number)
-            yield key.raw[: length.value]
 
     def _read_or_none(self, key: bytes, index: int) -> Optional[Version]:
         fits(index, 64)

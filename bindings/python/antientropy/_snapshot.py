@@ -2,25 +2,26 @@
 
 from __future__ import annotations
 
-from typing import TYPE_CHECKING, BinaryIO
+from typing import TYPE_CHECKING, BinaryIO, Union
 
 from . import _checkpoint
 from ._convert import fits, to_bytes
 from ._handle import Handle
 from ._moment import at_moment
+from ._rows import Rows
 
 if TYPE_CHECKING:
     from ._replica import Replica
 
 
-class Snapshot(Handle):
+class Snapshot(Rows):
     """The rows of a replica at one moment. It serves a partner's asks while the replica goes on, and may outlive it.
 
     The rows are held as the replica's moment, and hashed in portions, so that other threads put meanwhile. If `rehash`
     is False nothing is held or hashed, and a node of the replica's tree without a digest raises Dirty.
     """
 
-    _free = "snapshot_free"
+    _free, _get_row, _next_key = "snapshot_free", "snapshot_get", "snapshot_key_next"
 
     #: Format, bits of the ring and range of the rows.
     format: int
@@ -55,13 +56,32 @@ class Snapshot(Handle):
             taken = front
         self._describe_held(replica, front)
 
-    def _describe_held(self, replica: Replica, entries: int) -> None:
-        self.format, self.bits, self.range = replica.format, replica.bits, replica.range
+    def _describe_held(self, rows: Union[Replica, Snapshot], entries: int) -> None:
+        self.format, self.bits, self.range = rows.format, rows.bits, rows.range
         self.entries = entries
+
+    def share(self) -> Snapshot:
+        """Returns another snapshot of the same rows, with a lock of its own. It copies no row.
+
+        Threads that each have one don't wait for each other. The rows are freed with the last one.
+        """
+        shared = type(self).__new__(type(self))
+        Handle.__init__(shared, self._library)
+        with self._lock:
+            self._call_held("snapshot_share", shared._at)
+            shared._describe_held(self, self.entries)
+        return shared
 
     def root(self) -> bytes:
         """Returns the digest of the root: 32 bytes."""
         return self._get_bytes("root")
+
+    def digest(self, depth: int, index: int) -> bytes:
+        """Returns the digest of a node of the tree: 32 bytes. Raises BadMessage if the tree has no such node.
+
+        The root is node 0 at depth 0. The leaves are at depth 2, or at 3 in format 2.
+        """
+        return self._get_bytes("digest", fits(depth, 64), fits(index, 64))
 
     def offer(self, number: int) -> bytes:
         """Returns the message that offers the snapshot. The caller gives each of its offers a number."""

@@ -39,6 +39,25 @@ class SessionTest(ReplicaCase):
         self.assertEqual(self.b.load_rows(rows), (len(list(self.a.keys_of(leaf))), 0))
         self.assertEqual(self.b.load_rows(rows).taken, 0)
 
+    def test_shared_snapshot(self):
+        """It outlives the first one, and has the rows of that moment."""
+        root, keys, leaf = self.snapshot.root(), list(self.a.keys()), antientropy.place(2, 0, b"key 3").leaf
+        with self.snapshot.share() as shared:
+            self.snapshot.close()
+            self.assertEqual([shared.row(key) for key in keys], [self.a.row(key) for key in keys])
+            self.a.put(1, b"later", b"")
+            self.assertEqual((list(shared.keys()), list(shared.keys_of(leaf))), (keys, list(self.a.keys_of(leaf))))
+            self.assertEqual((shared.entries, shared.format, shared.bits, shared.range), (50, 2, 0, 0))
+            self.assertEqual((shared.root(), shared.digest(0, 0)), (root, root))
+            self.assertNotEqual(shared.digest(3, leaf), shared.digest(3, leaf ^ 1))
+            self.assertEqual(shared.row(b"later"), b"")
+            self.assert_refused("BadKey", self.a, shared.row, b"")
+            self.assert_refused("BadMessage", self.a, list, shared.keys_of(4096))
+            for depth, index in ((3, 4096), (4, 0), (0, 1 << 32)):
+                self.assert_refused("BadMessage", self.a, shared.digest, depth, index)
+        for call, *args in ((shared.share,), (shared.row, b"key 3"), (list, shared.keys()), (shared.digest, 0, 0)):
+            self.assert_refused("Empty", self.a, call, *args)
+
     def test_session(self):
         with self.b.open(1, self.offer) as session:
             self.assertEqual((session.state, session.outstanding), (State.OPEN, 1))

@@ -46,8 +46,9 @@ def use(replica, hints):
     results += [sync(replica, partner), replica.get(b"cart"), replica.get(b"crowded"), replica.row(b"large")]
     results += [list(replica.keys()), list(replica.entries()), replica.value(b"cart", 1), replica.clock(b"cart", 0)]
     results += [replica.count().entries, replica.top_counter(1, b"cart"), replica.load_rows(replica.row(b"tea"))]
-    with replica.snapshot() as snapshot:
+    with replica.snapshot() as snapshot, snapshot.share() as shared:
         results += [snapshot.entries, snapshot.root(), snapshot.offer(1), snapshot.rows(0), replica.renew().count()]
+        results += [shared.entries, list(shared.keys()), shared.row(b"cart"), shared.digest(1, 0)]
     results += [hints.keep(2, b"cart", {1: 1}, b"milk"), hints.keep(2, b"tea", {1: 2}, None), list(hints.pending(2))]
     return results + [hints.confirm(1), hints.count(), replica.migrate(), replica.root()]
 
@@ -81,6 +82,21 @@ class SignalsTest(unittest.TestCase):
         turns = self.interrupt_by(signal.SIGUSR1, lambda: reads[len(turns) % 2]())
         self.assertEqual(use(replica, hints), wanted)
         self.assertGreater(len(turns), 200)
+
+    def test_a_handler_shares_a_snapshot(self):
+        with Replica(1) as replica:
+            replica.put(1, b"cart", b"milk")
+            row, root, snapshot = replica.row(b"cart"), replica.root(), replica.snapshot()
+        snapshot._library = Interrupted(snapshot._library)
+
+        def read():
+            with snapshot.share() as shared:
+                return shared.row(b"cart")
+
+        turns = self.interrupt_by(signal.SIGUSR1, read)
+        self.assertEqual((snapshot.row(b"cart"), list(snapshot.keys())), (row, [b"cart"]))
+        self.assertEqual((snapshot.root(), snapshot.digest(0, 0)), (root, root))
+        self.assertEqual(set(turns), {row})
 
     def test_a_handler_changes_nothing(self):
         replica, hints = Replica(1), Hints()

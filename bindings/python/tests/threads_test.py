@@ -45,6 +45,25 @@ class ThreadsTest(unittest.TestCase):
                 thread.join()
             self.assertEqual(copy.count().entries, PUTS)
 
+    def test_threads_read_the_rows_of_a_snapshot(self):
+        with Replica() as replica:
+            self.put(replica, 1)
+            rows, read = [(key, replica.row(key)) for key in replica.keys()], []
+            with replica.snapshot() as snapshot:
+                shared = [snapshot.share() for _ in range(THREADS)]
+            for each in shared:
+                self.addCleanup(each.close)
+            threads = [
+                threading.Thread(target=lambda of: read.append([(key, of.row(key)) for key in of.keys()]), args=(each,))
+                for each in shared
+            ]
+            for thread in threads:
+                thread.start()
+            self.put(replica, 2)
+            for thread in threads:
+                thread.join()
+            self.assertEqual(read, [rows] * THREADS)
+
     def test_many_puts_at_once(self):
         with Replica() as replica:
             receipts = {}
@@ -63,9 +82,9 @@ class ThreadsTest(unittest.TestCase):
         receipts[node] = replica.put_many(node, ((b"%d of %d" % (n, node), b"value") for n in range(PUTS)))
 
     def test_a_lock_for_each_handle(self):
-        with Replica() as replica, replica.snapshot() as snapshot, Replica() as other:
-            locks = {id(handle._lock) for handle in (replica, snapshot, other)}
-            self.assertEqual(len(locks), 3)
+        with Replica() as replica, replica.snapshot() as snapshot, snapshot.share() as shared, Replica() as other:
+            locks = {id(handle._lock) for handle in (replica, snapshot, shared, other)}
+            self.assertEqual(len(locks), 4)
             for put in (lambda: replica.put(1, b"k", b""), lambda: replica.put_many(1, [(b"l", b"")])):
                 done = threading.Event()
                 thread = threading.Thread(target=lambda: (put(), done.set()))

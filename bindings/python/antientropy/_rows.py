@@ -1,0 +1,49 @@
+"""The base of the classes whose rows are read by key."""
+
+from __future__ import annotations
+
+from ctypes import byref, c_uint64, create_string_buffer
+from typing import Iterator
+
+from ._calls import KEY_MAX
+from ._convert import fits, to_bytes
+from ._handle import Handle
+from ._refused import class_of
+
+
+class Rows(Handle):
+    """A handle of rows, which are read by key."""
+
+    #: Name of the call that returns the row of a key.
+    _get_row = ""
+    #: Name of the call that lists the keys of a leaf.
+    _next_key = ""
+
+    def row(self, key: bytes) -> bytes:
+        """Returns the text of the row of a key (docs/FORMATS.md), or no bytes if none is held. Raises BadKey."""
+        key = to_bytes(key)
+        return self._get_bytes(self._get_row, key, len(key))
+
+    def keys(self) -> Iterator[bytes]:
+        """Yields the keys, leaf by leaf. Keys that are put to a replica meanwhile are yielded if they lie ahead."""
+        leaf = 0
+        while True:
+            try:
+                yield from self.keys_of(leaf)
+            except class_of("BadMessage"):
+                return
+            leaf += 1
+
+    def keys_of(self, leaf: int) -> Iterator[bytes]:
+        """Yields the keys of a leaf in ascending order. Raises BadMessage if the tree has no such leaf."""
+        fits(leaf, 64)
+        key_next = getattr(self._library, self._next_key)
+        key, length = create_string_buffer(KEY_MAX), c_uint64()
+        while True:
+            with self._lock:
+                number = key_next(self._at, leaf, key, KEY_MAX, byref(length))
+            if number == self._library.no_version:
+                return
+            if number:
+                raise self._library.refusal(self._next_key, number)
+            yield key.raw[: length.value]
