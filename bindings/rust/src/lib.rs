@@ -11,6 +11,7 @@ mod moment;
 mod portion;
 mod refusal;
 mod replica;
+mod rows;
 mod session;
 mod slots;
 mod snapshot;

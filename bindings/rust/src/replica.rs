@@ -1,15 +1,16 @@
 //! A replica of a range.
 
 use std::error::Error;
+use std::fmt;
 use std::io::{Read, Write};
-use std::{fmt, iter};
 
 use crate::checkpoint::{self, CheckpointError};
 use crate::functions::read_offer;
-use crate::handle::{bytes, clock, value, written, Owned, CLOCK_MAX, KEY_MAX};
+use crate::handle::{bytes, clock, value, written, Owned, CLOCK_MAX};
 use crate::moment::at_moment;
 use crate::portion::Portion;
 use crate::refusal::{check, found, Refusal};
+use crate::rows::{row, Keys};
 use crate::session::{Session, SessionId};
 use crate::snapshot::Snapshot;
 use crate::sync::{self, Bounds, Synced};
@@ -158,19 +159,6 @@ impl Replica {
     }
 }
 
-/// The key of a leaf that an iterator has returned last.
-struct Seen {
-    leaf: u16,
-    key: [u8; KEY_MAX],
-    len: u64,
-}
-
-impl Seen {
-    fn none_of(leaf: u16) -> Seen {
-        Seen { leaf, key: [0; KEY_MAX], len: 0 }
-    }
-}
-
 /// Versions.
 impl Replica {
     /// Puts a value, or a tombstone for `None`, at a node, after a read: the context is the clock of all that was read.
@@ -302,10 +290,7 @@ impl Replica {
 
     /// Returns the text of the row of a key (`docs/FORMATS.md`), or `None` if no version is held. Refused as `BadKey`.
     pub fn row(&mut self, key: &[u8]) -> Result<Option<Vec<u8>>, Refusal> {
-        let (handle, at, key_len) = (self.handle.raw(), key.as_ptr(), key.len());
-        // SAFETY: as in `sys`.
-        let row = unsafe { bytes(|out, len, need| sys::antientropy_get(handle, at, key_len, out, len, need)) }?;
-        Ok(Some(row).filter(|row| !row.is_empty()))
+        row(&mut self.handle, sys::antientropy_get, key)
     }
 
     /// Returns the least key of a leaf above a key, or the first one for a key of no bytes.
@@ -330,46 +315,13 @@ impl Replica {
     /// # Ok::<(), antientropy::Refusal>(())
     /// ```
     pub fn keys(&mut self) -> impl Iterator<Item = Result<Vec<u8>, Refusal>> + '_ {
-        let mut seen = Some(Seen::none_of(0));
-        iter::from_fn(move || {
-            let next = self.key_on(seen.as_mut()?).transpose();
-            if !matches!(next, Some(Ok(_))) {
-                seen = None;
-            }
-            next
-        })
+        Keys::of(&mut self.handle, sys::antientropy_key_next).all()
     }
 
     /// Returns an iterator over the keys of a leaf, in ascending order. Its first result is a refusal as `BadMessage`
     /// if the tree has no such leaf.
     pub fn keys_of(&mut self, leaf: u16) -> impl Iterator<Item = Result<Vec<u8>, Refusal>> + '_ {
-        let mut seen = Some(Seen::none_of(leaf));
-        iter::from_fn(move || {
-            let next = self.key_next(seen.as_mut()?).transpose();
-            if !matches!(next, Some(Ok(_))) {
-                seen = None;
-            }
-            next
-        })
-    }
-
-    /// Returns the next key of a leaf, or the first one of those after it.
-    fn key_on(&mut self, seen: &mut Seen) -> Result<Option<Vec<u8>>, Refusal> {
-        loop {
-            match self.key_next(seen) {
-                Ok(None) => *seen = Seen::none_of(seen.leaf + 1),
-                Err(Refusal::BadMessage) => return Ok(None),
-                next => return next,
-            }
-        }
-    }
-
-    /// Returns the next key of a leaf.
-    fn key_next(&mut self, seen: &mut Seen) -> Result<Option<Vec<u8>>, Refusal> {
-        let (handle, leaf, key) = (self.handle.raw(), seen.leaf.into(), seen.key.as_mut_ptr());
-        // SAFETY: as in `sys`.
-        let next = check(unsafe { sys::antientropy_key_next(handle, leaf, key, KEY_MAX, &mut seen.len) });
-        Ok(found(next)?.map(|()| seen.key[..seen.len as usize].to_vec()))
+        Keys::of(&mut self.handle, sys::antientropy_key_next).of_leaf(leaf)
     }
 
     /// Returns one of the versions held for a key, with the number of all.

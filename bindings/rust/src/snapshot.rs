@@ -6,12 +6,14 @@ use crate::checkpoint::{self, CheckpointError};
 use crate::handle::{bytes, Owned};
 use crate::refusal::{check, Refusal};
 use crate::replica::Config;
+use crate::rows::{row, Keys};
 use crate::sys;
 use crate::values::Root;
 
 /// The rows of a replica at one moment.
 ///
-/// It serves a partner's asks while the replica goes on, maybe in another thread, and may outlive the replica.
+/// It serves a partner's asks while the replica goes on, maybe in another thread, and may outlive the replica. Threads
+/// read its rows at the same time, each by a snapshot of its own, which [`share`](Snapshot::share) returns.
 ///
 /// ```
 /// use antientropy::{read_offer, Clock, Config, Replica};
@@ -32,6 +34,29 @@ pub struct Snapshot {
 impl Snapshot {
     pub(crate) fn of(handle: Owned, config: Config, entries: u64) -> Snapshot {
         Snapshot { handle, config, entries }
+    }
+
+    /// Returns another snapshot of the same rows. Copies no row.
+    ///
+    /// The rows are freed with the last one.
+    ///
+    /// ```
+    /// # use antientropy::{Clock, Config, Replica};
+    /// # let mut replica = Replica::new(Config::default())?;
+    /// replica.put(1, b"cart", Some(b"milk"), &Clock::new())?;
+    /// let mut snapshot = replica.snapshot()?;
+    /// let mut shared = snapshot.share()?;
+    /// let reader = std::thread::spawn(move || shared.row(b"cart"));
+    /// assert_eq!(snapshot.row(b"cart")?, reader.join().unwrap()?);
+    /// # Ok::<(), antientropy::Refusal>(())
+    /// ```
+    pub fn share(&mut self) -> Result<Snapshot, Refusal> {
+        let from = self.handle.raw();
+        let handle = Owned::make(sys::antientropy_snapshot_free, |into| {
+            // SAFETY: as in `sys`; `into` is empty and a local one.
+            unsafe { sys::antientropy_snapshot_share(from, into) }
+        })?;
+        Ok(Snapshot::of(handle, self.config, self.entries))
     }
 
     /// Returns the format of the rows.
@@ -62,6 +87,17 @@ impl Snapshot {
         Ok(root)
     }
 
+    /// Returns the digest of a node of the tree. Refused as `BadMessage` if the tree has no such node.
+    ///
+    /// The root is node 0 at depth 0; the leaves are at depth 2, or at 3 in format 2.
+    pub fn digest(&mut self, depth: u8, index: u16) -> Result<Root, Refusal> {
+        let (mut digest, mut need) = (Root::default(), 0);
+        let (handle, out, len) = (self.handle.raw(), digest.as_mut_ptr(), digest.len());
+        // SAFETY: as in `sys`.
+        check(unsafe { sys::antientropy_digest(handle, depth.into(), index.into(), out, len, &mut need) })?;
+        Ok(digest)
+    }
+
     /// Returns the message that offers the snapshot. The caller gives each of its offers a number.
     pub fn offer(&mut self, number: u32) -> Result<Vec<u8>, Refusal> {
         let handle = self.handle.raw();
@@ -83,6 +119,22 @@ impl Snapshot {
         let handle = self.handle.raw();
         // SAFETY: as in `sys`.
         unsafe { bytes(|out, len, need| sys::antientropy_rows(handle, leaf.into(), out, len, need)) }
+    }
+
+    /// Returns the text of the row of a key (`docs/FORMATS.md`), or `None` if no version is held. Refused as `BadKey`.
+    pub fn row(&mut self, key: &[u8]) -> Result<Option<Vec<u8>>, Refusal> {
+        row(&mut self.handle, sys::antientropy_snapshot_get, key)
+    }
+
+    /// Returns an iterator over the keys, leaf by leaf.
+    pub fn keys(&mut self) -> impl Iterator<Item = Result<Vec<u8>, Refusal>> + '_ {
+        Keys::of(&mut self.handle, sys::antientropy_snapshot_key_next).all()
+    }
+
+    /// Returns an iterator over the keys of a leaf, in ascending order. Its first result is a refusal as `BadMessage`
+    /// if the tree has no such leaf.
+    pub fn keys_of(&mut self, leaf: u16) -> impl Iterator<Item = Result<Vec<u8>, Refusal>> + '_ {
+        Keys::of(&mut self.handle, sys::antientropy_snapshot_key_next).of_leaf(leaf)
     }
 
     /// Writes a checkpoint of the rows (`docs/FORMATS.md`).

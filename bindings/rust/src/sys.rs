@@ -232,7 +232,31 @@ extern "C" {
     pub fn antientropy_portion_free(portion: *mut Handle);
     pub fn antientropy_moment(replica: *mut Handle, snapshot: *mut Handle) -> u32;
     pub fn antientropy_snapshot(replica: *mut Handle, snapshot: *mut Handle) -> u32;
+    pub fn antientropy_snapshot_share(snapshot: *mut Handle, other: *mut Handle) -> u32;
     pub fn antientropy_snapshot_free(snapshot: *mut Handle);
+    pub fn antientropy_snapshot_get(
+        snapshot: *mut Handle,
+        key: *const u8,
+        key_len: usize,
+        out: *mut u8,
+        out_len: usize,
+        need: *mut u64,
+    ) -> u32;
+    pub fn antientropy_snapshot_key_next(
+        snapshot: *mut Handle,
+        leaf: u64,
+        key: *mut u8,
+        key_room: usize,
+        key_len: *mut u64,
+    ) -> u32;
+    pub fn antientropy_digest(
+        snapshot: *mut Handle,
+        depth: u64,
+        index: u64,
+        out: *mut u8,
+        out_len: usize,
+        need: *mut u64,
+    ) -> u32;
     pub fn antientropy_root(snapshot: *mut Handle, out: *mut u8, out_len: usize, need: *mut u64) -> u32;
     pub fn antientropy_offer(snapshot: *mut Handle, number: u32, out: *mut u8, out_len: usize, need: *mut u64) -> u32;
     pub fn antientropy_read_offer(offer: *const u8, offer_len: usize, parts: *mut OfferParts) -> u32;

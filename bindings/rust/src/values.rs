@@ -234,7 +234,8 @@ pub struct Spot {
     pub leaf: u16,
 }
 
-/// A digest of a root, 32 bytes. Replicas of a range with equal roots hold the same versions.
+/// A digest of a root, or of another node of a tree: 32 bytes. Replicas of a range with equal roots hold the same
+/// versions.
 pub type Root = [u8; 32];
 
 /// The parts of an offer. Format and range are as received: the ring may not have them.

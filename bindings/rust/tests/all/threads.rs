@@ -4,7 +4,8 @@ use std::sync::atomic::{AtomicBool, Ordering};
 use std::sync::{mpsc, Mutex};
 use std::thread;
 
-use antientropy::{merge, snapshot_beside, sync_beside, Bounds, Config, Hints, Portion, Replica, Slots, Snapshot};
+use antientropy::{merge, place, snapshot_beside, sync_beside};
+use antientropy::{Bounds, Config, Hints, Portion, Refusal, Replica, Slots, Snapshot};
 
 use crate::support::{filled, replica, serve, NONE};
 
@@ -69,6 +70,34 @@ fn one_thread_serves_a_snapshot_while_another_puts() {
     server.join().unwrap();
     writer.join().unwrap();
     assert_eq!((synced.unwrap().accepted, b.root().unwrap()), (500, root));
+}
+
+/// Returns the keys of a snapshot, and their rows.
+fn rows(snapshot: &mut Snapshot) -> [Vec<Vec<u8>>; 2] {
+    let keys: Vec<_> = snapshot.keys().map(Result::unwrap).collect();
+    let rows = keys.iter().map(|key| snapshot.row(key).unwrap().unwrap()).collect();
+    [keys, rows]
+}
+
+#[test]
+fn threads_read_the_rows_of_a_snapshot() {
+    let mut replica = filled(300);
+    let keys: Vec<_> = replica.keys().map(Result::unwrap).collect();
+    let held: Vec<_> = keys.iter().map(|key| replica.row(key).unwrap().unwrap()).collect();
+    let mut first = replica.snapshot().unwrap();
+    let (root, leaf) = (first.root().unwrap(), place(2, 0, b"key 7").unwrap().leaf);
+    let [mut second, mut third] = [(); 2].map(|()| first.share().unwrap());
+    drop(first);
+    replica.put(1, b"later", Some(b""), &NONE).unwrap();
+    let reader = thread::spawn(move || rows(&mut second));
+    assert_eq!(rows(&mut third), [keys, held]);
+    assert_eq!(reader.join().unwrap(), rows(&mut third));
+    assert!(third.keys_of(leaf).eq(replica.keys_of(leaf)));
+    assert_eq!((third.entries(), third.root(), third.digest(0, 0)), (300, Ok(root), Ok(root)));
+    assert_ne!(third.digest(3, leaf).unwrap(), third.digest(3, leaf ^ 1).unwrap());
+    assert_eq!((third.row(b"later"), third.row(b"")), (Ok(None), Err(Refusal::BadKey)));
+    assert_eq!(third.keys_of(4096).collect::<Vec<_>>(), [Err(Refusal::BadMessage)]);
+    assert_eq!([third.digest(3, 4096), third.digest(4, 0)], [Err(Refusal::BadMessage); 2]);
 }
 
 /// Puts at random keys of two replicas, each after a read, until it is stopped.
