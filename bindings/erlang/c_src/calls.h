@@ -44,9 +44,13 @@
     X(entry, 2, SHORT)                                                                                                 \
     X(top_counter, 4, LONG)                                                                                            \
     X(snapshot, 1, LONG)                                                                                               \
+    X(snapshot_share, 1, SHORT)                                                                                        \
     X(snapshot_close, 1, LONG)                                                                                         \
     X(snapshot_info, 1, SHORT)                                                                                         \
+    X(snapshot_row, 2, SHORT)                                                                                          \
+    X(snapshot_key_after, 3, SHORT)                                                                                    \
     X(root, 1, SHORT)                                                                                                  \
+    X(digest, 3, SHORT)                                                                                                \
     X(offer, 2, SHORT)                                                                                                 \
     X(serve, 3, SHORT)                                                                                                 \
     X(rows, 2, SHORT)                                                                                                  \

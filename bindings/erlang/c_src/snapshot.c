@@ -23,6 +23,22 @@ CALL(REPLICA, snapshot)
     return handle_result(env, made, fill(made, at));
 }
 
+/* Makes another handle of the rows of a snapshot. */
+static uint32_t share(struct resource *made, struct resource *at)
+{
+    made->range = at->range;
+    return antientropy_snapshot_share(&at->snapshot, &made->snapshot);
+}
+
+/* snapshot_share(Snapshot) -> {ok, Snapshot} */
+CALL(SNAPSHOT, snapshot_share)
+{
+    struct resource *made = make_resource(SNAPSHOT);
+    if (made == NULL)
+        return refused(env, ANTIENTROPY_NO_MEMORY);
+    return handle_result(env, made, share(made, at));
+}
+
 /* snapshot_close(Snapshot) -> ok */
 CALL(SNAPSHOT, snapshot_close)
 {
@@ -57,6 +73,17 @@ CALL(SNAPSHOT, root)
     uint8_t root[ANTIENTROPY_ROOT_LEN];
     uint32_t number = read_root(at, root);
     return number == ANTIENTROPY_OK ? ok(env, make_bytes(env, root, sizeof root)) : refused(env, number);
+}
+
+/* digest(Snapshot, Depth, Index) -> {ok, Digest} */
+CALL(SNAPSHOT, digest)
+{
+    uint64_t depth, index, len;
+    uint8_t digest[ANTIENTROPY_ROOT_LEN];
+    if (!get_u64(env, argv[1], &depth) || !get_u64(env, argv[2], &index))
+        return enif_make_badarg(env);
+    uint32_t number = antientropy_digest(&at->snapshot, depth, index, digest, sizeof digest, &len);
+    return number == ANTIENTROPY_OK ? ok(env, make_bytes(env, digest, len)) : refused(env, number);
 }
 
 /* offer(Snapshot, Number) -> {ok, Offer} */

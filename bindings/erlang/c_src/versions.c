@@ -1,4 +1,6 @@
-/* Versions of keys: puts, copies, reads, and the journal. */
+/* Versions of keys: puts, copies, reads, also of a snapshot's rows, and the journal. */
+#include <string.h>
+
 #include "handles.h"
 #include "terms.h"
 
@@ -164,8 +166,8 @@ CALL(REPLICA, clock)
     return number == ANTIENTROPY_OK ? ok(env, make_clock(env, pairs, len)) : refused(env, number);
 }
 
-/* row(Replica, Key) -> {ok, Text} */
-CALL(REPLICA, row)
+/* Reads the row of a key of a replica or of a snapshot. */
+static ERL_NIF_TERM row_by(ErlNifEnv *env, struct resource *at, const ERL_NIF_TERM argv[], enum kind kind)
 {
     ErlNifBinary key;
     struct room room;
@@ -174,11 +176,26 @@ CALL(REPLICA, row)
         return enif_make_badarg(env);
     open_room(&room);
     do {
-        number = antientropy_get(&at->replica, key.data, key.size, room.at, room.len, &room.need);
+        if (kind == REPLICA)
+            number = antientropy_get(&at->replica, key.data, key.size, room.at, room.len, &room.need);
+        else
+            number = antientropy_snapshot_get(&at->snapshot, key.data, key.size, room.at, room.len, &room.need);
         if (number == ANTIENTROPY_SMALL && on_normal_scheduler())
             return ELSEWHERE;
     } while (grows(&room, &number));
     return room_result(env, &room, number);
+}
+
+/* row(Replica, Key) -> {ok, Text} */
+CALL(REPLICA, row)
+{
+    return row_by(env, at, argv, REPLICA);
+}
+
+/* snapshot_row(Snapshot, Key) -> {ok, Text} */
+CALL(SNAPSHOT, snapshot_row)
+{
+    return row_by(env, at, argv, SNAPSHOT);
 }
 
 /* key_after(Replica, Leaf, Key) -> {ok, Key} */
@@ -190,6 +207,20 @@ CALL(REPLICA, key_after)
     if (!get_u64(env, argv[1], &leaf) || !get_key(env, argv[2], &key))
         return enif_make_badarg(env);
     uint32_t number = antientropy_key_after(&at->replica, leaf, key.data, key.size, next, sizeof next, &len);
+    return number == ANTIENTROPY_OK ? ok(env, make_bytes(env, next, len)) : refused(env, number);
+}
+
+/* snapshot_key_after(Snapshot, Leaf, Key) -> {ok, Key} */
+CALL(SNAPSHOT, snapshot_key_after)
+{
+    uint64_t leaf, len;
+    ErlNifBinary key;
+    uint8_t next[ANTIENTROPY_KEY_MAX + 1]; /* of a key that is too long get_key leaves one byte too many */
+    if (!get_u64(env, argv[1], &leaf) || !get_key(env, argv[2], &key))
+        return enif_make_badarg(env);
+    memcpy(next, key.data, key.size);
+    len = key.size;
+    uint32_t number = antientropy_snapshot_key_next(&at->snapshot, leaf, next, ANTIENTROPY_KEY_MAX, &len);
     return number == ANTIENTROPY_OK ? ok(env, make_bytes(env, next, len)) : refused(env, number);
 }
 

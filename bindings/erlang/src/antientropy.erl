@@ -252,31 +252,17 @@ key_after(Replica, Leaf, Key) ->
 %% @doc Returns all keys, leaf by leaf.
 -spec keys(replica()) -> {ok, [binary()]} | refused().
 keys(Replica) ->
-    reversed(fold_keys(fun prepend/2, [], Replica)).
+    antientropy_keys:all(fun key_after/3, Replica).
 
 %% @doc Returns the keys of a leaf in ascending order. Refused: `bad_message' (the tree has no such leaf).
 -spec keys(replica(), Leaf :: non_neg_integer()) -> {ok, [binary()]} | refused().
 keys(Replica, Leaf) ->
-    reversed(fold_leaf(fun prepend/2, [], Replica, Leaf, <<>>)).
+    antientropy_keys:of_leaf(fun key_after/3, Replica, Leaf).
 
 %% @doc Folds over the keys, leaf by leaf. Keys that are put meanwhile are met if they lie ahead.
 -spec fold_keys(fun((Key :: binary(), Acc) -> Acc), Acc, replica()) -> {ok, Acc} | refused().
 fold_keys(Fun, Acc, Replica) ->
-    fold_leaves(Fun, Acc, Replica, 0).
-
-fold_leaves(Fun, Acc, Replica, Leaf) ->
-    case fold_leaf(Fun, Acc, Replica, Leaf, <<>>) of
-        {ok, Next} -> fold_leaves(Fun, Next, Replica, Leaf + 1);
-        {error, bad_message} -> {ok, Acc};
-        Refused -> Refused
-    end.
-
-fold_leaf(Fun, Acc, Replica, Leaf, After) ->
-    case key_after(Replica, Leaf, After) of
-        {ok, Key} -> fold_leaf(Fun, Fun(Key, Acc), Replica, Leaf, Key);
-        {error, no_version} -> {ok, Acc};
-        Refused -> Refused
-    end.
+    antientropy_keys:fold(Fun, Acc, fun key_after/3, Replica).
 
 %% @doc Returns an entry of the journal, by its number from 0. Refused: `no_version'.
 -spec entry(replica(), Number :: non_neg_integer()) -> {ok, entry()} | refused().

@@ -1,9 +1,11 @@
 %% @doc A snapshot of a replica's rows, which {@link antientropy:snapshot/1} makes.
 %%
-%% It serves a partner's asks while the replica goes on, and may outlive it.
+%% It serves a partner's asks while the replica goes on, and may outlive it. Processes may share it, and wait for its
+%% lock then; by {@link share/1} each has a snapshot of its own.
 -module(antientropy_snapshot).
 
--export([close/1, info/1, root/1, offer/2, serve/3, rows/2, save/2]).
+-export([share/1, close/1, info/1, root/1, digest/3, offer/2, serve/3, rows/2, save/2]).
+-export([row/2, key_after/3, keys/1, keys/2, fold_keys/3]).
 
 -export_type([snapshot/0, info/0]).
 
@@ -18,7 +20,14 @@
 %% Format, bits of the ring and range of the rows, the number of the journal's entries at the moment of the snapshot,
 %% and the digest of the root.
 
-%% @doc Frees the memory. Later calls are refused as `empty'.
+%% @doc Returns another snapshot of the same rows, with a lock of its own. Copies no row.
+%%
+%% Processes that each have one read at the same time. The rows are freed with the last one.
+-spec share(snapshot()) -> {ok, snapshot()} | antientropy:refused().
+share(Snapshot) ->
+    antientropy_nif:snapshot_share(Snapshot).
+
+%% @doc Frees the memory, unless another snapshot shares the rows. Later calls are refused as `empty'.
 -spec close(snapshot()) -> ok.
 close(Snapshot) ->
     antientropy_nif:snapshot_close(Snapshot).
@@ -32,6 +41,13 @@ info(Snapshot) ->
 -spec root(snapshot()) -> {ok, Root :: binary()} | antientropy:refused().
 root(Snapshot) ->
     antientropy_nif:root(Snapshot).
+
+%% @doc Returns the digest of a node of the tree: 32 bytes. The root is node 0 at depth 0; the leaves are at depth 2, or
+%% at 3 in format 2. Refused: `bad_message' (the tree has no such node).
+-spec digest(snapshot(), Depth :: non_neg_integer(), Index :: non_neg_integer()) ->
+    {ok, Digest :: binary()} | antientropy:refused().
+digest(Snapshot, Depth, Index) ->
+    antientropy_nif:digest(Snapshot, Depth, Index).
 
 %% @doc Returns the message that offers a snapshot. The caller gives each of its offers a number.
 -spec offer(snapshot(), Number :: non_neg_integer()) -> {ok, Offer :: binary()} | antientropy:refused().
@@ -48,6 +64,33 @@ serve(Snapshot, Number, Ask) ->
 -spec rows(snapshot(), Leaf :: non_neg_integer()) -> {ok, Rows :: binary()} | antientropy:refused().
 rows(Snapshot, Leaf) ->
     antientropy_nif:rows(Snapshot, Leaf).
+
+%% @doc Returns the text of the row of a key (docs/FORMATS.md), or no bytes if none is held. Refused: `bad_key'.
+-spec row(snapshot(), Key :: binary()) -> {ok, Row :: binary()} | antientropy:refused().
+row(Snapshot, Key) ->
+    antientropy_nif:snapshot_row(Snapshot, Key).
+
+%% @doc Returns the least key of a leaf above a key, or the first one for `<<>>'. Refused: `bad_message' (the tree has
+%% no such leaf), `bad_key' (the key has over 255 bytes), `no_version' (no key follows).
+-spec key_after(snapshot(), Leaf :: non_neg_integer(), Key :: binary()) ->
+    {ok, Next :: binary()} | antientropy:refused().
+key_after(Snapshot, Leaf, Key) ->
+    antientropy_nif:snapshot_key_after(Snapshot, Leaf, Key).
+
+%% @doc Returns all keys, leaf by leaf.
+-spec keys(snapshot()) -> {ok, [binary()]} | antientropy:refused().
+keys(Snapshot) ->
+    antientropy_keys:all(fun key_after/3, Snapshot).
+
+%% @doc Returns the keys of a leaf in ascending order. Refused: `bad_message' (the tree has no such leaf).
+-spec keys(snapshot(), Leaf :: non_neg_integer()) -> {ok, [binary()]} | antientropy:refused().
+keys(Snapshot, Leaf) ->
+    antientropy_keys:of_leaf(fun key_after/3, Snapshot, Leaf).
+
+%% @doc Folds over the keys, leaf by leaf.
+-spec fold_keys(fun((Key :: binary(), Acc) -> Acc), Acc, snapshot()) -> {ok, Acc} | antientropy:refused().
+fold_keys(Fun, Acc, Snapshot) ->
+    antientropy_keys:fold(Fun, Acc, fun key_after/3, Snapshot).
 
 %% @doc Writes a checkpoint of the rows (docs/FORMATS.md). The file is open for writing in mode `binary'.
 -spec save(snapshot(), file:io_device()) -> ok | antientropy:refused() | antientropy_checkpoint:failed().

@@ -56,6 +56,22 @@ a_process_serves_a_snapshot_test() ->
     ?assertMatch({ok, #{state := finished, accepted := ?PUTS}}, await(Syncing)),
     ?assertEqual(antientropy_snapshot:root(Snapshot), antientropy:root(Copy)).
 
+%% Each process has a handle of its own.
+processes_read_a_snapshot_test() ->
+    Replica = replica(),
+    write(Replica, 1),
+    {ok, Keys} = antientropy:keys(Replica),
+    Rows = [antientropy:row(Replica, Key) || Key <- Keys],
+    {ok, Snapshot} = antientropy:snapshot(Replica),
+    Read = fun() ->
+        {ok, Shared} = antientropy_snapshot:share(Snapshot),
+        {ok, Listed} = antientropy_snapshot:keys(Shared),
+        {Listed, [antientropy_snapshot:row(Shared, Key) || Key <- Listed]}
+    end,
+    Reading = [async(Read) || _ <- lists:seq(1, ?WRITERS)],
+    write(Replica, 2),
+    [?assertEqual({Keys, Rows}, await(Each)) || Each <- Reading].
+
 %% A replica whose rehash takes long, in a node with one normal scheduler.
 long_calls_test_() ->
     {timeout, 120, {setup, fun setup/0, fun cleanup/1, fun({Replica, _}) ->
@@ -128,6 +144,7 @@ long_texts_go_elsewhere() ->
     {ok, _} = elsewhere(fun() -> antientropy:get(Replica, <<"great">>) end),
     {ok, Row} = elsewhere(fun() -> antientropy:row(Replica, <<"great">>) end),
     {ok, Row} = elsewhere(fun() -> antientropy_snapshot:rows(Snapshot, Leaf) end),
+    {ok, Row} = elsewhere(fun() -> antientropy_snapshot:row(Snapshot, <<"great">>) end),
     {ok, Answer} = elsewhere(fun() -> antientropy_snapshot:serve(Snapshot, 1, <<2, 1:32, 3, Leaf:16>>) end),
     {ok, #{accepted := 64}} = elsewhere(fun() -> antientropy_session:take(Session, Answer) end),
     {ok, #{known := 64}} = elsewhere(fun() -> antientropy:load_rows(Copy, Row) end).

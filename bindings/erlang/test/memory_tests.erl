@@ -13,7 +13,8 @@ replicas_and_snapshots_test_() ->
         Replica = replica(),
         [{ok, _} = antientropy:put(Replica, 1, <<Key>>, ?VALUE) || Key <- lists:seq(1, 64)],
         {ok, Snapshot} = antientropy:snapshot(Replica),
-        {ok, _} = antientropy_snapshot:root(Snapshot)
+        {ok, Shared} = antientropy_snapshot:share(Snapshot),
+        {ok, _} = antientropy_snapshot:root(Shared)
     end).
 
 closed_replicas_test_() ->
@@ -48,6 +49,7 @@ results_test_() ->
         {ok, _} = antientropy:row(Replica, <<"k">>),
         {ok, _} = antientropy:entry(Replica, 0),
         {ok, _} = antientropy_snapshot:rows(Snapshot, Leaf),
+        {ok, _} = antientropy_snapshot:row(Snapshot, <<"k">>),
         {ok, _} = antientropy_snapshot:serve(Snapshot, 1, <<2, 1:32, 3, Leaf:16>>)
     end).
 

@@ -19,6 +19,7 @@ sessions_test_() ->
      || Test <- [
             fun snapshot/1,
             fun rows/1,
+            fun shared_snapshot/1,
             fun session/1,
             fun session_is_cancelled/1,
             fun gone_and_bad_message/1,
@@ -67,6 +68,36 @@ rows(#pair{a = A, b = B, snapshot = Snapshot}) ->
     ?assertNotEqual(nomatch, binary:match(Rows, Row)),
     ?assertEqual({ok, #{new => length(Keys), known => 0}}, antientropy:load_rows(B, Rows)),
     ?assertEqual({ok, #{new => 0, known => length(Keys)}}, antientropy:load_rows(B, Rows)).
+
+%% It outlives the first one, and has the rows of that moment.
+shared_snapshot(#pair{a = A, snapshot = Snapshot}) ->
+    {ok, #{root := Root} = Info} = antientropy_snapshot:info(Snapshot),
+    {ok, Keys} = antientropy:keys(A),
+    {ok, #{leaf := Leaf}} = antientropy:place(2, 0, key(3)),
+    {ok, Shared} = antientropy_snapshot:share(Snapshot),
+    ok = antientropy_snapshot:close(Snapshot),
+    [?assertEqual(antientropy:row(A, Key), antientropy_snapshot:row(Shared, Key)) || Key <- Keys],
+    {ok, _} = antientropy:put(A, 1, <<"later">>, <<>>),
+    ?assertEqual({ok, Keys}, antientropy_snapshot:keys(Shared)),
+    ?assertEqual({ok, 50}, antientropy_snapshot:fold_keys(fun(_, Count) -> Count + 1 end, 0, Shared)),
+    ?assertEqual(antientropy:keys(A, Leaf), antientropy_snapshot:keys(Shared, Leaf)),
+    ?assertEqual({ok, Info}, antientropy_snapshot:info(Shared)),
+    ?assertEqual({ok, Root}, antientropy_snapshot:digest(Shared, 0, 0)),
+    [{ok, Here}, {ok, There}] = [antientropy_snapshot:digest(Shared, 3, Index) || Index <- [Leaf, Leaf bxor 1]],
+    ?assertNotEqual(Here, There),
+    ?assertEqual({ok, <<>>}, antientropy_snapshot:row(Shared, <<"later">>)),
+    support:refused(bad_key, A, fun() -> antientropy_snapshot:row(Shared, <<>>) end),
+    Longest = binary:copy(<<255>>, 255),
+    support:refused(no_version, A, fun() -> antientropy_snapshot:key_after(Shared, Leaf, Longest) end),
+    [
+        support:refused(bad_key, A, fun() -> antientropy_snapshot:key_after(Shared, Leaf, binary:copy(Longest, N)) end)
+     || N <- [2, 1000]
+    ],
+    support:refused(bad_message, A, fun() -> antientropy_snapshot:keys(Shared, 4096) end),
+    [
+        support:refused(bad_message, A, fun() -> antientropy_snapshot:digest(Shared, Depth, Index) end)
+     || {Depth, Index} <- [{3, 4096}, {4, 0}, {0, 1 bsl 32}]
+    ].
 
 session(#pair{a = A, b = B} = Pair) ->
     Session = open(Pair),
@@ -195,6 +226,11 @@ empty(#pair{b = B, snapshot = Snapshot} = Pair) ->
             antientropy_snapshot:offer(Snapshot, 1),
             antientropy_snapshot:serve(Snapshot, 1, <<>>),
             antientropy_snapshot:rows(Snapshot, 0),
+            antientropy_snapshot:share(Snapshot),
+            antientropy_snapshot:row(Snapshot, key(3)),
+            antientropy_snapshot:key_after(Snapshot, 0, <<>>),
+            antientropy_snapshot:keys(Snapshot),
+            antientropy_snapshot:digest(Snapshot, 0, 0),
             antientropy_snapshot:save(Snapshot, standard_io)
         ]
     ].
@@ -210,6 +246,12 @@ wrong_types(#pair{b = B, snapshot = Snapshot} = Pair) ->
             fun() -> antientropy_session:ask_at(Session, -1) end,
             fun() -> antientropy_snapshot:offer(Snapshot, 1 bsl 32) end,
             fun() -> antientropy_snapshot:serve(Snapshot, 7, none) end,
-            fun() -> antientropy_snapshot:rows(Snapshot, -1) end
+            fun() -> antientropy_snapshot:rows(Snapshot, -1) end,
+            fun() -> antientropy_snapshot:row(Snapshot, none) end,
+            fun() -> antientropy_snapshot:key_after(Snapshot, -1, <<>>) end,
+            fun() -> antientropy_snapshot:key_after(Snapshot, 0, none) end,
+            fun() -> antientropy_snapshot:digest(Snapshot, -1, 0) end,
+            fun() -> antientropy_snapshot:digest(Snapshot, 0, none) end,
+            fun() -> antientropy_snapshot:share(none) end
         ]
     ].
