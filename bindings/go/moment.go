@@ -32,8 +32,8 @@ func (r *replica) hold() error {
 	return check(C.antientropy_hold(&r.handle))
 }
 
-// DropMoment lets go of the moment, if there is one. Snapshots of it stay. A [Replica.Snapshot] or a [Replica.Sync] that
-// hashes the moment in another goroutine holds another one.
+// DropMoment lets go of the moment, if there is one. Snapshots of it stay. A [Replica.Snapshot] or a [Replica.Sync]
+// that hashes the moment in another goroutine holds another one.
 func (r *Replica) DropMoment() error {
 	held := r.at.locked()
 	defer held.lock.Unlock()

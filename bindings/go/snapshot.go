@@ -72,8 +72,8 @@ func (s *Snapshot) Share() (*Snapshot, error) {
 	return made.owned(s.config, s.entries, C.antientropy_snapshot_share(&held.handle, &made.handle))
 }
 
-// Close frees the memory, unless another snapshot shares the rows. Later calls are refused as [ErrEmpty], those of copies
-// too; another Close does nothing. The error is nil.
+// Close frees the memory, unless another snapshot shares the rows. Later calls are refused as [ErrEmpty], those of
+// copies too; another Close does nothing. The error is nil.
 func (s *Snapshot) Close() error {
 	s.at.close()
 	return nil

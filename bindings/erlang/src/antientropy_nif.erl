@@ -1,5 +1,5 @@
 %% @private
-%% @doc The functions of the NIF library, whose sources are in c_src. The other modules have types and comments for them.
+%% @doc The functions of the NIF library, whose sources are in c_src. The other modules have their types and comments.
 -module(antientropy_nif).
 -on_load(load/0).
 

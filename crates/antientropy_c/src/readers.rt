@@ -1,4 +1,4 @@
-//! Reads of a snapshot. Threads with handles of their own of the same rows read them beside each other.
+//! Reads of a snapshot. Threads that have handles of their own read the same rows at the same time.
 ghost use Rattle.std.specs.Prelude.{◌≡◌, true, false, None, MatchOption};
 ghost use Rattle.vclock.specs.Answer.{Answers};
 ghost use Rattle.vclock.specs.Bytes.{key_fault};
