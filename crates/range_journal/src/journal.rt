@@ -1,10 +1,12 @@
 //! A journal of accepted versions.
 ghost use Rattle.std.specs.Prelude.{◌≡◌, ◌≤◌, ◌↔◌, ◌⊎◌, [], length, take, None, IfOk, IfErr, slice_get, IsTrue};
 ghost use Rattle.std.specs.Option.{option_copied};
+ghost use Rattle.std.specs.Vec.{vec_capacity};
 ghost use Rattle.vclock.specs.Answer.{Answers};
 ghost use Rattle.vclock.specs.Outcome.{Does};
 ghost use Rattle.range_journal.specs.Counters.{top_counter};
 ghost use Rattle.range_journal.specs.Log.{AreNumberedFrom, IsLog};
+ghost use Rattle.range_journal.specs.Copies.{copy_for, as_copies, with_copies, IsSettled};
 ghost use Rattle.range_journal.specs.Journal.{append, reserve, with_entry, with_entries, held, NeverCrowded};
 
 use std::alloc::Global;
@@ -24,6 +26,19 @@ pub enum Source {
     Hint,
     /// A partner had it in a leaf of its tree.
     Partner,
+}
+
+impl Source {
+    /// Returns the source that is told once no record is left of the session: Copy for Partner, else the same.
+    fn copied(self) -> Source
+        ensures { result ≡ copy_for self }
+    {
+        match self {
+            Source::Client => Source::Client,
+            Source::Copy | Source::Partner => Source::Copy,
+            Source::Hint => Source::Hint,
+        }
+    }
 }
 
 /// A version that a range accepted, with its number and the seat of the caller that delivered it.
@@ -75,8 +90,9 @@ impl Entry {
     }
 }
 
-/// The accepted versions in order, up to a limit. Entries are never changed or removed, so the journal is the record by
-/// which a range's rows are checked and its callers' passes are settled. On error a journal is unchanged.
+/// The accepted versions in order, up to a limit. Entries are never removed, and never changed but in their source
+/// (`make_copies`), so the journal is the record by which a range's rows are checked and its callers' passes are settled.
+/// On error a journal is unchanged.
 ///
 /// ```
 /// append(alloc, journal, 1)?;
@@ -218,6 +234,15 @@ impl Journal {
         number
     }
 
+    /// Makes a copy of each partner's entry from number `from` on: its source is [`Source::Copy`] then. None of the
+    /// entries before is a partner's. Doesn't allocate.
+    pub fn make_copies(&mut self, from: u64)
+        requires { IsSettled from self.old.entries }
+        ensures { self.new ≡ with_copies self.old }
+    {
+        make_copies(&mut self.entries, from as usize);
+    }
+
     /// Adds entries at the end, in room that was made before. They have the next numbers, in order. Doesn't allocate.
     pub fn append_entries(&mut self, mut entries: Vec<Entry>)
         requires numbered { AreNumberedFrom (length self.old.entries) entries.items }
@@ -226,6 +251,18 @@ impl Journal {
     {
         self.room -= entries.len() as u64;
         self.entries.append(&mut entries).unwrap();
+    }
+}
+
+/// Makes a copy of each partner's entry from a place on.
+fn make_copies(entries: &mut Vec<Entry>, from: usize)
+    requires { IsSettled from entries.old.items }
+    ensures made { entries.new.items ≡ as_copies entries.old.items }
+    ensures room { vec_capacity entries.new ≡ vec_capacity entries.old }
+{
+    for at in from..entries.len() {
+        let entry = &mut entries[at];
+        entry.source = entry.source.copied();
     }
 }
 

@@ -60,7 +60,7 @@ kept_at s id r ok here =
 pub in_place : (s : State) (id : ℕ) (r : Record) → r ≡ get_or s.records id r → s ≡ walked_to s id r r.session
 in_place s id r was =
     let same : set s.records id r ≡ s.records = ap (set s.records id) was ∙ set-get_or s.records id r in
-    λ i. record { store = s.store; records = sym same i; moment = s.moment; whole_before = s.whole_before }
+    λ i. record { store = s.store; records = sym same i; moment = s.moment; whole_before = s.whole_before; next_session = s.next_session; settled = s.settled }
 
 -- ---- the outcome of a session's call
 
@@ -254,7 +254,7 @@ are_taken s seat offers a new given =
 
 -- the state after the text of a leaf
 abbrev pub taken_to : State → ℕ → TakenText → Record → Store → State
-taken_to s id t r new = record { store = new; records = set s.records id (record { partner = r.partner; session = after r.session t }); moment = s.moment; whole_before = s.whole_before }
+taken_to s id t r new = record { store = new; records = set s.records id (record { number = r.number; partner = r.partner; session = after r.session t }); moment = s.moment; whole_before = s.whole_before; next_session = s.next_session; settled = s.settled }
 
 pub leaf_taken : {s : State} {id : ℕ} {t : TakenText} {rows : List Row} {r : Record} {new : Store} (seat : ℕ) (a : AnswerTaken) → IsLeafAt s id r t rows → leaf_fault s.store seat (offers_of rows) ≡ None → new ≡ taken_in s.store seat (offers_of rows)
     → s.store.entries ++ a.receipts.items ≡ (taken_in s.store seat (offers_of rows)).entries → length a.receipts.items + a.known ≡ length (offers_of rows) → a.state ≡ (after r.session t).state → TakesFor s seat id (slice_get s.records id) t (Ok a) (taken_to s id t r new)

@@ -111,7 +111,7 @@ recorded_right s r ok room beside kept = record {
 -- entries more, and a record in the place of another
 pub stepped_right : (s : State) (t : Store) (more : List Entry) (id : ℕ) (r new : Record) → IsRight s → IsSound t → t.config ≡ s.store.config → t.entries ≡ s.store.entries ++ more
     → r ≡ get_or s.records id r → (is_open new ≡ true → is_open r ≡ true) → IsKept s.store.config (s.store.entries ++ more) new → Keeps r.session new.session → AllByRecursion (λ (e : Entry). Any (λ (x : Record). HasTaken x.session e) (set s.records id new)) more
-    → IsRight (record { store = t; records = set s.records id new; moment = s.moment; whole_before = s.whole_before })
+    → IsRight (record { store = t; records = set s.records id new; moment = s.moment; whole_before = s.whole_before; next_session = s.next_session; settled = s.settled })
 stepped_right s t more id r new ok sound config entries was stays kept keeps come =
     let records = set s.records id new in
     let all = all-set (IsKept s.store.config (s.store.entries ++ more)) s.records id new kept (all_kept s.store.config s.store.entries more s.records ok.records) in
@@ -209,7 +209,7 @@ opened_when_whole s partner root r ok whole room is = by_moment s.moment ok.mome
 
 -- ---- ending
 
-pub kept_cancelled : (c : Config) (es : List Entry) (r : Record) (w : Walk) (st : SessionState) → w.state ≡ st → IsKept c es (record { partner = r.partner; session = w }) → IsKept c es (record { partner = r.partner; session = cancelled_by w st })
+pub kept_cancelled : (c : Config) (es : List Entry) (r : Record) (w : Walk) (st : SessionState) → w.state ≡ st → IsKept c es (record { number = r.number; partner = r.partner; session = w }) → IsKept c es (record { number = r.number; partner = r.partner; session = cancelled_by w st })
 kept_cancelled c es r w Open is kept = record {
   here = record { bits = kept.here.bits; range = kept.here.range };
   format = λ off. kept.format is;
@@ -228,16 +228,16 @@ keeps_cancelled w Failed = λ e a. a
 keeps_cancelled w Cancelled = λ e a. a
 
 -- a session that is open after it was cancelled was open before
-still_open : (r : Record) (w : Walk) (st : SessionState) → is_open (record { partner = r.partner; session = cancelled_by w st }) ≡ true → is_open (record { partner = r.partner; session = w }) ≡ true
+still_open : (r : Record) (w : Walk) (st : SessionState) → is_open (record { number = r.number; partner = r.partner; session = cancelled_by w st }) ≡ true → is_open (record { number = r.number; partner = r.partner; session = w }) ≡ true
 unfolding is_open
 still_open r w Open e = absurd (let clash : false ≡ true = e in cc)
 still_open r w Finished e = e
 still_open r w Failed e = e
 still_open r w Cancelled e = e
 
-pub cancelled_right : (s : State) (id : ℕ) (r new : Record) → IsRight s → id < length s.records → r ≡ get_or s.records id r → new ≡ record { partner = r.partner; session = cancelled_by r.session r.session.state } → IsRight (record s { records = set s.records id new })
+pub cancelled_right : (s : State) (id : ℕ) (r new : Record) → IsRight s → id < length s.records → r ≡ get_or s.records id r → new ≡ record { number = r.number; partner = r.partner; session = cancelled_by r.session r.session.state } → IsRight (record s { records = set s.records id new })
 cancelled_right s id r new ok within was is =
     let kept = subst (IsKept s.store.config s.store.entries) (sym was) (all_get (IsKept s.store.config s.store.entries) s.records id r ok.records within) in
     let over = kept_cancelled s.store.config s.store.entries r r.session r.session.state refl kept in
     subst (λ (x : Record). IsRight (record s { records = set s.records id x })) (sym is)
-    (replaced_right s id r (record { partner = r.partner; session = cancelled_by r.session r.session.state }) ok was (still_open r r.session r.session.state) over (keeps_cancelled r.session r.session.state))
+    (replaced_right s id r (record { number = r.number; partner = r.partner; session = cancelled_by r.session r.session.state }) ok was (still_open r r.session r.session.state) over (keeps_cancelled r.session r.session.state))

@@ -233,7 +233,7 @@ moved s now new base seat id known count other u n rest is at first config grown
     t = entry n (text_of other n)
 
     r : Record
-    r = record { partner = u.r.partner; session = after u.r.session t }
+    r = record { number = u.r.number; partner = u.r.partner; session = after u.r.session t }
 
     records : set now.records id r ≡ s.records ++ r ∷ []
     records =

@@ -58,9 +58,9 @@ impl Model for RangeState {
 
     ghost Value = { State };
 
-    ghost view = { λ r. record { store = r.store; records = r.records.items; moment = r.moment; whole_before = r.whole_before } };
+    ghost view = { λ r. record { store = r.store; records = r.records.items; moment = r.moment; whole_before = r.whole_before; next_session = r.next_session; settled = r.settled } };
 
-    ghost invariant = { λ r. IsRight (record { store = r.store; records = r.records.items; moment = r.moment; whole_before = r.whole_before }) };
+    ghost invariant = { λ r. IsRight (record { store = r.store; records = r.records.items; moment = r.moment; whole_before = r.whole_before; next_session = r.next_session; settled = r.settled }) };
 }
 
 impl RangeState {

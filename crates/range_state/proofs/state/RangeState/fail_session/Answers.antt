@@ -16,7 +16,7 @@ Broken r = (t : TakenText) × IsDue r.session t × (IsCanonical r.session.own t.
 
 -- the state before, by its fields
 abbrev state : After-self → State
-state c = record { store = c.self.inside.store; records = c.self.inside.records.items; moment = c.self.inside.moment; whole_before = c.self.inside.whole_before }
+state c = record { store = c.self.inside.store; records = c.self.inside.records.items; moment = c.self.inside.moment; whole_before = c.self.inside.whole_before; next_session = c.self.inside.next_session; settled = c.self.inside.settled }
 
 asked : (c : After-self) → MatchOption (slice_get c.self.inside.records.items c.args.id) ⊥ Broken
 asked c = subst (λ (u : State). MatchOption (slice_get u.records c.args.id) ⊥ Broken) (sym c.self.view_is) c.requires

@@ -12,7 +12,7 @@ use Rattle.range_state.proofs.state.RangeState.migrate.Goals as goal
 
 pub invariant_of-self-in-One : goal.invariant_of-self-in-One
 invariant_of-self-in-One c =
-    let s : State = record { store = c.self.inside.store; records = c.self.inside.records.items; moment = c.self.inside.moment; whole_before = c.self.inside.whole_before } in
+    let s : State = record { store = c.self.inside.store; records = c.self.inside.records.items; moment = c.self.inside.moment; whole_before = c.self.inside.whole_before; next_session = c.self.inside.next_session; settled = c.self.inside.settled } in
     let one : s.store.config.format ≡ One = sym (c.format.ensures ∙ ap (λ (x : Config). x.format) c.config.ensures) ∙ c.in-One.is in
     let new : c.migrate.new.self ≡ stores.in_two s.store = given_state (c.in_ok-migrate-in-One.ensures) ∙ ap (λ (f : Format). stores.migrated_from f s.store) one in
     let whole = subst (λ (u : State). c.whole_front-whole.result ≡ last_whole u) (sym c.self.view_is) c.whole_front-whole.ensures in

@@ -15,7 +15,7 @@ use Rattle.range_state.proofs.state.RangeState.take_inner.Goals.{After-self}
 
 -- the state before, by its fields, and the text
 abbrev state : After-self → State
-state c = record { store = c.self.inside.store; records = c.self.inside.records.items; moment = c.self.inside.moment; whole_before = c.self.inside.whole_before }
+state c = record { store = c.self.inside.store; records = c.self.inside.records.items; moment = c.self.inside.moment; whole_before = c.self.inside.whole_before; next_session = c.self.inside.next_session; settled = c.self.inside.settled }
 
 abbrev text : After-self → TakenText
 text c = record { node = c.args.node; text = c.args.text }

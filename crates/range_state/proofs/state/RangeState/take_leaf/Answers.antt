@@ -29,7 +29,7 @@ use Rattle.range_state.proofs.state.RangeState.take_leaf.Goals.{After-self, In_o
 
 -- the state before, by its fields, and the text
 abbrev state : After-self → State
-state c = record { store = c.self.inside.store; records = c.self.inside.records.items; moment = c.self.inside.moment; whole_before = c.self.inside.whole_before }
+state c = record { store = c.self.inside.store; records = c.self.inside.records.items; moment = c.self.inside.moment; whole_before = c.self.inside.whole_before; next_session = c.self.inside.next_session; settled = c.self.inside.settled }
 
 abbrev text : After-self → TakenText
 text c = entry c.args.node c.args.text
@@ -73,7 +73,7 @@ abbrev offers : After-self → Offers
 offers c = offers_of c.args.news.now.rows.items
 
 -- the batch of them can be accepted
-acceptable : (c : In_ok-batch) → NewsRead (record { store = c.self.inside.store; records = c.self.inside.records.items; moment = c.self.inside.moment; whole_before = c.self.inside.whole_before }) c.args.id (entry c.args.node c.args.text) c.args.news.now → IsAcceptable c.self.inside.store c.args.seat Partner c.node.inside.index (offers_of c.args.news.now.rows.items) c.in_ok-batch.batch
+acceptable : (c : In_ok-batch) → NewsRead (record { store = c.self.inside.store; records = c.self.inside.records.items; moment = c.self.inside.moment; whole_before = c.self.inside.whole_before; next_session = c.self.inside.next_session; settled = c.self.inside.settled }) c.args.id (entry c.args.node c.args.text) c.args.news.now → IsAcceptable c.self.inside.store c.args.seat Partner c.node.inside.index (offers_of c.args.news.now.rows.items) c.in_ok-batch.batch
 acceptable c read =
     let s = c.self.inside.store in
     let b = c.in_ok-batch.batch in
@@ -95,7 +95,7 @@ pub invariant_of-self : goal.invariant_of-self
 invariant_of-self c =
     let at = goal.at.invariant_of-self c in
     let did = c.in_err-loaded.ensures c.args.seat Partner (offers_of c.args.news.now.rows.items) (acceptable at.In_ok-batch (seen at.After-self)) in
-    subst (λ (u : Store). IsRight (record { store = u; records = c.self.inside.records.items; moment = c.self.inside.moment; whole_before = c.self.inside.whole_before })) (sym did.0) c.self.invariant
+    subst (λ (u : Store). IsRight (record { store = u; records = c.self.inside.records.items; moment = c.self.inside.moment; whole_before = c.self.inside.whole_before; next_session = c.self.inside.next_session; settled = c.self.inside.settled })) (sym did.0) c.self.invariant
 
 pub returns-in_err-loaded-clause-answers : goal.returns-in_err-loaded-clause-answers
 returns-in_err-loaded-clause-answers c =
@@ -107,7 +107,7 @@ returns-in_err-loaded-clause-answers c =
     let p = err_from_is_err_and c.from_residual-in_err-loaded.result c.from_residual-in_err-loaded.ensures.1 in
     let e = c.in_err-loaded.field-0.0 in
     let shown = not_accepted c.args.seat read (offers start) (same start).taken (same start).crowded can.fits did.1 in
-    rw (p.1, p.2) (subst (λ (u : Store). TakesFor c.args.self.now c.args.seat c.args.id (slice_get c.args.self.now.records c.args.id) (text start) (Err e) (record { store = u; records = c.self.inside.records.items; moment = c.self.inside.moment; whole_before = c.self.inside.whole_before })) (sym did.0)
+    rw (p.1, p.2) (subst (λ (u : Store). TakesFor c.args.self.now c.args.seat c.args.id (slice_get c.args.self.now.records c.args.id) (text start) (Err e) (record { store = u; records = c.self.inside.records.items; moment = c.self.inside.moment; whole_before = c.self.inside.whole_before; next_session = c.self.inside.next_session; settled = c.self.inside.settled })) (sym did.0)
     (subst (λ (u : State). TakesFor u c.args.seat c.args.id (slice_get u.records c.args.id) (text start) (Err e) (state start)) c.self.view_is shown))
 
 pub index_mut-requires : goal.index_mut-requires
@@ -160,7 +160,7 @@ invariant_of-self-2 c =
     let leaf = leaf_at read refl c.index_mut.ensures.value in
     let right = leaf_right (state start) c.args.seat c.args.id c.index_mut.result.now (text start) read.rows read.right leaf.within leaf.was leaf.read (all.same.crowded ∙ all.can.fits) in
     let store = all.is.is ∙ sym all.same.taken in
-    subst IsRight (λ i. record { store = sym store i; records = set c.self.inside.records.items c.args.id (record { partner = c.index_mut.result.now.partner; session = sym c.take_leaf.ensures i }); moment = c.self.inside.moment; whole_before = c.self.inside.whole_before }) right
+    subst IsRight (λ i. record { store = sym store i; records = set c.self.inside.records.items c.args.id (record { number = c.index_mut.result.now.number; partner = c.index_mut.result.now.partner; session = sym c.take_leaf.ensures i }); moment = c.self.inside.moment; whole_before = c.self.inside.whole_before; next_session = c.self.inside.next_session; settled = c.self.inside.settled }) right
 
 pub returns-clause-answers : goal.returns-clause-answers
 returns-clause-answers c =
@@ -175,6 +175,6 @@ returns-clause-answers c =
     let fault = whole c.self.inside.store c.args.seat read.rows c.args.news.now.rows.items c.args.news.now.known all.same ∙ all.is.fault in
     let known = ap (λ (es : List Entry). length es + (c.in_ok-loaded.loaded.known + c.args.news.now.known)) copies ∙ counted at.In_ok-loaded read.rows all in
     let took = leaf_taken c.args.seat a leaf fault (all.is.is ∙ sym all.same.taken) receipts known (c.state.ensures ∙ ap (λ (w : Walk). w.state) c.take_leaf.ensures) in
-    let records : Walk → List Record = λ w. set c.self.inside.records.items c.args.id (record { partner = c.index_mut.result.now.partner; session = w }) in
-    subst (λ (u : State). TakesFor u c.args.seat c.args.id (slice_get u.records c.args.id) (text start) (Ok a) (record { store = c.accept_batch.new.self; records = records c.take_leaf.new.self; moment = c.self.inside.moment; whole_before = c.self.inside.whole_before })) c.self.view_is
-    (subst (λ (w : Walk). TakesFor (state start) c.args.seat c.args.id (slice_get c.self.inside.records.items c.args.id) (text start) (Ok a) (record { store = c.accept_batch.new.self; records = records w; moment = c.self.inside.moment; whole_before = c.self.inside.whole_before })) (sym c.take_leaf.ensures) took)
+    let records : Walk → List Record = λ w. set c.self.inside.records.items c.args.id (record { number = c.index_mut.result.now.number; partner = c.index_mut.result.now.partner; session = w }) in
+    subst (λ (u : State). TakesFor u c.args.seat c.args.id (slice_get u.records c.args.id) (text start) (Ok a) (record { store = c.accept_batch.new.self; records = records c.take_leaf.new.self; moment = c.self.inside.moment; whole_before = c.self.inside.whole_before; next_session = c.self.inside.next_session; settled = c.self.inside.settled })) c.self.view_is
+    (subst (λ (w : Walk). TakesFor (state start) c.args.seat c.args.id (slice_get c.self.inside.records.items c.args.id) (text start) (Ok a) (record { store = c.accept_batch.new.self; records = records w; moment = c.self.inside.moment; whole_before = c.self.inside.whole_before; next_session = c.self.inside.next_session; settled = c.self.inside.settled })) (sym c.take_leaf.ensures) took)
