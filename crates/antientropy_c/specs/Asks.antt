@@ -6,6 +6,7 @@ use Rattle.vclock.specs.declared.refusal.Refusal.TheVariants.{UnknownSession}
 use Rattle.walk_messages.specs.Messages.{message_text}
 use Rattle.walk_messages.specs.declared.message.Message.TheVariants as messages
 use Rattle.tree_nodes.specs.Nodes.{Node}
+use Rattle.range_state.specs.Records.{record_of}
 use Rattle.range_state.specs.State.{State}
 use Rattle.range_state.specs.Sessions.{unknown_fault}
 use Rattle.range_state.specs.declared.«record».Record.{Record}
@@ -16,7 +17,7 @@ count_of None = Err UnknownSession
 count_of (Some r) = Ok (length r.session.outstanding)
 
 abbrev pub outstanding_count : State → ℕ → Result ℕ Refusal
-outstanding_count s id = count_of (slice_get s.records id)
+outstanding_count s id = count_of (record_of id s.records)
 
 -- the message that asks for a node, or no bytes
 abbrev pub asked_bytes : ℕ → Option Node → List ℕ
@@ -31,4 +32,4 @@ pub record AsksNode (r : Record) (place number : ℕ) (bytes : List ℕ) : Type 
 
 -- bytes that ask for the node at a place of the session of that number
 abbrev pub Asks : State → ℕ → ℕ → ℕ → Result (List ℕ) Refusal → Type 0
-Asks s id place number r = Answers r (unknown_fault s id) (λ bytes. MatchOption (slice_get s.records id) ⊥ (λ kept. AsksNode kept place number bytes))
+Asks s id place number r = Answers r (unknown_fault s id) (λ bytes. MatchOption (record_of id s.records) ⊥ (λ kept. AsksNode kept place number bytes))

@@ -1,5 +1,5 @@
 -- Sessions, as C runs them.
-use Rattle.std.specs.Prelude.{◌≡◌, ℕ, ◌==◌, nat_le, List, length, slice_get, Option, Some, None, Result, Ok, Err, MatchBool, if◌then◌else◌}
+use Rattle.std.specs.Prelude.{◌≡◌, ℕ, ◌==◌, nat_le, List, length, Option, Some, None, Result, Ok, Err, MatchBool, if◌then◌else◌}
 use Rattle.vclock.specs.Outcome.{Does}
 use Rattle.vclock.specs.declared.refusal.Refusal.{Refusal}
 use Rattle.vclock.specs.declared.refusal.Refusal.TheVariants.{BadClock, BadMessage, UnknownSession, NotAsked}
@@ -9,6 +9,7 @@ use Rattle.walk_messages.specs.declared.message.Message.TheVariants as messages
 use Rattle.tree_nodes.specs.Nodes.{Node, contains_node}
 use Rattle.sync_session.specs.declared.state.SessionState.{SessionState}
 use Rattle.sync_session.specs.declared.state.SessionState.TheVariants.{Open, Finished, Failed, Cancelled}
+use Rattle.range_state.specs.Records.{record_of}
 use Rattle.range_state.specs.State.{State}
 use Rattle.range_state.specs.Moments.{opening}
 use Rattle.range_state.specs.Sessions.{TakesAnswer}
@@ -45,7 +46,7 @@ asked_for None node = Some UnknownSession
 asked_for (Some r) node = if contains_node node r.session.outstanding then None else Some NotAsked
 
 abbrev pub asked_fault : State → ℕ → Node → Option Refusal
-asked_fault s id node = asked_for (slice_get s.records id) node
+asked_fault s id node = asked_for (record_of id s.records) node
 
 -- an answer of the offer with that number is taken, as by seat 0, and one of another offer is refused
 abbrev pub TakesWith : State → ℕ → ℕ → Answer → Result AnswerTaken Refusal → State → Type 0
@@ -78,4 +79,4 @@ seen_of None = Err UnknownSession
 seen_of (Some r) = Ok (number_of_state r.session.state)
 
 abbrev pub session_seen : State → ℕ → Result ℕ Refusal
-session_seen s id = seen_of (slice_get s.records id)
+session_seen s id = seen_of (record_of id s.records)

@@ -2,6 +2,7 @@
 ghost use Rattle.std.specs.Prelude.{◌≡◌, ℕ, Result, option_map, slice_get, MatchOption};
 ghost use Rattle.vclock.specs.Answer.{AnswersAtOnce};
 ghost use Rattle.vclock.specs.declared.refusal.Refusal.{Refusal};
+ghost use Rattle.range_state.specs.Records.{record_of};
 ghost use Rattle.range_state.specs.Sessions.{unknown_fault};
 ghost use Rattle.antientropy_c.specs.Asks.{outstanding_count, Asks};
 ghost use Rattle.antientropy_c.specs.Calls.{Calls};
@@ -13,7 +14,7 @@ use crate::frame::with;
 use crate::numbers::code;
 use crate::output::hand_out;
 use crate::replica::Replica;
-use crate::sessions::{record_of, tell_number};
+use crate::sessions::tell_number;
 use range_state::RangeState;
 use std::alloc::Global;
 use tree_nodes::{NodeAt, Text};
@@ -45,7 +46,7 @@ pub extern "C" fn antientropy_outstanding(
 fn count_of(state: &RangeState, session: u64) -> Result<u64, Refusal>
     ensures { result ≡ outstanding_count state.now session }
 {
-    Ok(record_of(state, session)?.session().outstanding().len() as u64)
+    Ok(state.record(session)?.session().outstanding().len() as u64)
 }
 
 /// Writes the message that asks for the first outstanding node of a session, with the number of the partner's offer: no
@@ -120,9 +121,9 @@ fn ask(
 /// Returns the node that a session has outstanding at a place, if any. Refused: UnknownSession.
 fn node_at(state: &RangeState, session: u64, place: u64) -> Result<Option<NodeAt>, Refusal>
     ensures { AnswersAtOnce result (unknown_fault state.now session)
-        (λ node. MatchOption (slice_get state.now.records session) ⊥
+        (λ node. MatchOption (record_of session state.now.records) ⊥
         (λ r. node ≡ slice_get r.session.outstanding place)) }
 {
-    let nodes = record_of(state, session)?.session().outstanding();
+    let nodes = state.record(session)?.session().outstanding();
     Ok(nodes.get(place as usize).copied())
 }

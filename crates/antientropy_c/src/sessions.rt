@@ -1,10 +1,10 @@
 //! Sessions with other replicas.
-ghost use Rattle.std.specs.Prelude.{◌≡◌, ℕ, Result, Some, map, slice_get, ⊤};
+ghost use Rattle.std.specs.Prelude.{◌≡◌, ℕ, Result, map, ⊤};
 ghost use Rattle.vclock.specs.Answer.{AnswersAtOnce};
 ghost use Rattle.vclock.specs.Outcome.{DoesAtOnce};
 ghost use Rattle.vclock.specs.declared.refusal.Refusal.{Refusal};
 ghost use Rattle.tree_nodes.specs.Nodes.{contains_node};
-ghost use Rattle.range_state.specs.Sessions.{cancel_session, unknown_fault};
+ghost use Rattle.range_state.specs.Sessions.{cancel_session};
 ghost use Rattle.range_state.specs.declared.event.AnswerTaken.{AnswerTaken};
 ghost use Rattle.range_state.specs.declared.local_rows.LocalRows.TheVariants as rows;
 ghost use Rattle.antientropy_c.specs.Numbers.{Returns};
@@ -14,7 +14,7 @@ ghost use Rattle.antientropy_c.specs.Sessions.{Opens, OpensUnless, partner_fault
 use crate::frame::with;
 use crate::numbers::code;
 use crate::replica::Replica;
-use range_state::{AnswerTaken, LocalRows, RangeState, Record};
+use range_state::{AnswerTaken, LocalRows, RangeState};
 use std::alloc::Global;
 use sync_session::SessionState;
 use tree_nodes::{NodeAt, hash};
@@ -226,7 +226,7 @@ fn take_answer(
 fn check_asked(state: &RangeState, session: u64, node: NodeAt) -> Result<(), Refusal>
     ensures { AnswersAtOnce result (asked_fault state.now session node) (λ _. ⊤) }
 {
-    let nodes = record_of(state, session)?.session().outstanding();
+    let nodes = state.record(session)?.session().outstanding();
     if !has(nodes, node) {
         return Err(Refusal::NotAsked);
     }
@@ -304,16 +304,5 @@ pub extern "C" fn antientropy_session(
 fn standing_of(state: &RangeState, session: u64) -> Result<u64, Refusal>
     ensures { result ≡ session_seen state.now session }
 {
-    Ok(number_of(record_of(state, session)?.session().state()))
-}
-
-/// Returns the record of a session. Refused: UnknownSession.
-pub(crate) fn record_of(state: &RangeState, session: u64) -> Result<&Record, Refusal>
-    ensures { AnswersAtOnce result (unknown_fault state.now session)
-        (λ r. slice_get state.now.records session ≡ Some r.now) }
-{
-    state
-        .records()
-        .get(session as usize)
-        .ok_or(Refusal::UnknownSession)
+    Ok(number_of(state.record(session)?.session().state()))
 }

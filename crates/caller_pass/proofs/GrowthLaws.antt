@@ -2,7 +2,7 @@
 use Rattle.std.proofs.Common.{◌≡◌, ℕ, ◌<◌, true, false, cond, Option, Some, None, List, [], ◌∷◌, ◌++◌, length, drop, sym, ap, subst, ◌∙◌, inl, inr, append-nil, arith}
 use Rattle.std.proofs.Math.Seq.{drop-append_seam}
 use Rattle.std.proofs.lemmas.List.{length-append}
-use Rattle.std.specs.Prelude.{slice_get, Ok, Err}
+use Rattle.std.specs.Prelude.{Ok, Err}
 use Rattle.std.specs.List.{AllByRecursion}
 use Rattle.vclock.specs.Outcome.{Outcome, gives, refuses, through}
 use Rattle.version_set.proofs.ListLaws.{all-push}
@@ -12,6 +12,7 @@ use Rattle.range_journal.specs.declared.journal.Source.{Source}
 use Rattle.range_journal.specs.declared.journal.Source.TheVariants.{Copy, Partner}
 use Rattle.row_bytes.specs.declared.row.Row.{Row}
 use Rattle.sync_session.specs.Walks.{TakenText}
+use Rattle.range_state.specs.Records.{place_of, record_of}
 use Rattle.range_state.specs.declared.«record».Record.{Record}
 use Rattle.range_state.specs.declared.event.AnswerTaken.{AnswerTaken}
 use Rattle.range_store.specs.declared.store.loading.Loaded.{Loaded}
@@ -73,13 +74,13 @@ by_leaf n s seat id r t a new lt all took = record {
 }
 
 pub grown_by_text : (n : ℕ) (s : State) (seat id : ℕ) (t : TakenText) (a : AnswerTaken) (new : State) → seat < n → AreSeated n s.store.entries → TakesAnswer s seat id t (Ok a) new → IsGrownBy n s.store a.receipts.items new.store
-grown_by_text n s seat id t a new lt all = by_record (slice_get s.records id)
+grown_by_text n s seat id t a new lt all = by_record (record_of id s.records)
   where
-    by_record : (o : Option Record) → TakesFor s seat id o t (Ok a) new → IsGrownBy n s.store a.receipts.items new.store
+    by_record : (o : Option Record) → TakesFor s seat (place_of id s.records) o t (Ok a) new → IsGrownBy n s.store a.receipts.items new.store
     by_record None took = absurd (let no : Ok a ≡ Err _ = took.0 in cc)
     by_record (Some r) took = elim took.1 [
-      | inl inner ↦ by_inner n s id r t a new all inner
-      | inr leaf ↦ by_leaf n s seat id r t a new lt all leaf
+      | inl inner ↦ by_inner n s (place_of id s.records) r t a new all inner
+      | inr leaf ↦ by_leaf n s seat (place_of id s.records) r t a new lt all leaf
     ]
 
 -- ---- the rows of a leaf that are loaded

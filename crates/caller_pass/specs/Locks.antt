@@ -1,5 +1,5 @@
 -- The range that a lock keeps, and the changes that its calls make to it and to the pass that they are lent.
-use Rattle.std.specs.Prelude.{◌≡◌, ℕ, ◌<◌, Bool, ◌&&◌, not, nat_lt, List, [], ◌∷◌, length, Option, Some, None, Result, Ok, Err, MatchOption, slice_get, bytes_eq, if◌then◌else◌}
+use Rattle.std.specs.Prelude.{◌≡◌, ℕ, ◌<◌, Bool, ◌&&◌, not, nat_lt, List, [], ◌∷◌, length, Option, Some, None, Result, Ok, Err, MatchOption, bytes_eq, if◌then◌else◌}
 use Rattle.std.specs.List.{AllByRecursion}
 use Rattle.vclock.specs.Clock.{Pairs}
 use Rattle.vclock.specs.Outcome.{Outcome, gives, ◌>>=◌, ◌>>◌}
@@ -19,6 +19,7 @@ use Rattle.range_state.specs.declared.event.AnswerTaken.{AnswerTaken}
 use Rattle.range_state.specs.declared.event.AnswerCounted.{AnswerCounted}
 use Rattle.range_store.specs.declared.context_test.ContextTest.{ContextTest}
 use Rattle.range_store.specs.declared.context_test.ContextTest.TheVariants.{Fresh, Read}
+use Rattle.range_state.specs.Records.{record_of}
 use Rattle.range_state.specs.State.{State, IsRight, put_by, accept}
 use Rattle.range_state.specs.Sessions.{TakesAnswer}
 use Rattle.range_state.specs.Syncs.{IsFirstOf}
@@ -119,7 +120,7 @@ TellsAnswer l p id t (Err e) m q = TakesAnswer l.state p.seat id t (Err e) m.sta
 
 -- the first outstanding node of a session, which is known
 abbrev pub IsNext : Locked → ℕ → Option Node → Type 0
-IsNext l id first = MatchOption (slice_get l.state.records id) ⊥ (λ r. IsFirstOf r.session.outstanding first)
+IsNext l id first = MatchOption (record_of id l.state.records) ⊥ (λ r. IsFirstOf r.session.outstanding first)
 
 -- the same, and with a text that was taken the first outstanding node of the session afterwards
 abbrev pub TellsAnswerNext : Locked → PassView → ℕ → TakenText → Result (AnswerCounted × Option Node) Refusal → Locked → PassView → Type 0

@@ -1,11 +1,12 @@
 //! The range that a lock keeps.
-ghost use Rattle.std.specs.Prelude.{◌≡◌, ◌≤◌, [], None, IfErr, IsTrue, MatchOption, slice_get};
+ghost use Rattle.std.specs.Prelude.{◌≡◌, ◌≤◌, [], None, IfErr, IsTrue, MatchOption, Some};
 ghost use Rattle.std.specs.Arc.{arc_value};
 ghost use Rattle.vclock.specs.Answer.{Answers, AnswersAtOnce};
 ghost use Rattle.range_tree.specs.Jobs.{GivesJob};
 ghost use Rattle.vclock.specs.Outcome.{Does, DoesAtOnce, DoesOrNoMemory, gives, through};
 ghost use Rattle.range_state.specs.Counts.{counts_of};
 ghost use Rattle.range_store.specs.Store.{is_sent, ask_fault, dirty_fault, rows_now, tree_in};
+ghost use Rattle.range_state.specs.Records.{record_of};
 ghost use Rattle.range_state.specs.State.{install, rows_at};
 ghost use Rattle.range_state.specs.Moments.{with_moment, without_moment, AreMomentJobs, install_moment, moment_fault, front_of, open_at_moment};
 ghost use Rattle.range_state.specs.Sessions.{open_session, cancel_session, unknown_fault};
@@ -481,7 +482,7 @@ impl<L: Ledger> LockedRange<L> {
         self.state.counts()
     }
 
-    /// The records of all sessions, in the order of their numbers. Doesn't allocate.
+    /// The records of the sessions, in the order of their numbers. Doesn't allocate.
     pub fn records(&self) -> &[Record]
         ensures { result.now ≡ self.now.state.records }
     {
@@ -491,9 +492,17 @@ impl<L: Ledger> LockedRange<L> {
     /// The first outstanding node of a session, if any. Doesn't allocate. Refused: UnknownSession.
     pub fn outstanding(&self, id: u64) -> Result<Option<NodeAt>, Refusal>
         ensures { AnswersAtOnce result (unknown_fault self.now.state id)
-            (λ first. MatchOption (slice_get self.now.state.records id) ⊥
+            (λ first. MatchOption (record_of id self.now.state.records) ⊥
             (λ r. IsFirstOf r.session.outstanding first)) }
     {
         self.state.outstanding(id)
+    }
+
+    /// Returns the record of a session. Doesn't allocate. Refused: UnknownSession.
+    pub fn record(&self, id: u64) -> Result<&Record, Refusal>
+        ensures { AnswersAtOnce result (unknown_fault self.now.state id)
+            (λ r. record_of id self.now.state.records ≡ Some r.now) }
+    {
+        self.state.record(id)
     }
 }

@@ -10,6 +10,7 @@ use plain_model::walks::Walk;
 use range_journal::Source;
 use range_state::{Accepted, Receipt};
 use std::alloc::Global;
+use std::mem::replace;
 use std::sync::Arc;
 use sync_session::SessionState;
 use tree_nodes::Digest;
@@ -49,6 +50,10 @@ pub(crate) struct Mirror {
     pub(crate) at: u8,
     pub(crate) plain: PlainRange,
     pub(crate) walks: Vec<Walk>,
+    /// The number of each walk's session.
+    pub(crate) sessions: Vec<u64>,
+    /// The number of the next session.
+    next_session: u64,
     /// The tree that each session's partner offered, if it offered one.
     pub(crate) partners: Vec<Option<Arc<Tree, Global>>>,
     pub(crate) published: Vec<Published>,
@@ -73,6 +78,8 @@ impl Mirror {
             at,
             plain,
             walks: Vec::new(alloc),
+            sessions: Vec::new(alloc),
+            next_session: 0,
             partners: Vec::new(alloc),
             published: Vec::new(alloc),
             newest: 0,
@@ -265,12 +272,46 @@ impl Mirror {
         }
     }
 
+    /// Adds a session with its partner's tree, if the partner offered one.
+    pub(crate) fn add_walk(
+        &mut self,
+        walk: Walk,
+        partner: Option<Arc<Tree, Global>>,
+    ) -> Result<(), Trouble> {
+        self.walks.push(walk)?;
+        self.sessions.push(self.next_session)?;
+        self.next_session = self.next_session.wrapping_add(1);
+        self.partners.push(partner)?;
+        Ok(())
+    }
+
+    /// Drops the sessions that have ended, and tells each partner's entry as a copy.
+    pub(crate) fn drop_ended_sessions(&mut self, alloc: Global) -> Result<(), Trouble> {
+        let walks = replace(&mut self.walks, Vec::new(alloc));
+        let sessions = replace(&mut self.sessions, Vec::new(alloc));
+        let partners = replace(&mut self.partners, Vec::new(alloc));
+        for ((walk, number), partner) in walks.into_iter().zip(sessions).zip(partners) {
+            if walk.state == SessionState::Open {
+                self.walks.push(walk)?;
+                self.sessions.push(number)?;
+                self.partners.push(partner)?;
+            }
+        }
+        for entry in self.plain.entries.iter_mut() {
+            if entry.source == Source::Partner {
+                entry.source = Source::Copy;
+            }
+        }
+        Ok(())
+    }
+
     /// Begins anew with the versions held, as entries of a seat, without sessions; and with the hints that are pending.
     pub(crate) fn renew(&mut self, alloc: Global, seat: u16, limit: u64) -> Result<(), Trouble> {
         self.plain.entries = self.plain.held_entries(alloc, seat)?;
         self.plain.limit = limit;
         self.set_moment(None);
         self.walks = Vec::new(alloc);
+        self.sessions = Vec::new(alloc);
         self.partners = Vec::new(alloc);
         self.hints.retain(|hint| hint.is_pending);
         Ok(())
@@ -285,6 +326,8 @@ impl Drop for Mirror {
             at: _at,
             plain: _plain,
             walks: _walks,
+            sessions: _sessions,
+            next_session: _next_session,
             partners: _partners,
             published: _published,
             newest: _newest,

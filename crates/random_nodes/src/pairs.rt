@@ -33,12 +33,17 @@ struct CaughtUp {
 impl Closed {
     /// Compares all that the range has.
     pub(crate) fn check(&self, alloc: Global) -> Result<(), Trouble> {
-        let Mirror { plain, walks, .. } = &self.mirror;
+        let Mirror {
+            plain,
+            walks,
+            sessions,
+            ..
+        } = &self.mirror;
         for key in 0..KEYS {
             self.range.check_held(alloc, plain, key)?;
         }
         self.range.check_journal(plain)?;
-        self.range.check_walks(walks)?;
+        self.range.check_walks(walks, sessions)?;
         self.range.check_texts(walks)?;
         let tree = Tree::new(alloc, plain)?;
         for depth in 0..leaf_depth(plain.format) + 1 {
@@ -61,7 +66,7 @@ impl Closed {
 }
 
 /// Hashes two closed ranges of one format, reconciles them, and compares the result and both states. If nothing is
-/// refused, both hold the same versions.
+/// refused, both hold the same versions. Then drops the ended sessions of the first.
 pub(crate) fn reconcile_both(alloc: Global, a: &mut Closed, b: &mut Closed) -> Result<(), Trouble> {
     if a.mirror.plain.format != b.mirror.plain.format {
         return Ok(());
@@ -76,7 +81,15 @@ pub(crate) fn reconcile_both(alloc: Global, a: &mut Closed, b: &mut Closed) -> R
         check_equal(alloc, &a.mirror, &b.mirror)?;
     }
     a.check(alloc)?;
-    b.check(alloc)
+    b.check(alloc)?;
+    drop_ended_sessions(alloc, a)
+}
+
+/// Drops the ended sessions of a closed range, and compares what is left.
+fn drop_ended_sessions(alloc: Global, closed: &mut Closed) -> Result<(), Trouble> {
+    closed.range.drop_ended_sessions();
+    closed.mirror.drop_ended_sessions(alloc)?;
+    closed.check(alloc)
 }
 
 /// Compares the versions that two nodes hold.
@@ -126,8 +139,7 @@ fn catch_up(
     let fault = take_all(alloc, here, &mut walk, &asked, &tree)?;
     expect(walk.asked == asked, "the nodes that a session asks")?;
     walk.end(SessionState::Cancelled);
-    here.walks.push(walk)?;
-    here.partners.push(Some(Arc::new(alloc, tree)?))?;
+    here.add_walk(walk, Some(Arc::new(alloc, tree)?))?;
     let accepted = here.plain.entries.len().saturating_sub(before) as u64;
     match fault {
         Some(fault) => Ok(Err(fault)),

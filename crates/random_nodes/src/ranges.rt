@@ -71,9 +71,15 @@ impl Range {
         Ok(())
     }
 
-    /// Compares each session with its walk.
-    pub(crate) fn check_walks(&self, walks: &[Walk]) -> Result<(), Trouble> {
-        for (walk, record) in walks.iter().zip(self.records()) {
+    /// Drops the records of ended sessions.
+    pub(crate) fn drop_ended_sessions(&mut self) {
+        self.state.drop_ended_sessions();
+    }
+
+    /// Compares each session with its walk, and its number.
+    pub(crate) fn check_walks(&self, walks: &[Walk], numbers: &[u64]) -> Result<(), Trouble> {
+        for ((walk, number), record) in walks.iter().zip(numbers).zip(self.records()) {
+            expect(record.number() == *number, "the number of a session")?;
             expect(walk.is(record.partner(), record.session()), "a session")?;
         }
         expect(self.records().len() == walks.len(), "a session")

@@ -150,9 +150,7 @@ impl Progress {
         };
         let walk = Walk::new(alloc, here.plain.format, own, partner)?;
         self.opened = Some((here.walks.len(), offer.number));
-        here.walks.push(walk)?;
-        here.partners.push(tree)?;
-        Ok(())
+        here.add_walk(walk, tree)
     }
 
     /// Compares an ask with the session's first outstanding node.
@@ -266,7 +264,7 @@ impl Progress {
         let Some(walk) = here.walks.get(id) else {
             return Err(Trouble::Differs("the number of sessions"));
         };
-        let same = report.id == id as u64
+        let same = here.sessions.get(id) == Some(&report.id)
             && report.state == walk.state
             && report.asked == walk.asked.len() as u64
             && report.accepted == self.accepted

@@ -1,6 +1,6 @@
 -- The counters that calls leave: each call keeps the entries, and may add some.
 use Rattle.std.proofs.Common.{◌≡◌, ◌≤◌, ◌+◌, ℕ, Bool, true, false, cond, List, [], ◌∷◌, ◌++◌, Option, Some, None, Result, Ok, Err, refl, sym, ap, subst, ◌∙◌, append-nil, append_assoc, inl, inr, arith}
-use Rattle.std.specs.Prelude.{⊤, slice_get}
+use Rattle.std.specs.Prelude.{⊤}
 use Rattle.vclock.specs.Outcome.{Outcome, gives, refuses, Does, DoesAtOnce, DoesOrNoMemory, through}
 use Rattle.vclock.specs.declared.refusal.Refusal.{Refusal}
 use Rattle.vclock.specs.declared.refusal.Refusal.TheVariants as refusals
@@ -25,6 +25,7 @@ use Rattle.vclock.specs.declared.format.Format.TheVariants.{One, Two}
 use Rattle.walk_messages.specs.declared.message.Offer.{Offer}
 use Rattle.sync_session.specs.Steps.{cancelled_by}
 use Rattle.range_store.specs.declared.context_test.ContextTest.TheVariants.{Fresh}
+use Rattle.range_state.specs.Records.{place_of, record_of}
 use Rattle.range_state.specs.State.{State, with_store}
 use Rattle.range_store.specs.Store.{Store, accept, install, entry_of, put_entry, journaled, rows_now, dirty_fault, tree_in, with_tree}
 use Rattle.range_tree.specs.Jobs.{is_current, installed}
@@ -138,8 +139,8 @@ step_grows s (events.TakeJob skip) reply t h = same s t h.2.1
 step_grows s (events.Install i) reply t h = by_outcome_at_once h.0 s t _ (λ x u. in_store s _ x u (installed_on s i.node i.hashed)) h.2
 step_grows s events.Snapshot reply t h = same s t h.2.1
 step_grows s (events.OpenSession o) reply t h = by_outcome h.0 s t _ (opened_on s o.partner o.offer) h.2
-step_grows s (events.TakeAnswer a) reply t h = answer_on s a.seat a.id (slice_get s.records a.id) _ h.0 t h.2
-step_grows s (events.CancelSession id) reply t h = by_outcome_at_once h.0 s t _ (cancelled_on s id (slice_get s.records id)) h.2
+step_grows s (events.TakeAnswer a) reply t h = answer_on s a.seat (place_of a.id s.records) (record_of a.id s.records) _ h.0 t h.2
+step_grows s (events.CancelSession id) reply t h = by_outcome_at_once h.0 s t _ (cancelled_on s (place_of id s.records) (record_of id s.records)) h.2
 step_grows s events.Migrate reply t h = by_outcome h.0 s t _ (migrated_on s) h.2
 
 run_grows : (s t : State) (es : List Event) (rs : List Reply) → Run s es rs t → Grows s t
@@ -158,7 +159,7 @@ leaves_grow : (s : Store) (seat : ℕ) (other : RowMap) (known : ℕ) (leaves : 
 leaves_grow s seat other known [] key node = omega arith
 leaves_grow s seat other known (n ∷ leaves) key node =
     let next = taken_in s seat (offers_at other n) in
-    let first = top_grows (record { store = s; records = []; moment = None; whole_before = 0 }) (record { store = next; records = []; moment = None; whole_before = 0 }) key node (offered_on (record { store = s; records = []; moment = None; whole_before = 0 }) seat Partner (offers_at other n)) in
+    let first = top_grows (record { store = s; records = []; moment = None; whole_before = 0; next_session = 0; settled = 0 }) (record { store = next; records = []; moment = None; whole_before = 0; next_session = 0; settled = 0 }) key node (offered_on (record { store = s; records = []; moment = None; whole_before = 0; next_session = 0; settled = 0 }) seat Partner (offers_at other n)) in
     let later = leaves_grow next seat other (known + known_in s seat (offers_at other n)) leaves key node in
     by_fault (leaf_fault s seat (offers_at other n)) (taken_leaves next seat other (known + known_in s seat (offers_at other n)) leaves) (omega (arith, first, later))
   where

@@ -1,5 +1,5 @@
 -- What a range keeps that goes over to format 2.
-use Rattle.std.proofs.Common.{◌≡◌, ℕ, zero, suc, ◌+◌, ◌<◌, false, List, [], ◌∷◌, ◌++◌, length, map, take, drop, set, get_or, refl, sym, ap, ◌∙◌, arith, Any}
+use Rattle.std.proofs.Common.{◌≡◌, ℕ, false, List, [], ◌∷◌, map, refl, sym, ap, ◌∙◌, arith, Any}
 use Rattle.std.specs.List.{AllByRecursion}
 use Rattle.std.proofs.lemmas.List.{length-map, get_or-map}
 use Rattle.range_journal.specs.declared.journal.Entry.{Entry}
@@ -16,6 +16,7 @@ use Rattle.range_store.specs.Store.{IsSound}
 use Rattle.range_store.specs.Migrates.{config_in_two}
 use Rattle.range_store.specs.Migrates as stores
 use Rattle.range_state.specs.Migrates.{cancelled, in_two}
+use Rattle.range_state.proofs.NumberLaws.{numbered_map}
 use Rattle.range_state.proofs.SessionLaws.{kept_cancelled, keeps_cancelled}
 
 -- ---- records
@@ -42,16 +43,16 @@ all_in_two : (c : Config) (es : List Entry) (rs : List Record) → AllByRecursio
 all_in_two c es [] all = tt
 all_in_two c es (r ∷ rs) all = (kept_in_two c es r all.0, all_in_two c es rs all.1)
 
-shut : (w : Walk) (partner : ℕ) (st : SessionState) → w.state ≡ st → is_open (record { partner = partner; session = cancelled_by w st }) ≡ false
+shut : (w : Walk) (number partner : ℕ) (st : SessionState) → w.state ≡ st → is_open (record { number = number; partner = partner; session = cancelled_by w st }) ≡ false
 unfolding is_open
-shut w partner Open is = refl
-shut w partner Finished is = rw is refl
-shut w partner Failed is = rw is refl
-shut w partner Cancelled is = rw is refl
+shut w number partner Open is = refl
+shut w number partner Finished is = rw is refl
+shut w number partner Failed is = rw is refl
+shut w number partner Cancelled is = rw is refl
 
 none_open : (rs : List Record) → open_count (map cancelled rs) ≡ 0
 none_open [] = refl
-none_open (r ∷ rs) = rw (shut r.session r.partner r.session.state refl) (none_open rs)
+none_open (r ∷ rs) = rw (shut r.session r.number r.partner r.session.state refl) (none_open rs)
 
 -- what a session has taken it has when it is cancelled
 still_from : (e : Entry) (rs : List Record) → Any (λ (r : Record). HasTaken r.session e) rs → Any (λ (r : Record). HasTaken r.session e) (map cancelled rs)
@@ -72,27 +73,8 @@ right_in_two s ok sound = record {
   records = all_in_two s.store.config s.store.entries s.records ok.records;
   few = omega (arith, ok.few, length-map s.records cancelled);
   few_open = omega (arith, none_open s.records);
+  numbers = numbered_map s.next_session cancelled (λ r. refl) s.records ok.numbers;
   partners = All-weaker _ _ s.store.entries (λ (e : Entry) from source. still_from e s.records (from source)) ok.partners;
+  settled = ok.settled;
   moment = tt;
 }
-
--- ---- one record after another
-
--- a list whose first elements were changed has the next one as it was
-next_is : {X : Type 0} (f : X → X) (xs : List X) (i : ℕ) (d : X) → i < length xs → get_or (map f (take i xs) ++ drop i xs) i d ≡ get_or xs i d
-next_is f [] i d lt = absurd (omega arith)
-next_is f (x ∷ xs) zero d lt = refl
-next_is f (x ∷ xs) (suc i) d lt = next_is f xs i d (omega arith)
-
--- and so has one more changed with that
-next_changed : {X : Type 0} (f : X → X) (xs : List X) (i : ℕ) (d : X) → i < length xs → set (map f (take i xs) ++ drop i xs) i (f (get_or xs i d)) ≡ map f (take (suc i) xs) ++ drop (suc i) xs
-next_changed f [] i d lt = absurd (omega arith)
-next_changed f (x ∷ xs) zero d lt = refl
-next_changed f (x ∷ xs) (suc i) d lt = ap (λ ys. f x ∷ ys) (next_changed f xs i d (omega arith))
-
--- the next record is cancelled
-pub next_cancelled : (xs items : List Record) (i : ℕ) (d new : Record) → i < length xs → items ≡ map cancelled (take i xs) ++ drop i xs → new ≡ cancelled (get_or items i d) → set items i new ≡ map cancelled (take (i + 1) xs) ++ drop (i + 1) xs
-next_cancelled xs items i d new lt are ended =
-    let was : get_or items i d ≡ get_or xs i d = ap (λ ys. get_or ys i d) are ∙ next_is cancelled xs i d lt in
-    let more : suc i ≡ i + 1 = omega arith in
-    (λ j. set (are j) i ((ended ∙ ap cancelled was) j)) ∙ next_changed cancelled xs i d lt ∙ ap (λ n. map cancelled (take n xs) ++ drop n xs) more

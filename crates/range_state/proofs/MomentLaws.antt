@@ -55,7 +55,7 @@ held_at s front =
 -- ---- a state with another moment
 
 pub right_held : (s : State) (m : Option Moment) → IsRight s → IfSome m (IsMomentOf s.store) → IsRight (record s { moment = m })
-right_held s m ok is = record { store = ok.store; records = ok.records; few = ok.few; few_open = ok.few_open; partners = ok.partners; moment = is }
+right_held s m ok is = record { store = ok.store; records = ok.records; few = ok.few; few_open = ok.few_open; numbers = ok.numbers; partners = ok.partners; settled = ok.settled; moment = is }
 
 -- a moment with the digest of a text
 pub hashed_moment : (s : Store) (m : Moment) (t : RangeTree) → IsMomentOf s m → t.map ≡ m.tree.map → IsRangeTree t → IsMomentOf s (record m { tree = t })

@@ -8,7 +8,7 @@ use Rattle.snapshot.specs.RowMaps.{RowMap}
 use Rattle.range_state.specs.declared.«record».Record.{Record}
 use Rattle.range_state.specs.declared.state.sync.Synced.{Synced}
 use Rattle.range_state.specs.State.{State}
-use Rattle.range_state.specs.Sessions.{cancel_record, cancel_session}
+use Rattle.range_state.specs.Sessions.{cancel_record, cancel_at}
 use Rattle.range_state.specs.Syncs.{HasAskedAll, IsSyncedTo, IsPartWay}
 use Rattle.range_state.specs.Reconciles.{HasGivenUp, HasBrokenOff}
 use Rattle.range_state.proofs.SyncStepLaws.{got_last}
@@ -26,8 +26,8 @@ some_dirty (Some d ∷ ds) h = some_dirty ds h
 
 -- ---- the newest session is cancelled
 
-cancelled_last : (s last new : State) (id : ℕ) (r : Record) (result : Result (Unit {0}) Refusal) → last.records ≡ s.records ++ r ∷ [] → id ≡ length s.records → DoesAtOnce result last new (cancel_session last id) → cancel_session last (length s.records) ≡ gives tt new
-cancelled_last s last new id r (Ok x) is at did = ap (cancel_session last) (sym at) ∙ did
+cancelled_last : (s last new : State) (id : ℕ) (r : Record) (result : Result (Unit {0}) Refusal) → last.records ≡ s.records ++ r ∷ [] → id ≡ length s.records → DoesAtOnce result last new (cancel_at last id) → cancel_at last (length s.records) ≡ gives tt new
+cancelled_last s last new id r (Ok x) is at did = ap (cancel_at last) (sym at) ∙ did
 cancelled_last s last new id r (Err e) is at did =
     let here : slice_get last.records id ≡ Some r = ap (λ (rs : List Record). slice_get rs id) is ∙ ap (slice_get (s.records ++ r ∷ [])) at ∙ got_last s.records r in
     let given = ap (cancel_record last id) here in
@@ -39,7 +39,7 @@ got_none (r ∷ rs) = got_none rs
 
 -- a session that refused a leaf was cancelled
 pub given_up : (s last new : State) (seat partner id : ℕ) (other : RowMap) (sync : Synced) (e : Refusal) (result : Result (Unit {0}) Refusal) → IsSyncedTo s seat other last sync → HasAskedAll s partner other last.records → sync.fault ≡ Some e → id ≡ length s.records
-    → DoesAtOnce result last new (cancel_session last id) → HasGivenUp s seat partner other e new
+    → DoesAtOnce result last new (cancel_at last id) → HasGivenUp s seat partner other e new
 given_up s last new seat partner id other sync e result synced session cause at did = record {
   last = last;
   sync = sync;
@@ -51,7 +51,7 @@ given_up s last new seat partner id other sync e result synced session cause at 
 
 -- and so was one that no memory was left for
 pub broken_off : (s last new : State) (seat partner id : ℕ) (other : RowMap) (result : Result (Unit {0}) Refusal) → IsPartWay s seat partner other last → id ≡ length s.records
-    → DoesAtOnce result last new (cancel_session last id) → HasBrokenOff s seat partner other new
+    → DoesAtOnce result last new (cancel_at last id) → HasBrokenOff s seat partner other new
 broken_off s last new seat partner id other result part at did = record {
   last = last;
   part = part;
@@ -59,7 +59,7 @@ broken_off s last new seat partner id other result part at did = record {
 }
 
 -- a session that was not opened is none to cancel
-pub none_opened : (s last new : State) (id : ℕ) (result : Result (Unit {0}) Refusal) → last ≡ s → id ≡ length s.records → DoesAtOnce result last new (cancel_session last id) → new ≡ s
+pub none_opened : (s last new : State) (id : ℕ) (result : Result (Unit {0}) Refusal) → last ≡ s → id ≡ length s.records → DoesAtOnce result last new (cancel_at last id) → new ≡ s
 none_opened s last new id (Ok x) same at did =
     let none : slice_get last.records id ≡ None = ap (λ (t : State). slice_get t.records id) same ∙ ap (slice_get s.records) at ∙ got_none s.records in
     let refused = ap (cancel_record last id) none in

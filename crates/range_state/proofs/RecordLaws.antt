@@ -5,6 +5,8 @@ use Rattle.version_set.proofs.ListLaws.{all-append}
 use Rattle.range_journal.specs.declared.journal.Entry.{Entry}
 use Rattle.range_journal.specs.declared.journal.Source.TheVariants.{Partner}
 use Rattle.range_journal.specs.Journal.{held}
+use Rattle.range_journal.specs.Copies.{IsSettled}
+use Rattle.range_journal.proofs.CopyLaws.{settled_grows}
 use Rattle.sync_session.proofs.StepLaws.{All-weaker, walked_grows}
 use Rattle.range_store.specs.Config.{Config}
 use Rattle.range_store.specs.Store.{Store, IsSound}
@@ -47,6 +49,8 @@ grown_right s t ok sound grown =
       records = subst (λ (c : Config). AllByRecursion (IsKept c t.entries) s.records) (sym grown.config) (subst (λ (es : List Entry). AllByRecursion (IsKept s.store.config es) s.records) (sym grown.entries) kept);
       few = ok.few;
       few_open = ok.few_open;
+      numbers = ok.numbers;
       partners = subst (AllByRecursion (λ (e : Entry). e.source ≡ Partner → IsFromPartner s.records e)) (sym grown.entries) old;
+      settled = subst (IsSettled s.settled) (sym grown.entries) (settled_grows s.settled s.store.entries grown.more ok.settled);
       moment = moment_grows s.store t grown.more s.moment grown.config grown.entries ok.moment;
     }

@@ -10,6 +10,8 @@ use Rattle.version_set.proofs.ListLaws.{all-append, all-push}
 use Rattle.range_journal.specs.declared.journal.Entry.{Entry}
 use Rattle.range_journal.specs.declared.journal.Source.TheVariants.{Partner}
 use Rattle.range_journal.specs.Journal.{held}
+use Rattle.range_journal.specs.Copies.{IsSettled}
+use Rattle.range_journal.proofs.CopyLaws.{settled_grows}
 use Rattle.hash_tree.proofs.ChunkLaws.{all-set}
 use Rattle.hash_tree.proofs.KeyLaws.{all_get}
 use Rattle.tree_nodes.specs.Nodes.{Node}
@@ -32,6 +34,7 @@ use Rattle.range_state.specs.Moments.{moment_fault, front_of}
 use Rattle.row_bytes.proofs.LimitLaws.{no_fault}
 use Rattle.range_state.proofs.HeldRows.{rows_held}
 use Rattle.range_state.proofs.MomentLaws.{moment_grows, held_at}
+use Rattle.range_state.proofs.NumberLaws.{numbered_push, numbered_set}
 use Rattle.range_state.proofs.RecordLaws.{all_kept}
 use Rattle.range_store.proofs.OfferLaws.{row_map_now}
 
@@ -97,22 +100,27 @@ open_set (x ∷ rs) (suc id) r new was stays =
 abbrev pub Keeps : Walk → Walk → Type 0
 Keeps old new = (e : Entry) → HasTaken old e → HasTaken new e
 
--- one record more
-recorded_right : (s : State) (r : Record) → IsRight s → length s.records < 1024 → open_count s.records < 64 → IsKept s.store.config s.store.entries r → IsRight (record s { records = s.records ++ r ∷ [] })
-recorded_right s r ok room beside kept = record {
+-- the state with one record more, of the next number
+abbrev pub with_record : State → Record → State
+with_record s r = record s { records = s.records ++ r ∷ []; next_session = s.next_session + 1 }
+
+recorded_right : (s : State) (r : Record) → IsRight s → length s.records < 1024 → open_count s.records < 64 → r.number ≡ s.next_session → IsKept s.store.config s.store.entries r → IsRight (with_record s r)
+recorded_right s r ok room beside number kept = record {
   store = ok.store;
   records = all-push (IsKept s.store.config s.store.entries) s.records r ok.records kept;
   few = omega (arith, room, length-append s.records (r ∷ []));
   few_open = omega (arith, beside, open_push s.records r);
+  numbers = numbered_push s.next_session s.records r ok.numbers number;
   partners = All-weaker _ _ s.store.entries (λ e from source. any-append (λ (x : Record). HasTaken x.session e) s.records (r ∷ []) (from source)) ok.partners;
+  settled = ok.settled;
   moment = ok.moment;
 }
 
 -- entries more, and a record in the place of another
 pub stepped_right : (s : State) (t : Store) (more : List Entry) (id : ℕ) (r new : Record) → IsRight s → IsSound t → t.config ≡ s.store.config → t.entries ≡ s.store.entries ++ more
-    → r ≡ get_or s.records id r → (is_open new ≡ true → is_open r ≡ true) → IsKept s.store.config (s.store.entries ++ more) new → Keeps r.session new.session → AllByRecursion (λ (e : Entry). Any (λ (x : Record). HasTaken x.session e) (set s.records id new)) more
+    → r ≡ get_or s.records id r → new.number ≡ r.number → (is_open new ≡ true → is_open r ≡ true) → IsKept s.store.config (s.store.entries ++ more) new → Keeps r.session new.session → AllByRecursion (λ (e : Entry). Any (λ (x : Record). HasTaken x.session e) (set s.records id new)) more
     → IsRight (record { store = t; records = set s.records id new; moment = s.moment; whole_before = s.whole_before; next_session = s.next_session; settled = s.settled })
-stepped_right s t more id r new ok sound config entries was stays kept keeps come =
+stepped_right s t more id r new ok sound config entries was number stays kept keeps come =
     let records = set s.records id new in
     let all = all-set (IsKept s.store.config (s.store.entries ++ more)) s.records id new kept (all_kept s.store.config s.store.entries more s.records ok.records) in
     record {
@@ -120,20 +128,24 @@ stepped_right s t more id r new ok sound config entries was stays kept keeps com
       records = subst (λ (c : Config). AllByRecursion (IsKept c t.entries) records) (sym config) (subst (λ (es : List Entry). AllByRecursion (IsKept s.store.config es) records) (sym entries) all);
       few = omega (arith, ok.few, length-set s.records id new);
       few_open = omega (arith, ok.few_open, open_set s.records id r new was stays);
+      numbers = numbered_set s.next_session s.records id r new ok.numbers was number;
       partners = subst (AllByRecursion (λ (e : Entry). e.source ≡ Partner → Any (λ (x : Record). HasTaken x.session e) records)) (sym entries) (all-append _ s.store.entries more
           (All-weaker _ _ s.store.entries (λ e from source. any-set (λ (x : Record). HasTaken x.session e) s.records id r new was (keeps e) (from source)) ok.partners)
           (All-weaker _ _ more (λ e is source. is) come));
+      settled = subst (IsSettled s.settled) (sym entries) (settled_grows s.settled s.store.entries more ok.settled);
       moment = moment_grows s.store t more s.moment config entries ok.moment;
     }
 
 -- a record in the place of another
-pub replaced_right : (s : State) (id : ℕ) (r new : Record) → IsRight s → r ≡ get_or s.records id r → (is_open new ≡ true → is_open r ≡ true) → IsKept s.store.config s.store.entries new → Keeps r.session new.session → IsRight (record s { records = set s.records id new })
-replaced_right s id r new ok was stays kept keeps = record {
+pub replaced_right : (s : State) (id : ℕ) (r new : Record) → IsRight s → r ≡ get_or s.records id r → new.number ≡ r.number → (is_open new ≡ true → is_open r ≡ true) → IsKept s.store.config s.store.entries new → Keeps r.session new.session → IsRight (record s { records = set s.records id new })
+replaced_right s id r new ok was number stays kept keeps = record {
   store = ok.store;
   records = all-set (IsKept s.store.config s.store.entries) s.records id new kept ok.records;
   few = omega (arith, ok.few, length-set s.records id new);
   few_open = omega (arith, ok.few_open, open_set s.records id r new was stays);
+  numbers = numbered_set s.next_session s.records id r new ok.numbers was number;
   partners = All-weaker _ _ s.store.entries (λ e from source. any-set (λ (x : Record). HasTaken x.session e) s.records id r new was (keeps e) (from source)) ok.partners;
+  settled = ok.settled;
   moment = ok.moment;
 }
 
@@ -176,34 +188,34 @@ none_left (n ∷ nodes) off = absurd (off refl)
 
 -- a session with rows of the range that are held
 begun_right : (s : State) (partner : ℕ) (root : List ℕ) (own : RowMap) (r : Record) → IsRight s → (length s.records < 1024) × (open_count s.records < 64) → IsRowMap own
-    → (own.format ≡ s.store.config.format) × (own.bits ≡ s.store.config.bits) × (own.range ≡ s.store.config.range) → Held own.rows (held s.store.entries) → r ≡ record { partner = partner; session = started own root } → IsRight (record s { records = s.records ++ r ∷ [] })
+    → (own.format ≡ s.store.config.format) × (own.bits ≡ s.store.config.bits) × (own.range ≡ s.store.config.range) → Held own.rows (held s.store.entries) → r ≡ record { number = s.next_session; partner = partner; session = started own root } → IsRight (with_record s r)
 begun_right s partner root own r ok room map here rows is =
     let walked = walked_started (held s.store.entries) own root map rows in
     let orderly = orderly_started own root in
-    let kept : IsKept s.store.config s.store.entries (record { partner = partner; session = started own root }) = record {
+    let kept : IsKept s.store.config s.store.entries (record { number = s.next_session; partner = partner; session = started own root }) = record {
       here = record { bits = here.1; range = here.2 };
       format = λ opened. here.0;
       traced = traced (held s.store.entries) (started own root) walked orderly;
       ended = none_left (first_asked own root);
       going = inr (record { walked = walked; orderly = orderly });
     } in
-    recorded_right s r ok room.0 room.1 (subst (IsKept s.store.config s.store.entries) (sym is) kept)
+    recorded_right s r ok room.0 room.1 (ap (λ (x : Record). x.number) is) (subst (IsKept s.store.config s.store.entries) (sym is) kept)
 
 -- a session with the rows now
-pub opened_right : (s : State) (partner : ℕ) (root : List ℕ) (r : Record) → IsRight s → (length s.records < 1024) × (open_count s.records < 64) → r ≡ record { partner = partner; session = started (rows_now s.store) root } → IsRight (record s { records = s.records ++ r ∷ [] })
+pub opened_right : (s : State) (partner : ℕ) (root : List ℕ) (r : Record) → IsRight s → (length s.records < 1024) × (open_count s.records < 64) → r ≡ record { number = s.next_session; partner = partner; session = started (rows_now s.store) root } → IsRight (with_record s r)
 opened_right s partner root r ok room is = begun_right s partner root (rows_now s.store) r ok room (row_map_now s.store ok.store) (refl, refl, refl) (rows_held s.store.entries) is
 
 -- a session with the rows of a moment
-pub opened_at_right : (s : State) (m : Moment) (partner : ℕ) (root : List ℕ) (r : Record) → IsRight s → IsMomentOf s.store m → (length s.records < 1024) × (open_count s.records < 64) → r ≡ record { partner = partner; session = started (rows_at s.store m.front) root } → IsRight (record s { records = s.records ++ r ∷ [] })
+pub opened_at_right : (s : State) (m : Moment) (partner : ℕ) (root : List ℕ) (r : Record) → IsRight s → IsMomentOf s.store m → (length s.records < 1024) × (open_count s.records < 64) → r ≡ record { number = s.next_session; partner = partner; session = started (rows_at s.store m.front) root } → IsRight (with_record s r)
 opened_at_right s m partner root r ok moment room is =
     begun_right s partner root (rows_at s.store m.front) r ok room (subst IsRowMap moment.rows moment.right.rows) (refl, refl, refl) (held_at s.store m.front) is
 
 -- a session at the moment, if it is whole
-pub opened_when_whole : (s : State) (partner : ℕ) (root : List ℕ) (r : Record) → IsRight s → moment_fault s.moment ≡ None → (length s.records < 1024) × (open_count s.records < 64) → r ≡ record { partner = partner; session = started (rows_at s.store (front_of s.moment)) root }
-    → IsRight (record s { records = s.records ++ r ∷ [] })
+pub opened_when_whole : (s : State) (partner : ℕ) (root : List ℕ) (r : Record) → IsRight s → moment_fault s.moment ≡ None → (length s.records < 1024) × (open_count s.records < 64) → r ≡ record { number = s.next_session; partner = partner; session = started (rows_at s.store (front_of s.moment)) root }
+    → IsRight (with_record s r)
 opened_when_whole s partner root r ok whole room is = by_moment s.moment ok.moment whole is
   where
-    by_moment : (o : Option Moment) → IfSome o (IsMomentOf s.store) → moment_fault o ≡ None → r ≡ record { partner = partner; session = started (rows_at s.store (front_of o)) root } → IsRight (record s { records = s.records ++ r ∷ [] })
+    by_moment : (o : Option Moment) → IfSome o (IsMomentOf s.store) → moment_fault o ≡ None → r ≡ record { number = s.next_session; partner = partner; session = started (rows_at s.store (front_of o)) root } → IsRight (with_record s r)
     by_moment None moment whole is = absurd (cc)
     by_moment (Some m) moment whole is = opened_at_right s m partner root r ok moment room is
 
@@ -240,4 +252,4 @@ cancelled_right s id r new ok within was is =
     let kept = subst (IsKept s.store.config s.store.entries) (sym was) (all_get (IsKept s.store.config s.store.entries) s.records id r ok.records within) in
     let over = kept_cancelled s.store.config s.store.entries r r.session r.session.state refl kept in
     subst (λ (x : Record). IsRight (record s { records = set s.records id x })) (sym is)
-    (replaced_right s id r (record { number = r.number; partner = r.partner; session = cancelled_by r.session r.session.state }) ok was (still_open r r.session r.session.state) over (keeps_cancelled r.session r.session.state))
+    (replaced_right s id r (record { number = r.number; partner = r.partner; session = cancelled_by r.session r.session.state }) ok was refl (still_open r r.session r.session.state) over (keeps_cancelled r.session r.session.state))

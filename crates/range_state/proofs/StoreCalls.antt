@@ -30,6 +30,7 @@ use Rattle.range_store.specs.Trees as stores
 use Rattle.range_store.proofs.PutLaws.{past, put_by_gives, accept_gives}
 use Rattle.range_state.specs.State.{State, IsRight, IsFromPartner, with_store}
 use Rattle.range_state.specs.Renewals.{renewed_by}
+use Rattle.range_state.proofs.NumberLaws.{numbered_none}
 use Rattle.range_state.proofs.RecordLaws.{HasGrown, grown_right}
 
 -- ---- outcomes
@@ -167,4 +168,4 @@ copies_sent n seat (o ∷ os) = ((λ from. absurd (let no : Copy ≡ Partner = f
 
 -- a store without sessions whose entries are copies
 pub right_renewed : (s : State) (seat limit : ℕ) → IsSound (renewed_by s seat limit).store → IsRight (renewed_by s seat limit)
-right_renewed s seat limit sound = record { store = sound; records = tt; few = omega arith; few_open = omega arith; partners = copies_sent 0 seat (held_offers s.store); moment = tt }
+right_renewed s seat limit sound = record { store = sound; records = tt; few = omega arith; few_open = omega arith; numbers = numbered_none s.next_session; partners = copies_sent 0 seat (held_offers s.store); settled = record { within = omega arith; others = tt }; moment = tt }

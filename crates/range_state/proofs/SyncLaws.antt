@@ -33,7 +33,7 @@ use Rattle.range_journal.specs.declared.journal.Source.TheVariants.{Partner}
 use Rattle.range_store.specs.Store.{Store, dirty_fault, rows_now}
 use Rattle.vclock.specs.Outcome.{gives}
 use Rattle.vclock.proofs.OutcomeLaws.{passed}
-use Rattle.range_state.specs.Sessions.{standings, crowd_fault, unknown_for, unknown_fault, open_with, taken_in, leaf_fault, opened, walked_to, IsLeafRead, IsLeafFault, TakesInner, TakesLeaf, TakesText, TakesFor, Refuses}
+use Rattle.range_state.specs.Sessions.{standings, crowd_fault, unknown_for, unknown_at, open_with, taken_in, leaf_fault, opened, walked_to, IsLeafRead, IsLeafFault, TakesInner, TakesLeaf, TakesText, TakesFor, Refuses}
 use Rattle.range_store.specs.Offers.{offers_of}
 use Rattle.range_state.specs.Syncs.{IsOfRange, leaves_in, offers_at, known_in, Progress, taken_leaves, synced, ended, HasOneMore, HasAskedAll, IsSyncedTo, IsPartWay, IsFirstOf}
 use Rattle.range_state.proofs.SyncLists.{AreIn, member_of, has_head, all_has, same_nodes, fits, ascends_before, without_first, differ_ascends, differ_inside, as_deep}
@@ -55,6 +55,8 @@ taken_count records id = count_of (slice_get records id)
 pub record IsUnderWay (s : State) (seat : ℕ) (other : RowMap) (known : ℕ) (now : State) : Type 0 where
   pub r : Record
   pub records : now.records ≡ s.records ++ r ∷ []
+  pub number : r.number ≡ s.next_session
+  pub next : now.next_session ≡ s.next_session + 1
   pub config : now.store.config ≡ s.store.config
   pub own : r.session.own ≡ rows_now s.store
   pub root : root_of other ≡ r.session.root
@@ -70,18 +72,20 @@ pub record HasBegun (s : State) (seat partner : ℕ) (other : RowMap) (new : Sta
   pub partner_is : under.r.partner ≡ partner
 
 -- a session that was not refused
-pub open_ok : (s new : State) (partner id : ℕ) (root : List ℕ) → open_with s partner root ≡ gives id new → (id ≡ length s.records) × (new ≡ opened s partner root)
+pub open_ok : (s new : State) (partner id : ℕ) (root : List ℕ) → open_with s partner root ≡ gives id new → new ≡ opened s partner root
 open_ok s new partner id root is =
     let few = passed (crowd_fault (standings s.records)) _ id new is in
     let clean = passed (dirty_fault s.store) _ id new few.1 in
     let same = clean.1 in
-    (cc, cc)
+    cc
 
 pub begun : (s new : State) (seat partner : ℕ) (root : List ℕ) (other : RowMap) → root ≡ root_of other → new ≡ opened s partner root → HasBegun s seat partner other new
 begun s new seat partner root other root_is is = record {
   under = record {
-    r = record { partner = partner; session = started (rows_now s.store) root };
+    r = record { number = s.next_session; partner = partner; session = started (rows_now s.store) root };
     records = ap (λ (x : State). x.records) is;
+    number = refl;
+    next = ap (λ (x : State). x.next_session) is;
     config = ap (λ (x : State). x.store.config) is;
     own = refl;
     root = sym root_is;
@@ -131,7 +135,7 @@ here_is : (s now : State) (seat known id : ℕ) (other : RowMap) (u : IsUnderWay
 here_is s now seat known id other u at = ap (λ (rs : List Record). slice_get rs id) u.records ∙ ap (slice_get (s.records ++ u.r ∷ [])) at ∙ got_last s.records u.r
 
 -- it has a record
-pub known_session : {s now : State} {seat known id : ℕ} {other : RowMap} (u : IsUnderWay s seat other known now) → id ≡ length s.records → unknown_fault now id ≡ None
+pub known_session : {s now : State} {seat known id : ℕ} {other : RowMap} (u : IsUnderWay s seat other known now) → id ≡ length s.records → unknown_at now id ≡ None
 known_session {s = s} {now = now} {seat = seat} {known = known} {id = id} {other = other} u at = ap unknown_for (here_is s now seat known id other u at)
 
 first_has : (nodes : List Node) (n : Node) (rest : List Node) → nodes ≡ n ∷ rest → contains_node n nodes ≡ true
@@ -215,6 +219,8 @@ moved s now new base seat id known count other u n rest is at first config grown
       under = record {
         r = r;
         records = records;
+        number = u.number;
+        next = u.next;
         config = config ∙ u.config;
         own = u.own;
         root = u.root;
@@ -372,6 +378,7 @@ ends s now seat id known other fault a u is at near progress state shown =
     record {
       store = sym (ap (λ (p : Progress). p.store) end);
       sessions = ap standings u.records ∙ map-append (λ (r : Record). r.session.state) s.records (u.r ∷ []) ∙ ap (λ (x : SessionState). standings s.records ++ x ∷ []) (state ∙ ap (λ (p : Progress). ended p.fault) (sym end));
+      next = u.next;
       accepted = shown.accepted;
       known = shown.known ∙ sym (ap (λ (p : Progress). p.known) end);
       asked = asked ∙ ap length all;
@@ -461,6 +468,7 @@ one_more : (s now : State) (seat partner known : ℕ) (other : RowMap) (u : IsUn
 one_more s now seat partner known other u with_whom = record {
   r = u.r;
   records = u.records;
+  number_is = u.number;
   partner_is = with_whom;
   own = u.own;
   root = sym u.root;
@@ -490,6 +498,7 @@ part_way s now seat partner known other u first with_whom = record {
   fits = ap (λ (p : Progress). p.fault) u.progress;
   store = sym (ap (λ (p : Progress). p.store) u.progress);
   session = one_more s now seat partner known other u with_whom;
+  next = u.next;
 }
 
 -- a session stopped before its next node

@@ -12,5 +12,6 @@ pub mod Trees
 pub mod Moments
 pub mod Portions
 pub mod Counts
+pub mod Endings
 pub mod Run
 pub mod Judgements

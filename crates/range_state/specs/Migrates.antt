@@ -15,7 +15,7 @@ cancelled r = record r { session = cancelled_by r.session r.session.state }
 
 -- the state in format 2: the entries are unchanged, no node is clean, no session is open, and no moment is kept
 abbrev pub in_two : State → State
-in_two s = record { store = stores.in_two s.store; records = map cancelled s.records; moment = None; whole_before = last_whole s }
+in_two s = record { store = stores.in_two s.store; records = map cancelled s.records; moment = None; whole_before = last_whole s; next_session = s.next_session; settled = s.settled }
 
 -- a state of format 1 is migrated, and one of format 2 is unchanged
 abbrev pub migrated_from : Format → State → State

@@ -1,6 +1,6 @@
 -- Moments of a range: the rows that its first entries made, and the digests of their tree: the paper of 2007,
 -- section 4.7.
-use Rattle.std.specs.Prelude.{◌≡◌, ℕ, ◌==◌, ◌++◌, List, [], ◌∷◌, length, Option, Some, None, if◌then◌else◌}
+use Rattle.std.specs.Prelude.{◌≡◌, ℕ, ◌==◌, ◌+◌, ◌++◌, List, [], ◌∷◌, length, Option, Some, None, if◌then◌else◌}
 use Rattle.vclock.specs.Outcome.{Outcome, gives, refuses, through, ◌>>◌}
 use Rattle.vclock.specs.declared.refusal.Refusal.{Refusal}
 use Rattle.vclock.specs.declared.refusal.Refusal.TheVariants.{Stale, Dirty}
@@ -73,7 +73,7 @@ front_of (Some m) = m.front
 
 -- the state with one more record: a session that compares the rows of the first entries with those of a partner's root
 abbrev pub opened_at : State → ℕ → ℕ → List ℕ → State
-opened_at s front partner root = record s { records = s.records ++ (record { partner = partner; session = started (rows_at s.store front) root }) ∷ [] }
+opened_at s front partner root = record s { records = s.records ++ (record { number = s.next_session; partner = partner; session = started (rows_at s.store front) root }) ∷ []; next_session = s.next_session + 1 }
 
 -- the number of a new session at the moment with a partner's offer, and the state with its record
 abbrev pub open_at_moment : State → ℕ → Offer → Outcome ℕ State
@@ -81,7 +81,7 @@ open_at_moment s partner offer = do
   foreign_fault s.store.config offer
   crowd_fault (standings s.records)
   moment_fault s.moment
-  gives (length s.records) (opened_at s (front_of s.moment) partner offer.root)
+  gives s.next_session (opened_at s (front_of s.moment) partner offer.root)
 
 -- ---- the rows now, or those of the moment
 

@@ -13,7 +13,7 @@ use Rattle.range_state.specs.declared.state.reconciliation.Reconciled.{Reconcile
 use Rattle.range_state.specs.declared.state.sync.Synced.{Synced}
 use Rattle.range_state.specs.State.{State, IsRight}
 use Rattle.range_store.specs.Store.{rows_now, dirty_fault}
-use Rattle.range_state.specs.Sessions.{standings, crowd_fault, cancel_session}
+use Rattle.range_state.specs.Sessions.{standings, crowd_fault, cancel_at}
 use Rattle.range_state.specs.Syncs.{HasAskedAll, IsSyncedTo, IsPartWay}
 use Rattle.range_state.specs.Trees.{IsSameRange}
 use Rattle.range_state.specs.Unions.{union_of}
@@ -39,13 +39,13 @@ pub record HasGivenUp (s : State) (seat partner : ℕ) (other : RowMap) (e : Ref
   pub synced : IsSyncedTo s seat other last sync
   pub session : HasAskedAll s partner other last.records
   pub cause : sync.fault ≡ Some e
-  pub cancelled : cancel_session last (length s.records) ≡ gives tt new
+  pub cancelled : cancel_at last (length s.records) ≡ gives tt new
 
 -- a session that ran out of memory midway, and was then cancelled; the leaves that it took stay
 pub record HasBrokenOff (s : State) (seat partner : ℕ) (other : RowMap) (new : State) : Type 0 where
   pub last : State
   pub part : IsPartWay s seat partner other last
-  pub cancelled : cancel_session last (length s.records) ≡ gives tt new
+  pub cancelled : cancel_at last (length s.records) ≡ gives tt new
 
 -- A session that did not catch up, and the fault: it was refused a leaf, or it ran out of memory, when it was opened or
 -- later.

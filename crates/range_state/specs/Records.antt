@@ -1,6 +1,7 @@
 -- Records of sessions, and the conditions for them to be right.
-use Rattle.std.specs.Prelude.{◌≡◌, ◌≢◌, ◌⊎◌, ℕ, Bool, true, false, length, List, []}
-use Rattle.std.specs.List.{filter}
+use Rattle.std.specs.Prelude.{◌≡◌, ◌≢◌, ◌⊎◌, ℕ, suc, ◌<◌, ◌==◌, Bool, true, false, length, List, [], ◌∷◌, Option, slice_get, if◌then◌else◌}
+use Rattle.std.specs.List.{filter, AllByRecursion}
+use Rattle.version_set.specs.Order.{Pairwise}
 use Rattle.range_journal.specs.declared.journal.Entry.{Entry}
 use Rattle.range_journal.specs.Journal.{held}
 use Rattle.sync_session.specs.Differing.{IsOrderly, IsTraced}
@@ -23,6 +24,20 @@ is_open r = is_open_state r.session.state
 -- the number of open sessions
 abbrev pub open_count : List Record → ℕ
 open_count records = length (filter is_open records)
+
+-- the numbers of the records ascend, and are below the next one
+pub record AreNumbered (next : ℕ) (records : List Record) : Type 0 where
+  pub ascending : Pairwise (λ (r s : Record). r.number < s.number) records
+  pub below : AllByRecursion (λ (r : Record). r.number < next) records
+
+-- the place among the records of the one with a number; past the last one if none has it
+abbrev pub place_of : ℕ → List Record → ℕ
+place_of id [] = 0
+place_of id (r ∷ records) = if r.number == id then 0 else suc (place_of id records)
+
+-- the record with a number, if any
+abbrev pub record_of : ℕ → List Record → Option Record
+record_of id records = slice_get records (place_of id records)
 
 -- a session that was ended early: it failed or was cancelled
 abbrev pub IsOver : Walk → Type 0

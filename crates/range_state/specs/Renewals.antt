@@ -3,6 +3,6 @@ use Rattle.std.specs.Prelude.{ℕ, [], None}
 use Rattle.range_store.specs.Renewals as stores
 use Rattle.range_state.specs.State.{State}
 
--- a renewed store, without sessions and moment
+-- a renewed store, without sessions and moment; the numbers of sessions go on
 abbrev pub renewed_by : State → ℕ → ℕ → State
-renewed_by s seat limit = record { store = stores.renewed_by s.store seat limit; records = []; moment = None; whole_before = 0 }
+renewed_by s seat limit = record { store = stores.renewed_by s.store seat limit; records = []; moment = None; whole_before = 0; next_session = s.next_session; settled = 0 }

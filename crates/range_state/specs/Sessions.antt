@@ -18,7 +18,7 @@ use Rattle.sync_session.specs.declared.state.SessionState.{SessionState}
 use Rattle.range_store.specs.Config.{Config}
 use Rattle.range_store.specs.Store.{Store, rows_now, dirty_fault}
 use Rattle.range_store.specs.Offers.{offers_of, accepted_in, accept_fault}
-use Rattle.range_state.specs.Records.{is_open_state}
+use Rattle.range_state.specs.Records.{is_open_state, place_of, record_of}
 use Rattle.range_state.specs.declared.«record».Record.{Record}
 use Rattle.range_state.specs.declared.event.AnswerTaken.{AnswerTaken}
 use Rattle.range_state.specs.State.{State, with_store}
@@ -39,14 +39,14 @@ crowd_fault states = if nat_le 64 (length (filter is_open_state states)) || nat_
 
 -- the state with one more record: a session that compares the rows now with those of a partner's root
 abbrev pub opened : State → ℕ → List ℕ → State
-opened s partner root = record s { records = s.records ++ (record { partner = partner; session = started (rows_now s.store) root }) ∷ [] }
+opened s partner root = record s { records = s.records ++ (record { number = s.next_session; partner = partner; session = started (rows_now s.store) root }) ∷ []; next_session = s.next_session + 1 }
 
 -- the number of a new session with a partner's root, and the state with its record
 abbrev pub open_with : State → ℕ → List ℕ → Outcome ℕ State
 open_with s partner root = do
   crowd_fault (standings s.records)
   dirty_fault s.store
-  gives (length s.records) (opened s partner root)
+  gives s.next_session (opened s partner root)
 
 -- the number of a new session with a partner's offer, and the state with its record
 abbrev pub open_session : State → ℕ → Offer → Outcome ℕ State
@@ -56,27 +56,33 @@ open_session s partner offer = do
 
 -- ---- changing a record
 
--- the state with the session of a record at another point
+-- the state with the session of a record at a place at another point
 abbrev pub walked_to : State → ℕ → Record → Walk → State
-walked_to s id r w = record s { records = slice_set s.records id (record r { session = w }) }
+walked_to s place r w = record s { records = slice_set s.records place (record r { session = w }) }
 
--- the session of a record is cancelled, if there is one
+-- the session of a record at a place is cancelled, if there is one
 abbrev pub cancel_record : State → ℕ → Option Record → Outcome (Unit {0}) State
-cancel_record s id None = refuses refusals.UnknownSession
-cancel_record s id (Some r) = gives tt (walked_to s id r (cancelled_by r.session r.session.state))
+cancel_record s place None = refuses refusals.UnknownSession
+cancel_record s place (Some r) = gives tt (walked_to s place r (cancelled_by r.session r.session.state))
+
+abbrev pub cancel_at : State → ℕ → Outcome (Unit {0}) State
+cancel_at s place = cancel_record s place (slice_get s.records place)
 
 -- the session of that number is cancelled, if there is one
 abbrev pub cancel_session : State → ℕ → Outcome (Unit {0}) State
-cancel_session s id = cancel_record s id (slice_get s.records id)
+cancel_session s id = cancel_at s (place_of id s.records)
 
 -- the fault of a session without a record
 abbrev pub unknown_for : Option Record → Option Refusal
 unknown_for None = Some refusals.UnknownSession
 unknown_for (Some r) = None
 
--- the fault of a session of that number
+-- the fault of a place without a record, and of a number that no record has
+abbrev pub unknown_at : State → ℕ → Option Refusal
+unknown_at s place = unknown_for (slice_get s.records place)
+
 abbrev pub unknown_fault : State → ℕ → Option Refusal
-unknown_fault s id = unknown_for (slice_get s.records id)
+unknown_fault s id = unknown_for (record_of id s.records)
 
 -- ---- accepting the versions of a leaf
 
@@ -157,11 +163,14 @@ abbrev pub TakesText : State → ℕ → ℕ → Record → TakenText → Result
 TakesText s seat id r t (Ok a) new = (a.state ≡ (after r.session t).state) × (TakesInner s id r t a new ⊎ TakesLeaf s seat id r t a new)
 TakesText s seat id r t (Err e) new = Refuses s seat id r t e new
 
--- the result of a text for a session that may have no record: then nothing changes
+-- the result of a text for a session at a place, that may have no record: then nothing changes
 abbrev pub TakesFor : State → ℕ → ℕ → Option Record → TakenText → Result AnswerTaken Refusal → State → Type 0
 TakesFor s seat id (Some r) t result new = TakesText s seat id r t result new
 TakesFor s seat id None t result new = (result ≡ Err refusals.UnknownSession) × (new ≡ s)
 
+abbrev pub TakesAt : State → ℕ → ℕ → TakenText → Result AnswerTaken Refusal → State → Type 0
+TakesAt s seat place t result new = TakesFor s seat place (slice_get s.records place) t result new
+
 -- the result of a text for a session of that number, and the state afterwards
 abbrev pub TakesAnswer : State → ℕ → ℕ → TakenText → Result AnswerTaken Refusal → State → Type 0
-TakesAnswer s seat id t result new = TakesFor s seat id (slice_get s.records id) t result new
+TakesAnswer s seat id t result new = TakesAt s seat (place_of id s.records) t result new

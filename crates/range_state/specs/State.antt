@@ -10,6 +10,7 @@ use Rattle.version_set.specs.declared.version.Version.{Version}
 use Rattle.range_journal.specs.declared.journal.Entry.{Entry}
 use Rattle.range_journal.specs.declared.journal.Source.{Source}
 use Rattle.range_journal.specs.declared.journal.Source.TheVariants.{Partner}
+use Rattle.range_journal.specs.Copies.{IsSettled}
 use Rattle.row_bytes.specs.Rows.{AreRows}
 use Rattle.row_bytes.specs.declared.row.Row.{Row}
 use Rattle.tree_nodes.specs.Nodes.{Node, tree_depth}
@@ -26,19 +27,22 @@ use Rattle.range_store.specs.ContextTests as tests
 use Rattle.sync_session.specs.Walks.{Walk, TakenText}
 use Rattle.range_state.specs.declared.«record».Record.{Record}
 use Rattle.range_state.specs.declared.moment.Moment.{Moment}
-use Rattle.range_state.specs.Records.{IsKept, open_count}
+use Rattle.range_state.specs.Records.{IsKept, AreNumbered, open_count}
 
--- the store, the records of the sessions, each at the place of its number, the moment that is kept, if any, and the number
--- of entries at the last whole moment before it
+-- the store, the records of the sessions, in the order of their numbers, the moment that is kept, if any, the number of
+-- entries at the last whole moment before it, the number of the next session, and a number of first entries that have none
+-- of a partner
 pub record State : Type 0 where
   pub store : Store
   pub records : List Record
   pub moment : Option Moment
   pub whole_before : ℕ
+  pub next_session : ℕ
+  pub settled : ℕ
 
 -- a range that has accepted nothing
 abbrev pub fresh : Config → State
-fresh c = record { store = stores.fresh c; records = []; moment = None; whole_before = 0 }
+fresh c = record { store = stores.fresh c; records = []; moment = None; whole_before = 0; next_session = 0; settled = 0 }
 
 -- the state with another store
 abbrev pub with_store : State → Store → State
@@ -87,12 +91,14 @@ pub record IsMomentOf (s : Store) (m : Moment) : Type 0 where
   pub right : IsRangeTree m.tree
 
 -- the facts of each state: its store is sound, each record is right for the entries, there are at most 1,024 records, at
--- most 64 of their sessions are open, each version from a partner was in a text that a session took, and the moment is
--- one of the store
+-- most 64 of their sessions are open, their numbers ascend and are below the next one, each version from a partner was in a
+-- text that a session took, the first entries that are settled have none, and the moment is one of the store
 pub record IsRight (s : State) : Type 0 where
   pub store : IsSound s.store
   pub records : AllByRecursion (IsKept s.store.config s.store.entries) s.records
   pub few : length s.records ≤ 1024
   pub few_open : open_count s.records ≤ 64
+  pub numbers : AreNumbered s.next_session s.records
   pub partners : AllByRecursion (λ (e : Entry). e.source ≡ Partner → IsFromPartner s.records e) s.store.entries
+  pub settled : IsSettled s.settled s.store.entries
   pub moment : IfSome s.moment (IsMomentOf s.store)

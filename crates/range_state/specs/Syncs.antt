@@ -69,11 +69,12 @@ abbrev pub ended : Option Refusal → SessionState
 ended None = Finished
 ended (Some e) = Open
 
--- One record more: a session of the rows now with a partner that has these rows. Each text that it took is that of the
+-- One record more, of the next number: a session of the rows now with a partner that has these rows. Each text that it took is that of the
 -- partner; the nodes whose texts it took are the first ones that it asked, and the others are outstanding.
 pub record HasOneMore (s : State) (partner : ℕ) (other : RowMap) (new : List Record) : Type 0 where
   pub r : Record
   pub records : new ≡ s.records ++ r ∷ []
+  pub number_is : r.number ≡ s.next_session
   pub partner_is : r.partner ≡ partner
   pub own : r.session.own ≡ rows_now s.store
   pub root : r.session.root ≡ root_of other
@@ -90,6 +91,7 @@ HasAskedAll s partner other new = (more : HasOneMore s partner other new) × (mo
 pub record IsSyncedTo (s : State) (seat : ℕ) (other : RowMap) (new : State) (a : Synced) : Type 0 where
   pub store : new.store ≡ (synced s.store seat other).store
   pub sessions : standings new.records ≡ standings s.records ++ ended (synced s.store seat other).fault ∷ []
+  pub next : new.next_session ≡ s.next_session + 1
   pub accepted : length s.store.entries + a.accepted ≡ length new.store.entries
   pub known : a.known ≡ (synced s.store seat other).known
   pub asked : a.asked ≡ length (differ (rows_now s.store) other)
@@ -104,6 +106,7 @@ pub record IsPartWay (s : State) (seat partner : ℕ) (other : RowMap) (new : St
   pub fits : (taken_leaves s.store seat other 0 leaves).fault ≡ None
   pub store : new.store ≡ (taken_leaves s.store seat other 0 leaves).store
   pub session : HasOneMore s partner other new.records
+  pub next : new.next_session ≡ s.next_session + 1
 
 -- the first of some nodes, if any
 abbrev pub IsFirstOf : List Node → Option Node → Type 0

@@ -18,7 +18,8 @@ ghost use Rattle.sync_session.specs.declared.state.SessionState.TheVariants.{Ope
 ghost use Rattle.range_state.specs.declared.«record».Record.{Record};
 ghost use Rattle.range_state.specs.declared.event.Event.{Event};
 ghost use Rattle.range_state.specs.declared.event.Reply.{Reply};
-ghost use Rattle.range_state.specs.Records.{IsOver};
+ghost use Rattle.range_state.specs.Endings.{without_ended_sessions, if_open};
+ghost use Rattle.range_state.specs.Records.{IsOver, record_of};
 ghost use Rattle.range_state.specs.Run.{Run};
 ghost use Rattle.range_state.specs.State.{State, IsRight, IsFromPartner, rows_at};
 ghost use Rattle.range_state.specs.Sessions.{opened};
@@ -81,6 +82,18 @@ pub fn sessions_ask_where_the_trees_differ()
         → (¬ IsOver r.session) × IsNearlyDone r.session }
     ensures ended { (s : State) → IsRight s → (r : Record) → Contains s.records r
         → r.session.state ≢ Open → r.session.outstanding ≡ [] }
+{}
+
+/// A range without its ended sessions holds the same, so the versions that their partners had are held still. A number
+/// names an open session as before, and no ended one.
+pub fn ranges_without_ended_sessions_hold_the_same()
+    ensures held { (s : State) (key : List ℕ) → held (without_ended_sessions s).store.entries key ≡ held s.store.entries key }
+    ensures rows { (s : State) → rows_now (without_ended_sessions s).store ≡ rows_now s.store }
+    ensures numbers { (s : State) → IsRight s → (id : ℕ)
+        → record_of id (without_ended_sessions s).records ≡ if_open (record_of id s.records) }
+    ensures finished { (s : State) → IsRight s → (r : Record) → Contains s.records r → r.session.state ≡ Finished
+        → (other : RowMap) → IsPartners r.session other → NoTwoShareADigest r.session.own other r.session.taken
+        → Held other.rows (held (without_ended_sessions s).store.entries) }
 {}
 
 /// Offering the members of one set to another, one by one, makes the maximal versions of both, and the union is equal

@@ -3,18 +3,27 @@ ghost use Rattle.std.specs.Prelude.{◌≡◌};
 
 use sync_session::Session;
 
-/// A session of a range, and its partner. Its number is its place among the records, from 0. Records are never removed,
-/// so the texts that a session compared and took can be looked up later.
+/// A session of a range, with its number and its partner. A range gives its sessions the numbers from 0 on, and gives
+/// none twice. It keeps each record, so the texts that a session compared and took can be looked up later, until
+/// `drop_ended_sessions`.
 ///
 /// ```
 /// Ok(record(state, id)?.session().state())
 /// ```
 pub struct Record {
+    pub(crate) number: u64,
     pub(crate) partner: u16,
     pub(crate) session: Session,
 }
 
 impl Record {
+    /// The number of the session.
+    pub fn number(&self) -> u64
+        ensures { result ≡ self.now.number }
+    {
+        self.number
+    }
+
     /// The number of the partner.
     pub fn partner(&self) -> u16
         ensures { result ≡ self.now.partner }
@@ -34,6 +43,7 @@ impl Drop for Record {
     /// Keeps the fields out of the proofs of callers that drop a record.
     fn drop(self) {
         let Record {
+            number: _number,
             partner: _partner,
             session: _session,
         } = self;

@@ -20,6 +20,7 @@ use version_set::{Kind, Version, VersionSet};
 
 mod answers;
 pub mod counts;
+mod endings;
 mod judgement;
 mod loading;
 mod migration;
@@ -51,6 +52,10 @@ pub struct RangeState {
     /// The number of entries at the last moment before that was whole: that had a digest at each node. 0 if there was
     /// none.
     whole_before: u64,
+    /// The number of the next session: no session had it.
+    next_session: u64,
+    /// The number of the journal's first entries that are known to have none of a partner.
+    settled: u64,
 }
 
 impl Model for RangeState {
@@ -80,6 +85,8 @@ impl RangeState {
             records: Vec::new(alloc),
             moment: None,
             whole_before: 0,
+            next_session: 0,
+            settled: 0,
         })
     }
 
@@ -216,6 +223,8 @@ impl Drop for RangeState {
             records: _records,
             moment: _moment,
             whole_before: _whole_before,
+            next_session: _next_session,
+            settled: _settled,
         } = self;
     }
 }

@@ -8,6 +8,7 @@ pub mod HeldLaws
 pub mod SameRowLaws
 pub mod TakenLaws
 pub mod ChangeLaws
+pub mod CopyLaws
 pub mod LoadLaws
 pub mod MigrateLaws
 pub mod RenewLaws

@@ -1,4 +1,5 @@
 pub mod Config
+pub mod Copies
 pub mod Rows
 pub mod Store
 pub mod TableRows

@@ -31,6 +31,7 @@ use vclock::{Bytes, Clock, ClockOrder, Format, Refusal, check_key};
 use version_set::{Held, Kind, Version, VersionSet};
 
 pub mod batch;
+mod copies;
 mod format_loading;
 pub mod loading;
 mod migration;

@@ -1,5 +1,5 @@
 -- What a pass gains by a partner's text, and why a sync worker is refused.
-use Rattle.std.proofs.Common.{◌≡◌, inl, inr, ℕ, ◌+◌, ◌-◌, ◌≤◌, List, length, Option, Some, None, Result, Ok, Err, sym, ap, subst, ◌∙◌, arith, length-append, slice_get}
+use Rattle.std.proofs.Common.{◌≡◌, inl, inr, ℕ, ◌+◌, ◌-◌, ◌≤◌, List, length, Option, Some, None, Result, Ok, Err, sym, ap, subst, ◌∙◌, arith, length-append}
 use Rattle.std.specs.Prelude.{IfOk, IfErr, OnErr}
 use Rattle.std.specs.List.{AllByRecursion}
 use Rattle.std.proofs.lemmas.List.{append_cancel_left}
@@ -13,6 +13,7 @@ use Rattle.sync_session.specs.Walks.{TakenText}
 use Rattle.range_state.specs.declared.«record».Record.{Record}
 use Rattle.range_state.specs.declared.event.AnswerTaken.{AnswerTaken}
 use Rattle.range_state.specs.declared.event.AnswerCounted.{AnswerCounted}
+use Rattle.range_state.specs.Records.{place_of, record_of}
 use Rattle.range_state.specs.State.{State}
 use Rattle.range_store.specs.Offers.{offers_of}
 use Rattle.range_state.specs.Sessions.{taken_in, Refuses, TakesInner, TakesLeaf, TakesFor}
@@ -58,7 +59,7 @@ gains_kept l m p q id t a is =
     let es = is.taken.receipts.items in
     let count : a.receipts ≡ length es = ap (λ (x : AnswerCounted). x.receipts) is.count in
     let pass : q ≡ with_receipts p (length m.state.store.entries) es = is.pass in
-    let brought = by_text l.state p.seat id t is.taken m.state (slice_get l.state.records id) is.takes in
+    let brought = by_text l.state p.seat (place_of id l.state.records) t is.taken m.state (record_of id l.state.records) is.takes in
     let seen : q.seen ≡ seen_after p.seen (length m.state.store.entries) (length es) = ap (λ (x : PassView). x.seen) pass in
     record {
       gained = es;
@@ -96,7 +97,7 @@ pub record TextTells (p q : PassView) (r : Result AnswerCounted Refusal) : Type 
 
 pub text_tells : (l m : Locked) (p q : PassView) (id : ℕ) (t : TakenText) (r : Result AnswerCounted Refusal) → TellsAnswer l p id t r m q → TextTells p q r
 text_tells l m p q id t (Ok a) is = let all = gains_kept l m p q id t a is in record { gains = all; same = tt; some = (a.receipts, all); refusal = tt }
-text_tells l m p q id t (Err e) is = record { gains = tt; same = is.2; some = some_same p q Partner is.2; refusal = refused_for l.state p.seat id t e m.state (slice_get l.state.records id) is.0 }
+text_tells l m p q id t (Err e) is = record { gains = tt; same = is.2; some = some_same p q Partner is.2; refusal = refused_for l.state p.seat (place_of id l.state.records) t e m.state (record_of id l.state.records) is.0 }
 
 -- ---- which refusals do not say that the link failed
 

@@ -1,5 +1,5 @@
 -- Sync workers: their refusals and their reports.
-use Rattle.std.specs.Prelude.{◌≡◌, ◌≢◌, ℕ, length, slice_get, List, Option, Some, None, MatchOption}
+use Rattle.std.specs.Prelude.{◌≡◌, ◌≢◌, ℕ, length, List, Option, Some, None, MatchOption}
 use Rattle.vclock.specs.Outcome.{gives, through}
 use Rattle.vclock.specs.declared.refusal.Refusal.{Refusal}
 use Rattle.vclock.specs.declared.refusal.Refusal.TheVariants.{Crowded, JournalFull, OtherRange, Dirty, UnknownSession, NotAsked, WrongDigest, NotCanonical, OtherFormat, SessionsFull, Gone, LinkLost, BadMessage, NoMemory}
@@ -7,6 +7,7 @@ use Rattle.tree_nodes.specs.Nodes.{Node}
 use Rattle.sync_session.specs.declared.state.SessionState.{SessionState}
 use Rattle.sync_session.specs.declared.state.SessionState.TheVariants.{Open}
 use Rattle.walk_messages.specs.declared.message.Offer.{Offer}
+use Rattle.range_state.specs.Records.{record_of}
 use Rattle.range_state.specs.Sessions.{open_session}
 use Rattle.range_state.specs.Moments.{opening}
 use Rattle.range_state.specs.Syncs.{IsFirstOf}
@@ -70,11 +71,11 @@ IsOpeningBy rows id partner before after = (offer : Offer) × (through (moved be
 -- some records have one of that number in this state, with this number of nodes asked, and it is not open
 pub record IsEndIn (records : List Record) (id : ℕ) (state : SessionState) (asked : ℕ) : Type 0 where
   pub r : Record
-  pub there : slice_get records id ≡ Some r
+  pub there : record_of id records ≡ Some r
   pub state_is : r.session.state ≡ state
   pub asked_is : length r.session.asked ≡ asked
   pub over : state ≢ Open
 
 -- the first outstanding node of the session of that number, if there is such a session, and it has one
 abbrev pub IsNextOrNone : List Record → ℕ → Option Node → Type 0
-IsNextOrNone records id first = MatchOption (slice_get records id) (first ≡ None) (λ r. IsFirstOf r.session.outstanding first)
+IsNextOrNone records id first = MatchOption (record_of id records) (first ≡ None) (λ r. IsFirstOf r.session.outstanding first)

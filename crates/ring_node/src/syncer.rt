@@ -1,8 +1,9 @@
 //! Workers that fetch the versions that a partner has and a range lacks.
-ghost use Rattle.std.specs.Prelude.{◌≡◌, ◌⊎◌, ◌+◌, ◌<◌, ◌≤◌, None, IfOk, IfErr, IfSome, OnErr, MatchOption, slice_get};
+ghost use Rattle.std.specs.Prelude.{◌≡◌, ◌⊎◌, ◌+◌, ◌<◌, ◌≤◌, None, IfOk, IfErr, IfSome, OnErr, MatchOption};
 ghost use Rattle.vclock.specs.Answer.{AnswersAtOnce};
 ghost use Rattle.vclock.specs.Outcome.{Does, through};
 ghost use Rattle.range_journal.specs.declared.journal.Source.{Source};
+ghost use Rattle.range_state.specs.Records.{record_of};
 ghost use Rattle.range_state.specs.Sessions.{open_session, unknown_fault};
 ghost use Rattle.range_state.specs.Moments.{open_at_moment, opening};
 ghost use Rattle.range_state.specs.Syncs.{IsFirstOf};
@@ -290,7 +291,7 @@ impl<L: Ledger> SharedRange<L> {
         ensures refusal { IfErr result (λ e. e ≡ Refusal.UnknownSession) }
         ensures moment { FoundAtSomeMoment (IsLocked L.parts) (λ locked.
             AnswersAtOnce result (unknown_fault locked.state id) (λ first.
-            MatchOption (slice_get locked.state.records id) ⊥ (λ r. IsFirstOf r.session.outstanding first))) }
+            MatchOption (record_of id locked.state.records) ⊥ (λ r. IsFirstOf r.session.outstanding first))) }
     {
         let range = self.range.lock(rt);
         // Called for its clause `valid` alone: the range is right.
@@ -337,8 +338,7 @@ impl<L: Ledger> SharedRange<L> {
         range.cancel_session(id)?;
         // Called for its clause `valid` alone: the range is right.
         let _valid = range.store();
-        let record = range.records().get(id as usize);
-        let session = record.ok_or(Refusal::UnknownSession)?.session();
+        let session = range.record(id)?.session();
         Ok(End {
             state: session.state(),
             asked: session.asked().len() as u64,

@@ -3,6 +3,7 @@ use crate::calls::{
     abc, clean_range, count_held, hashed_at, new_range, offer, open_session, put, put_a,
     range_of_a, rehash, root_of, snapshot, snapshot_of_a, take_answer, text_at,
 };
+use range_journal::Source;
 use range_state::{AnswerTaken, RangeCounts, RangeState, Record};
 use snapshot::Snapshot;
 use std::alloc::Global;
@@ -236,6 +237,38 @@ fn a_session_takes_true_texts_once_up_to_the_partners_version(rt: HostRuntime) -
     let alloc = rt.alloc();
     let partner = snapshot_of_a(&rt, alloc)?;
     expect_true_texts(&rt, alloc, &mut clean_range(&rt, alloc)?, &partner)
+}
+
+/// Asserts that a range whose session 0 has ended, and brought its first entry, keeps an open session alone when the ended
+/// ones are dropped, with its number, and that the numbers go on.
+fn expect_one_kept(alloc: Global, state: &mut RangeState) -> Result<(), Fail> {
+    let open = open_session(alloc, state, offer([7; 32]))?;
+    state.drop_ended_sessions();
+    expect(
+        state.records().len() == 1 && state.record(open)?.session().state() == SessionState::Open,
+        "the open session is kept",
+    )?;
+    expect_refused(
+        state.cancel_session(0),
+        Refusal::UnknownSession,
+        "the ended session has no record",
+    )?;
+    let entry = state.journal().get(0).ok_or("no entry 0")?;
+    expect(
+        entry.source == Source::Copy,
+        "the partner's entry is a copy",
+    )?;
+    let next = open_session(alloc, state, offer([7; 32]))?;
+    expect(next == open + 1, "the numbers go on")
+}
+
+#[test]
+fn ended_sessions_are_dropped(rt: HostRuntime) -> Result<(), Fail> {
+    let alloc = rt.alloc();
+    let partner = snapshot_of_a(&rt, alloc)?;
+    let mut state = clean_range(&rt, alloc)?;
+    expect_true_texts(&rt, alloc, &mut state, &partner)?;
+    expect_one_kept(alloc, &mut state)
 }
 
 /// Asserts that the text `abc` of its root fails the first session, which then no longer asks for the root.

@@ -3,7 +3,7 @@ ghost use Rattle.std.specs.Prelude.{ℕ, ◌≡◌, ◌+◌, ◌≤◌, ◌⊎�
 ghost use Rattle.std.specs.Vec.{vec_len, vec_capacity};
 ghost use Rattle.sync_session.specs.Steps.{failed, IsDue};
 ghost use Rattle.sync_session.specs.Walks.{TakenText, IsCanonical};
-ghost use Rattle.range_state.specs.Sessions.{walked_to, IsInnerRead, IsNewsRead, TakesAnswer};
+ghost use Rattle.range_state.specs.Sessions.{walked_to, IsInnerRead, IsNewsRead, TakesAt, TakesAnswer};
 
 use crate::event::AnswerTaken;
 use crate::state::RangeState;
@@ -36,37 +36,53 @@ impl RangeState {
         ensures { TakesAnswer self.old seat id
             (record { node = node; text = text }) result self.new }
     {
-        let mut list = Vec::new(alloc);
-        self.take_answer_beside(alloc, &mut list, seat, id, node, text)
+        let place = self.place(id);
+        self.take_answer_at(alloc, seat, place, node, text)
     }
 
-    /// Takes a text as `take_answer` does, and makes room for the receipts in a list that isn't empty.
+    /// Takes a text as `take_answer` does, for the session at a place among the records.
+    pub(super) fn take_answer_at(
+        &mut self,
+        alloc: Global,
+        seat: u16,
+        place: usize,
+        node: NodeAt,
+        text: Hashed,
+    ) -> Result<AnswerTaken, Refusal>
+        ensures { TakesAt self.old seat place
+            (record { node = node; text = text }) result self.new }
+    {
+        let mut list = Vec::new(alloc);
+        self.take_answer_beside(alloc, &mut list, seat, place, node, text)
+    }
+
+    /// Takes a text as `take_answer_at` does, and makes room for the receipts in a list that isn't empty.
     pub(super) fn take_answer_beside(
         &mut self,
         alloc: Global,
         list: &mut Vec<Receipt>,
         seat: u16,
-        id: u64,
+        place: usize,
         node: NodeAt,
         text: Hashed,
     ) -> Result<AnswerTaken, Refusal>
-        ensures answers { TakesAnswer self.old seat id
+        ensures answers { TakesAt self.old seat place
             (record { node = node; text = text }) result self.new }
         ensures same { list.new.items ≡ list.old.items }
         ensures room { IfOk result (λ taken. (list.new.items ≡ [])
             ⊎ (vec_len list.new + vec_len taken.receipts ≤ vec_capacity list.new)) }
     {
-        let kept = self.record(id)?;
+        let kept = self.record_at(place)?;
         match self.news_of(alloc, kept, node, &text) {
             Ok(news) => {
                 if node.depth == tree_depth(self.store.config().format()) {
-                    self.take_leaf(alloc, list, seat, id, node, text, &news)
+                    self.take_leaf(alloc, list, seat, place, node, text, &news)
                 } else {
-                    self.take_inner(alloc, id, node, text)
+                    self.take_inner(alloc, place, node, text)
                 }
             }
             Err(Refusal::NotCanonical) => {
-                self.fail_session(id);
+                self.fail_session(place);
                 Err(Refusal::NotCanonical)
             }
             Err(refusal) => Err(refusal),
@@ -77,17 +93,17 @@ impl RangeState {
     fn take_inner(
         &mut self,
         alloc: Global,
-        id: u64,
+        place: usize,
         node: NodeAt,
         text: Hashed,
     ) -> Result<AnswerTaken, Refusal>
-        requires { MatchOption (slice_get self.old.records id) ⊥
+        requires { MatchOption (slice_get self.old.records place) ⊥
             (λ r. IsInnerRead self.old r (record { node = node; text = text })) }
-        ensures answers { (seat : ℕ) → TakesAnswer self.old seat id
+        ensures answers { (seat : ℕ) → TakesAt self.old seat place
             (record { node = node; text = text }) result self.new }
         ensures none { IfOk result (λ taken. vec_len taken.receipts ≡ 0) }
     {
-        let session = &mut self.records[id as usize].session;
+        let session = &mut self.records[place].session;
         session.take_inner(alloc, node, text)?;
         Ok(AnswerTaken {
             receipts: Vec::new(alloc),
@@ -103,14 +119,14 @@ impl RangeState {
         alloc: Global,
         list: &mut Vec<Receipt>,
         seat: u16,
-        id: u64,
+        place: usize,
         node: NodeAt,
         text: Hashed,
         news: &News,
     ) -> Result<AnswerTaken, Refusal>
-        requires { MatchOption (slice_get self.old.records id) ⊥
+        requires { MatchOption (slice_get self.old.records place) ⊥
             (λ r. IsNewsRead self.old r (record { node = node; text = text }) news.now) }
-        ensures answers { TakesAnswer self.old seat id
+        ensures answers { TakesAt self.old seat place
             (record { node = node; text = text }) result self.new }
         ensures same { list.new.items ≡ list.old.items }
         ensures room { IfOk result (λ taken. (list.new.items ≡ [])
@@ -124,7 +140,7 @@ impl RangeState {
             .prepare(alloc, seat, Source::Partner, leaf, &news.rows)?;
         let receipts = receipts_beside(alloc, list, batch.entries())?;
         let loaded = self.store.accept_batch(alloc, leaf, batch)?;
-        let session = &mut self.records[id as usize].session;
+        let session = &mut self.records[place].session;
         session.take_leaf(node, text);
         Ok(AnswerTaken {
             receipts,
@@ -134,12 +150,12 @@ impl RangeState {
     }
 
     /// Makes a session fail by a text that it awaits and that the node can't have.
-    fn fail_session(&mut self, id: u64)
-        requires { MatchOption (slice_get self.old.records id) ⊥
+    fn fail_session(&mut self, place: usize)
+        requires { MatchOption (slice_get self.old.records place) ⊥
             (λ r. (t : TakenText) × IsDue r.session t × (IsCanonical r.session.own t.node t.text → ⊥)) }
-        ensures { MatchOption (slice_get self.old.records id) ⊥
-            (λ r. self.new ≡ walked_to self.old id r (failed r.session)) }
+        ensures { MatchOption (slice_get self.old.records place) ⊥
+            (λ r. self.new ≡ walked_to self.old place r (failed r.session)) }
     {
-        self.records[id as usize].session.fail();
+        self.records[place].session.fail();
     }
 }

@@ -11,6 +11,7 @@ use crate::moment::Moment;
 use crate::record::Record;
 use crate::state::RangeState;
 use crate::state::sessions::check_crowd;
+use crate::state::sync::sum;
 use rehash::Job;
 use snapshot::Snapshot;
 use std::alloc::Global;
@@ -127,11 +128,12 @@ impl RangeState {
     }
 
     /// Opens a session with a partner's offer: the rows of the moment are compared with those under the offered root,
-    /// so it may ask for leaves that differ only because the range has gone on. Returns the number of the session, from
-    /// 0.
+    /// so it may ask for leaves that differ only because the range has gone on. Returns the number of the session: one
+    /// more than the last, from 0.
     ///
     /// Refused, in order: OtherFormat, OtherRange, SessionsFull (64 sessions are open, or there are 1,024 records),
-    /// Dirty (there is no moment, or some node of it has no digest), NoMemory. On error the state is unchanged.
+    /// Dirty (there is no moment, or some node of it has no digest), NoMemory (also if the number would be 2^64 - 1). On
+    /// error the state is unchanged.
     pub fn open_session_at_moment(
         &mut self,
         alloc: Global,
@@ -144,8 +146,14 @@ impl RangeState {
         check_crowd(&self.records)?;
         let own = self.moment(alloc)?;
         let session = Session::start(alloc, own, offer.root)?;
-        let id = self.records.len() as u64;
-        self.records.push(Record { partner, session })?;
-        Ok(id)
+        let number = self.next_session;
+        let next = sum(number, 1)?;
+        self.records.push(Record {
+            number,
+            partner,
+            session,
+        })?;
+        self.next_session = next;
+        Ok(number)
     }
 }

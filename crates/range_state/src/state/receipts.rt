@@ -82,11 +82,12 @@ impl RangeState {
     ) -> Result<AnswerCounted, Refusal>
         ensures { CountsAnswer self.old seat id (record { node = node; text = text }) result self.new receipts.old.items receipts.new.items }
     {
+        let place = self.place(id);
         let AnswerTaken {
             receipts: added,
             known,
             state,
-        } = self.take_answer_beside(alloc, receipts, seat, id, node, text)?;
+        } = self.take_answer_beside(alloc, receipts, seat, place, node, text)?;
         let count = added.len() as u64;
         move_to(receipts, added);
         Ok(AnswerCounted {

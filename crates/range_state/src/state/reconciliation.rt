@@ -116,18 +116,18 @@ impl RangeState {
             (λ report. HasCaughtUp self.old seat partner other.now report.asked report.accepted self.new)
             (λ e. HasStopped self.old seat partner other.now e self.new) }
     {
-        let id = self.records.len() as u64;
+        let place = self.records.len();
         match self.sync_with(alloc, seat, partner, other) {
             Ok(synced) => match synced.fault {
                 None => Ok(synced),
                 Some(refusal) => {
-                    let _cancelled = self.cancel_session(id);
+                    let _cancelled = self.cancel_at(place);
                     Err(refusal)
                 }
             },
             Err(refusal) => {
                 // If the session was not opened, there is nothing to cancel.
-                let _cancelled = self.cancel_session(id);
+                let _cancelled = self.cancel_at(place);
                 Err(refusal)
             }
         }

@@ -11,7 +11,7 @@ use vclock::Refusal;
 impl RangeState {
     /// Makes a new range that begins with the versions that this one holds: each is an entry, as a copy by the seat,
     /// leaf by leaf, row by row and version by version, numbered from 0. The new range has this one's configuration
-    /// with another limit, its rows and its digests, no session and no moment. It shares the leaves, so no row is
+    /// with another limit, its rows and its digests, no session and no moment; its sessions' numbers go on. It shares the leaves, so no row is
     /// copied. This range is unchanged.
     ///
     /// Refused, in order: BadRing (the limit isn't 1 to 1,000,000), JournalFull (more versions are held than the
@@ -24,6 +24,8 @@ impl RangeState {
             records: Vec::new(alloc),
             moment: None,
             whole_before: 0,
+            next_session: self.next_session,
+            settled: 0,
         })
     }
 }

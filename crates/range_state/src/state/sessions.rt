@@ -1,14 +1,16 @@
 //! Sessions of a range with its partners.
-ghost use Rattle.std.specs.Prelude.{◌≡◌, ⊤, Some, slice_get, MatchOption};
+ghost use Rattle.std.specs.Prelude.{◌≡◌, ◌<◌, ⊤, Some, slice_get, MatchOption};
+ghost use Rattle.version_set.specs.Order.{Pairwise};
 ghost use Rattle.vclock.specs.Answer.{AnswersAtOnce};
 ghost use Rattle.vclock.specs.Outcome.{Does, DoesAtOnce};
 ghost use Rattle.range_state.specs.State.{IsRight};
-ghost use Rattle.range_state.specs.Records.{is_open, open_count};
-ghost use Rattle.range_state.specs.Sessions.{foreign_fault, standings, crowd_fault, unknown_fault, open_with, open_session, cancel_session};
+ghost use Rattle.range_state.specs.Records.{is_open, open_count, place_of, record_of};
+ghost use Rattle.range_state.specs.Sessions.{foreign_fault, standings, crowd_fault, unknown_at, unknown_fault, open_with, open_session, cancel_at, cancel_session};
 ghost use Rattle.range_state.specs.Syncs.{IsFirstOf};
 
 use crate::record::Record;
 use crate::state::RangeState;
+use crate::state::sync::sum;
 use std::alloc::Global;
 use sync_session::{Session, SessionState};
 use tree_nodes::{Digest, NodeAt};
@@ -17,7 +19,7 @@ use vclock::limits::{OPEN_SESSIONS_MAX, SESSIONS_MAX};
 use walk_messages::Offer;
 
 impl RangeState {
-    /// The records of all sessions, in the order of their numbers. Doesn't allocate.
+    /// The records of the sessions, in the order of their numbers. Doesn't allocate.
     pub fn records(&self) -> &[Record]
         ensures all { result.now ≡ self.now.records }
         ensures valid { IsRight self.now }
@@ -33,10 +35,11 @@ impl RangeState {
     }
 
     /// Opens a session with a partner's offer: the rows now are compared with those under the offered root. Returns the
-    /// number of the session, from 0.
+    /// number of the session: one more than the last, from 0.
     ///
     /// Refused, in order: OtherFormat, OtherRange, SessionsFull (64 sessions are open, or there are 1,024 records),
-    /// Dirty (some node of the local tree has no digest), NoMemory. On error the state is unchanged.
+    /// Dirty (some node of the local tree has no digest), NoMemory (also if the number would be 2^64 - 1). On error the
+    /// state is unchanged.
     pub fn open_session(
         &mut self,
         alloc: Global,
@@ -62,9 +65,15 @@ impl RangeState {
         check_crowd(&self.records)?;
         let own = self.store.kept_snapshot(alloc)?;
         let session = Session::start(alloc, own, root)?;
-        let id = self.records.len() as u64;
-        self.records.push(Record { partner, session })?;
-        Ok(id)
+        let number = self.next_session;
+        let next = sum(number, 1)?;
+        self.records.push(Record {
+            number,
+            partner,
+            session,
+        })?;
+        self.next_session = next;
+        Ok(number)
     }
 
     /// Cancels a session that is open; a session that has ended is unchanged. Doesn't allocate. Refused: UnknownSession
@@ -72,10 +81,18 @@ impl RangeState {
     pub fn cancel_session(&mut self, id: u64) -> Result<(), Refusal>
         ensures { DoesAtOnce result self.old self.new (cancel_session self.old id) }
     {
-        if id >= self.records.len() as u64 {
+        let place = self.place(id);
+        self.cancel_at(place)
+    }
+
+    /// Cancels the session at a place among the records. Refused: UnknownSession (there is no such place).
+    pub(super) fn cancel_at(&mut self, place: usize) -> Result<(), Refusal>
+        ensures { DoesAtOnce result self.old self.new (cancel_at self.old place) }
+    {
+        if place >= self.records.len() {
             return Err(Refusal::UnknownSession);
         }
-        self.records[id as usize].session.cancel();
+        self.records[place].session.cancel();
         Ok(())
     }
 
@@ -83,20 +100,52 @@ impl RangeState {
     /// of that number).
     pub fn outstanding(&self, id: u64) -> Result<Option<NodeAt>, Refusal>
         ensures first { AnswersAtOnce result (unknown_fault self.now id)
-            (λ first. MatchOption (slice_get self.now.records id) ⊥
+            (λ first. MatchOption (record_of id self.now.records) ⊥
             (λ r. IsFirstOf r.session.outstanding first)) }
         ensures valid { IsRight self.now }
     {
-        Ok(self.record(id)?.session.outstanding().first().copied())
+        self.outstanding_at(self.place(id))
     }
 
-    /// Returns the record of a session. Refused: UnknownSession (there is no record of that number).
-    pub(super) fn record(&self, id: u64) -> Result<&Record, Refusal>
-        ensures found { AnswersAtOnce result (unknown_fault self.now id)
-            (λ r. slice_get self.now.records id ≡ Some r.now) }
+    /// The first outstanding node of the session at a place, if any.
+    pub(super) fn outstanding_at(&self, place: usize) -> Result<Option<NodeAt>, Refusal>
+        ensures first { AnswersAtOnce result (unknown_at self.now place)
+            (λ first. MatchOption (slice_get self.now.records place) ⊥
+            (λ r. IsFirstOf r.session.outstanding first)) }
         ensures valid { IsRight self.now }
     {
-        self.records.get(id as usize).ok_or(Refusal::UnknownSession)
+        Ok(
+            self.record_at(place)?
+                .session
+                .outstanding()
+                .first()
+                .copied(),
+        )
+    }
+
+    /// Returns the record of a session. Doesn't allocate. Refused: UnknownSession (there is no record of that number).
+    pub fn record(&self, id: u64) -> Result<&Record, Refusal>
+        ensures found { AnswersAtOnce result (unknown_fault self.now id)
+            (λ r. record_of id self.now.records ≡ Some r.now) }
+        ensures valid { IsRight self.now }
+    {
+        self.record_at(self.place(id))
+    }
+
+    /// Returns the record at a place. Refused: UnknownSession (there is no such place).
+    pub(super) fn record_at(&self, place: usize) -> Result<&Record, Refusal>
+        ensures found { AnswersAtOnce result (unknown_at self.now place)
+            (λ r. slice_get self.now.records place ≡ Some r.now) }
+        ensures valid { IsRight self.now }
+    {
+        self.records.get(place).ok_or(Refusal::UnknownSession)
+    }
+
+    /// Returns the place of a session's record: the number of records if there is none.
+    pub(super) fn place(&self, id: u64) -> usize
+        ensures { result ≡ place_of id self.now.records }
+    {
+        place_in(&self.records, id)
     }
 
     /// Tests that an offer is of this range, in its format.
@@ -123,6 +172,16 @@ pub(super) fn check_crowd(records: &[Record]) -> Result<(), Refusal>
     Ok(())
 }
 
+/// Returns the place of the record with a number: the number of records if there is none. Their numbers ascend.
+fn place_in(records: &[Record], id: u64) -> usize
+    requires { Pairwise (λ r s. r.number < s.number) records.now }
+    ensures { result ≡ place_of id records.now }
+{
+    records
+        .binary_search_by_key(&id, |record| record.number)
+        .unwrap_or(records.len())
+}
+
 /// Counts the open sessions.
 fn open_count(records: &[Record]) -> usize
     ensures { result ≡ open_count records.now }
@@ -138,7 +197,7 @@ fn open_count(records: &[Record]) -> usize
 
 /// Returns true if a session can still take texts.
 #[tactic(auto, unfolding(crate::specs::Records::is_open))]
-fn is_open(kept: &Record) -> bool
+pub(super) fn is_open(kept: &Record) -> bool
     ensures { result ≡ is_open kept.now }
 {
     match kept.session.state() {

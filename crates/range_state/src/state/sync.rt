@@ -4,7 +4,7 @@ ghost use Rattle.vclock.specs.Answer.{Answers, AnswersOrNoMemory, first_fault};
 ghost use Rattle.tree_nodes.specs.Nodes.{tree_depth};
 ghost use Rattle.sync_session.specs.TreeNodes.{text_of};
 ghost use Rattle.range_store.specs.Store.{dirty_fault};
-ghost use Rattle.range_state.specs.Sessions.{standings, crowd_fault, unknown_fault, TakesFor};
+ghost use Rattle.range_state.specs.Sessions.{standings, crowd_fault, unknown_at, TakesAt};
 ghost use Rattle.range_state.specs.Syncs.{IsOfRange, HasAskedAll, IsSyncedTo, IsPartWay};
 
 use crate::event::AnswerTaken;
@@ -54,46 +54,47 @@ impl RangeState {
         // Called for its clause alone: the rows have a tree.
         let _format = other.format();
         let before = self.store.journal().len();
-        let id = self.open_with(alloc, partner, other.root())?;
+        let place = self.records.len();
+        self.open_with(alloc, partner, other.root())?;
         let mut known = 0;
-        while let Some(node) = self.outstanding(id)? {
-            match self.answer_from(alloc, seat, id, node, other) {
+        while let Some(node) = self.outstanding_at(place)? {
+            match self.answer_from(alloc, seat, place, node, other) {
                 Ok(taken) => known = sum(known, taken.known)?,
                 Err(Refusal::NoMemory) => return Err(Refusal::NoMemory),
-                Err(fault) => return Ok(self.synced(before, id, known, Some(fault))),
+                Err(fault) => return Ok(self.synced(before, place, known, Some(fault))),
             }
         }
-        Ok(self.synced(before, id, known, None))
+        Ok(self.synced(before, place, known, None))
     }
 
-    /// Answers a node of a session from a snapshot.
+    /// Answers a node of the session at a place from a snapshot.
     fn answer_from(
         &mut self,
         alloc: Global,
         seat: u16,
-        id: u64,
+        place: usize,
         node: NodeAt,
         other: &Snapshot,
     ) -> Result<AnswerTaken, Refusal>
         requires { node.depth ≤ tree_depth other.now.format }
         ensures { ((result ≡ Err Refusal.NoMemory) × (self.new ≡ self.old))
-            ⊎ TakesFor self.old seat id (slice_get self.old.records id)
+            ⊎ TakesAt self.old seat place
             (record { node = node; text = text_of other.now node }) result self.new }
     {
         let text = other.hashed_answer(alloc, Ask { offer: 0, node })?;
-        self.take_answer(alloc, seat, id, node, text)
+        self.take_answer_at(alloc, seat, place, node, text)
     }
 
-    /// Makes the report of a session that has a record.
-    fn synced(&self, before: u64, id: u64, known: u64, fault: Option<Refusal>) -> Synced
+    /// Makes the report of the session at a place.
+    fn synced(&self, before: u64, place: usize, known: u64, fault: Option<Refusal>) -> Synced
         requires before { before ≤ length self.now.store.entries }
-        requires id { unknown_fault self.now id ≡ None }
+        requires there { unknown_at self.now place ≡ None }
         ensures accepted { before + result.accepted ≡ length self.now.store.entries }
         ensures known { result.known ≡ known }
-        ensures asked { MatchOption (slice_get self.now.records id) ⊥ (λ r. result.asked ≡ length r.session.asked) }
+        ensures asked { MatchOption (slice_get self.now.records place) ⊥ (λ r. result.asked ≡ length r.session.asked) }
         ensures fault { result.fault ≡ fault }
     {
-        let session = &self.record(id).unwrap().session;
+        let session = &self.record_at(place).unwrap().session;
         Synced {
             accepted: self.store.journal().len() - before,
             known,

@@ -1,7 +1,7 @@
 use Rattle.std.proofs.Common.{rules, ◌+◌, length, sym, ap, ◌∙◌, inr, arith, refl}
 use Rattle.std.specs.Prelude.{Result, Ok, Err, OnErr}
 use Rattle.range_state.specs.State.{State}
-use Rattle.range_state.specs.Sessions.{unknown_fault}
+use Rattle.range_state.specs.Sessions.{unknown_at}
 use Rattle.range_state.proofs.SyncLaws.{IsNext, IsDone, open_ok, begun, known_session, next_is, done_is, is_shown, shallow, fewer_left, answered, stopped, finished, refused_at, all_asked, all_asked_at, stopped_before, stopped_after}
 use Rattle.range_state.proofs.state.RangeState.sync_with.Goals as goal
 use Rattle.range_state.proofs.state.RangeState.sync_with.Goals.{In-Some, In_default}
@@ -12,12 +12,12 @@ on_err (Err e) P p = p
 
 pub loop-node-init : goal.loop-node-init
 loop-node-init c =
-    let opened = open_ok c.args.self.now _ c.args.partner _ c.root.result c.in_ok-id.ensures in
-    let begin = begun c.args.self.now c.open_with.new.self c.args.seat c.args.partner c.root.result c.args.other.now c.root.ensures opened.1 in
+    let opened = open_ok c.args.self.now c.open_with.new.self c.args.partner c.in_ok-open_with.field-0 c.root.result c.in_ok-open_with.ensures in
+    let begin = begun c.args.self.now c.open_with.new.self c.args.seat c.args.partner c.root.result c.args.other.now c.root.ensures opened in
     record {
       under = begin.under;
       partner = begin.partner_is;
-      at = opened.0;
+      at = search rules;
       before = search rules;
     }
 
@@ -25,12 +25,12 @@ pub returns-in_err-node : goal.returns-in_err-node
 returns-in_err-node c = absurd (let known = known_session c.loop-node.invariant.under c.loop-node.invariant.at in let clash = sym known ∙ c.in_err-node.ensures.first in cc)
 
 -- the next node
-next : (c : In-Some) → IsNext c.args.self.now c.loop-node.self c.args.seat c.in_ok-id.id c.loop-node.known c.args.other.now c.loop-node.invariant.under c.in-Some.node
-next c = next_is c.loop-node.invariant.under c.loop-node.invariant.at c.outstanding.ensures.valid c.requires c.format-format.ensures.valid c.in_ok-node.ensures.first.1 c.in-Some.is
+next : (c : In-Some) → IsNext c.args.self.now c.loop-node.self c.args.seat c.len-place.result c.loop-node.known c.args.other.now c.loop-node.invariant.under c.in-Some.node
+next c = next_is c.loop-node.invariant.under c.loop-node.invariant.at c.outstanding_at.ensures.valid c.requires c.format-format.ensures.valid c.in_ok-node.ensures.first.1 c.in-Some.is
 
 -- there is none
-done : (c : In_default) → IsDone c.args.self.now c.loop-node.self c.args.seat c.in_ok-id.id c.loop-node.known c.args.other.now c.loop-node.invariant.under
-done c = done_is c.loop-node.invariant.under c.loop-node.invariant.at c.outstanding.ensures.valid c.requires c.format-format.ensures.valid (rw c.in_default.is at c.in_ok-node.ensures.first.1)
+done : (c : In_default) → IsDone c.args.self.now c.loop-node.self c.args.seat c.len-place.result c.loop-node.known c.args.other.now c.loop-node.invariant.under
+done c = done_is c.loop-node.invariant.under c.loop-node.invariant.at c.outstanding_at.ensures.valid c.requires c.format-format.ensures.valid (rw c.in_default.is at c.in_ok-node.ensures.first.1)
 
 pub answer_from-requires : goal.answer_from-requires
 answer_from-requires c = shallow (next (goal.at.answer_from-requires c).In-Some)
@@ -55,7 +55,7 @@ synced-requires c =
     let stop = stopped (next (goal.at.synced-requires c).In-Some) (search rules) c.in-Err.ensures in
     record {
       before = omega (arith, c.loop-node.invariant.before, c.loop-node.invariant.under.grown, ap (λ (x : State). length x.store.entries) stop.1);
-      id = ap (λ (x : State). unknown_fault x c.in_ok-id.id) stop.1 ∙ known_session c.loop-node.invariant.under c.loop-node.invariant.at;
+      there = ap (λ (x : State). unknown_at x c.len-place.result) stop.1 ∙ known_session c.loop-node.invariant.under c.loop-node.invariant.at;
     }
 
 pub returns-in-Err : goal.returns-in-Err
@@ -70,8 +70,8 @@ returns-in-Err c =
       late = tt;
     }
 
-pub synced-requires-2-clause-id : goal.synced-requires-2-clause-id
-synced-requires-2-clause-id c = known_session c.loop-node.invariant.under c.loop-node.invariant.at
+pub synced-requires-2-clause-there : goal.synced-requires-2-clause-there
+synced-requires-2-clause-there c = known_session c.loop-node.invariant.under c.loop-node.invariant.at
 
 pub returns-clause-ok : goal.returns-clause-ok
 returns-clause-ok c = finished (done (goal.at.returns-clause-ok c).In_default) (is_shown c.loop-node.invariant.before c.synced-2.ensures.accepted c.synced-2.ensures.known c.synced-2.ensures.asked c.synced-2.ensures.fault)

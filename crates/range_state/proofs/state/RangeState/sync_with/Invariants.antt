@@ -8,9 +8,9 @@ abbrev pub invariant-loop-node : goal.invariant-loop-node
 invariant-loop-node l = record {
   under : IsUnderWay l.fn.self l.seat l.other l.known l.self;
   partner : under.r.partner ≡ l.partner;
-  at : l.id ≡ length l.fn.self.records;
+  at : l.place ≡ length l.fn.self.records;
   before : l.before ≡ length l.fn.self.store.entries;
 }
 
 abbrev pub decreases-loop-node : goal.decreases-loop-node
-decreases-loop-node l = length (differ (rows_now l.fn.self.store) l.other) - taken_count l.self.records l.id
+decreases-loop-node l = length (differ (rows_now l.fn.self.store) l.other) - taken_count l.self.records l.place

@@ -35,16 +35,16 @@ abbrev text : After-self → TakenText
 text c = entry c.args.node c.args.text
 
 -- what was read
-seen : (c : After-self) → NewsRead (state c) c.args.id (text c) c.args.news.now
-seen c = news_read c.args.id (text c) c.args.news.now refl c.self.invariant (subst (λ (u : State). MatchOption (slice_get u.records c.args.id) ⊥ (λ r. IsNewsRead u r (text c) c.args.news.now)) (sym c.self.view_is) c.requires)
+seen : (c : After-self) → NewsRead (state c) c.args.place (text c) c.args.news.now
+seen c = news_read c.args.place (text c) c.args.news.now refl c.self.invariant (subst (λ (u : State). MatchOption (slice_get u.records c.args.place) ⊥ (λ r. IsNewsRead u r (text c) c.args.news.now)) (sym c.self.view_is) c.requires)
 
 -- the news stand for all rows
 same : (c : After-self) → IsSame c.self.inside.store c.args.seat (seen c).rows c.args.news.now.rows.items c.args.news.now.known
 same c = news_stand c.self.inside.store c.args.seat (seen c).own (seen c).rows c.args.news.now.rows.items c.args.news.now.known (seen c).held (seen c).parted
 
 -- a refusal by the state before
-back : (c : After-self) (e : Refusal) → TakesFor (state c) c.args.seat c.args.id (slice_get (state c).records c.args.id) (text c) (Err e) (state c) → TakesFor c.args.self.now c.args.seat c.args.id (slice_get c.args.self.now.records c.args.id) (text c) (Err e) c.args.self.now
-back c e is = subst (λ (u : State). TakesFor u c.args.seat c.args.id (slice_get u.records c.args.id) (text c) (Err e) u) c.self.view_is is
+back : (c : After-self) (e : Refusal) → TakesFor (state c) c.args.seat c.args.place (slice_get (state c).records c.args.place) (text c) (Err e) (state c) → TakesFor c.args.self.now c.args.seat c.args.place (slice_get c.args.self.now.records c.args.place) (text c) (Err e) c.args.self.now
+back c e is = subst (λ (u : State). TakesFor u c.args.seat c.args.place (slice_get u.records c.args.place) (text c) (Err e) u) c.self.view_is is
 
 pub prepare-requires-clause-here : goal.prepare-requires-clause-here
 prepare-requires-clause-here c =
@@ -73,7 +73,7 @@ abbrev offers : After-self → Offers
 offers c = offers_of c.args.news.now.rows.items
 
 -- the batch of them can be accepted
-acceptable : (c : In_ok-batch) → NewsRead (record { store = c.self.inside.store; records = c.self.inside.records.items; moment = c.self.inside.moment; whole_before = c.self.inside.whole_before; next_session = c.self.inside.next_session; settled = c.self.inside.settled }) c.args.id (entry c.args.node c.args.text) c.args.news.now → IsAcceptable c.self.inside.store c.args.seat Partner c.node.inside.index (offers_of c.args.news.now.rows.items) c.in_ok-batch.batch
+acceptable : (c : In_ok-batch) → NewsRead (record { store = c.self.inside.store; records = c.self.inside.records.items; moment = c.self.inside.moment; whole_before = c.self.inside.whole_before; next_session = c.self.inside.next_session; settled = c.self.inside.settled }) c.args.place (entry c.args.node c.args.text) c.args.news.now → IsAcceptable c.self.inside.store c.args.seat Partner c.node.inside.index (offers_of c.args.news.now.rows.items) c.in_ok-batch.batch
 acceptable c read =
     let s = c.self.inside.store in
     let b = c.in_ok-batch.batch in
@@ -107,8 +107,8 @@ returns-in_err-loaded-clause-answers c =
     let p = err_from_is_err_and c.from_residual-in_err-loaded.result c.from_residual-in_err-loaded.ensures.1 in
     let e = c.in_err-loaded.field-0.0 in
     let shown = not_accepted c.args.seat read (offers start) (same start).taken (same start).crowded can.fits did.1 in
-    rw (p.1, p.2) (subst (λ (u : Store). TakesFor c.args.self.now c.args.seat c.args.id (slice_get c.args.self.now.records c.args.id) (text start) (Err e) (record { store = u; records = c.self.inside.records.items; moment = c.self.inside.moment; whole_before = c.self.inside.whole_before; next_session = c.self.inside.next_session; settled = c.self.inside.settled })) (sym did.0)
-    (subst (λ (u : State). TakesFor u c.args.seat c.args.id (slice_get u.records c.args.id) (text start) (Err e) (state start)) c.self.view_is shown))
+    rw (p.1, p.2) (subst (λ (u : Store). TakesFor c.args.self.now c.args.seat c.args.place (slice_get c.args.self.now.records c.args.place) (text start) (Err e) (record { store = u; records = c.self.inside.records.items; moment = c.self.inside.moment; whole_before = c.self.inside.whole_before; next_session = c.self.inside.next_session; settled = c.self.inside.settled })) (sym did.0)
+    (subst (λ (u : State). TakesFor u c.args.seat c.args.place (slice_get u.records c.args.place) (text start) (Err e) (state start)) c.self.view_is shown))
 
 pub index_mut-requires : goal.index_mut-requires
 index_mut-requires c = omega (arith, (seen (goal.at.index_mut-requires c).After-self).within, c.self.inside.records.ok)
@@ -158,9 +158,9 @@ invariant_of-self-2 c =
     let read = seen start in
     let all = done at.In_ok-loaded start read.rows (acceptable at.In_ok-batch read) (same start) in
     let leaf = leaf_at read refl c.index_mut.ensures.value in
-    let right = leaf_right (state start) c.args.seat c.args.id c.index_mut.result.now (text start) read.rows read.right leaf.within leaf.was leaf.read (all.same.crowded ∙ all.can.fits) in
+    let right = leaf_right (state start) c.args.seat c.args.place c.index_mut.result.now (text start) read.rows read.right leaf.within leaf.was leaf.read (all.same.crowded ∙ all.can.fits) in
     let store = all.is.is ∙ sym all.same.taken in
-    subst IsRight (λ i. record { store = sym store i; records = set c.self.inside.records.items c.args.id (record { number = c.index_mut.result.now.number; partner = c.index_mut.result.now.partner; session = sym c.take_leaf.ensures i }); moment = c.self.inside.moment; whole_before = c.self.inside.whole_before; next_session = c.self.inside.next_session; settled = c.self.inside.settled }) right
+    subst IsRight (λ i. record { store = sym store i; records = set c.self.inside.records.items c.args.place (record { number = c.index_mut.result.now.number; partner = c.index_mut.result.now.partner; session = sym c.take_leaf.ensures i }); moment = c.self.inside.moment; whole_before = c.self.inside.whole_before; next_session = c.self.inside.next_session; settled = c.self.inside.settled }) right
 
 pub returns-clause-answers : goal.returns-clause-answers
 returns-clause-answers c =
@@ -175,6 +175,6 @@ returns-clause-answers c =
     let fault = whole c.self.inside.store c.args.seat read.rows c.args.news.now.rows.items c.args.news.now.known all.same ∙ all.is.fault in
     let known = ap (λ (es : List Entry). length es + (c.in_ok-loaded.loaded.known + c.args.news.now.known)) copies ∙ counted at.In_ok-loaded read.rows all in
     let took = leaf_taken c.args.seat a leaf fault (all.is.is ∙ sym all.same.taken) receipts known (c.state.ensures ∙ ap (λ (w : Walk). w.state) c.take_leaf.ensures) in
-    let records : Walk → List Record = λ w. set c.self.inside.records.items c.args.id (record { number = c.index_mut.result.now.number; partner = c.index_mut.result.now.partner; session = w }) in
-    subst (λ (u : State). TakesFor u c.args.seat c.args.id (slice_get u.records c.args.id) (text start) (Ok a) (record { store = c.accept_batch.new.self; records = records c.take_leaf.new.self; moment = c.self.inside.moment; whole_before = c.self.inside.whole_before; next_session = c.self.inside.next_session; settled = c.self.inside.settled })) c.self.view_is
-    (subst (λ (w : Walk). TakesFor (state start) c.args.seat c.args.id (slice_get c.self.inside.records.items c.args.id) (text start) (Ok a) (record { store = c.accept_batch.new.self; records = records w; moment = c.self.inside.moment; whole_before = c.self.inside.whole_before; next_session = c.self.inside.next_session; settled = c.self.inside.settled })) (sym c.take_leaf.ensures) took)
+    let records : Walk → List Record = λ w. set c.self.inside.records.items c.args.place (record { number = c.index_mut.result.now.number; partner = c.index_mut.result.now.partner; session = w }) in
+    subst (λ (u : State). TakesFor u c.args.seat c.args.place (slice_get u.records c.args.place) (text start) (Ok a) (record { store = c.accept_batch.new.self; records = records c.take_leaf.new.self; moment = c.self.inside.moment; whole_before = c.self.inside.whole_before; next_session = c.self.inside.next_session; settled = c.self.inside.settled })) c.self.view_is
+    (subst (λ (w : Walk). TakesFor (state start) c.args.seat c.args.place (slice_get c.self.inside.records.items c.args.place) (text start) (Ok a) (record { store = c.accept_batch.new.self; records = records w; moment = c.self.inside.moment; whole_before = c.self.inside.whole_before; next_session = c.self.inside.next_session; settled = c.self.inside.settled })) (sym c.take_leaf.ensures) took)

@@ -1,6 +1,7 @@
 use Rattle.std.proofs.Common.{◌<◌, length, get_or, arith}
 use Rattle.range_state.specs.declared.«record».Record.{Record}
-use Rattle.range_state.proofs.MigrateLaws.{next_cancelled}
+use Rattle.range_journal.proofs.CopyLaws.{next_changed}
+use Rattle.range_state.specs.Migrates.{cancelled}
 use Rattle.range_state.proofs.state.migration.cancel_all.Goals as goal
 
 pub loop-record-preserved : goal.loop-record-preserved
@@ -10,4 +11,4 @@ loop-record-preserved c =
     let i = c.loop-record.record-index in
     let r : Record = c.record-item.result in
     let within : i < length xs = omega (arith, c.loop-record-test.true) in
-    next_cancelled xs items i r _ within c.loop-record.invariant (λ j. record { partner = (get_or items i r).partner; session = c.cancel.ensures j })
+    next_changed cancelled xs items i r _ within c.loop-record.invariant (λ j. record { number = (get_or items i r).number; partner = (get_or items i r).partner; session = c.cancel.ensures j })
