@@ -77,6 +77,11 @@ right_without s ok = record {
   moment = moment_alike s.store s.moment ok.moment;
 }
 
+-- the state after its parts were changed
+pub dropped : (s : State) {store : Store} {records : List Record} {count : ℕ} → store ≡ with_copies s.store → records ≡ filter is_open s.records → count ≡ length s.store.entries
+    → record { store = store; records = records; moment = s.moment; whole_before = s.whole_before; next_session = s.next_session; settled = count } ≡ without_ended_sessions s
+dropped s made kept all = λ i. record { store = made i; records = kept i; moment = s.moment; whole_before = s.whole_before; next_session = s.next_session; settled = all i }
+
 -- ---- the numbers
 
 past_end : (rs : List Record) → slice_get rs (length rs) ≡ None
