@@ -109,6 +109,12 @@ static void sessions(void)
     is("SESSIONS_MAX + 1", antientropy_open(&replica, 1, offer, sizeof offer, &session) == ANTIENTROPY_SESSIONS_FULL);
     is("ask", antientropy_ask(&replica, 0, 1, bytes, sizeof bytes, &len) == ANTIENTROPY_OK);
     is("ASK_LEN", len == ANTIENTROPY_ASK_LEN);
+    is("drop_sessions", antientropy_drop_sessions(&replica) == ANTIENTROPY_OK);
+    is("open", antientropy_open(&replica, 1, offer, sizeof offer, &session) == ANTIENTROPY_OK);
+    is("the numbers go on", session == ANTIENTROPY_SESSIONS_MAX);
+    is("open sessions stay", antientropy_cancel(&replica, 0) == ANTIENTROPY_OK);
+    is("ended ones go",
+       antientropy_cancel(&replica, ANTIENTROPY_SESSIONS_MAX - 1) == ANTIENTROPY_UNKNOWN_SESSION);
     antientropy_snapshot_free(&snapshot);
     antientropy_free(&replica);
     antientropy_free(&other);

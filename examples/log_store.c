@@ -387,6 +387,7 @@ void store_sync(struct antientropy_replica *replica, struct antientropy_snapshot
     }
     want("session", antientropy_session(replica, session, &state), ANTIENTROPY_OK);
     want("session state", (uint32_t)state, ANTIENTROPY_FINISHED);
+    want("drop_sessions", antientropy_drop_sessions(replica), ANTIENTROPY_OK);
 }
 
 /* Loads the log, syncs from the partner, and compares. A renewal before the sync makes room in the journal; between the

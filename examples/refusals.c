@@ -506,6 +506,7 @@ static void sessions(void)
     SEE(take, NOT_ASKED, antientropy_take(&replica, other, OFFER, answer, len, &taken));
     SEE(cancel, EMPTY, antientropy_cancel(&none, session));
     SEE(cancel, UNKNOWN_SESSION, antientropy_cancel(&replica, session + 2));
+    SEE(drop_sessions, EMPTY, antientropy_drop_sessions(&none));
     SEE(session, EMPTY, antientropy_session(&none, session, &state));
     SEE(session, UNKNOWN_SESSION, antientropy_session(&replica, session + 2, &state));
     for (unsigned n = 1; n < ANTIENTROPY_OPEN_SESSIONS_MAX; n++)

@@ -4,6 +4,7 @@ ghost use Rattle.vclock.specs.Answer.{AnswersAtOnce};
 ghost use Rattle.vclock.specs.Outcome.{DoesAtOnce};
 ghost use Rattle.vclock.specs.declared.refusal.Refusal.{Refusal};
 ghost use Rattle.tree_nodes.specs.Nodes.{contains_node};
+ghost use Rattle.range_state.specs.Endings.{without_ended_sessions};
 ghost use Rattle.range_state.specs.Sessions.{cancel_session};
 ghost use Rattle.range_state.specs.declared.event.AnswerTaken.{AnswerTaken};
 ghost use Rattle.range_state.specs.declared.local_rows.LocalRows.TheVariants as rows;
@@ -296,6 +297,19 @@ pub extern "C" fn antientropy_session(
         let outcome = standing_of(state, session);
         tell_number(&outcome, standing);
         code(&outcome)
+    };
+    with(replica, alloc, &mut call)
+}
+
+/// Drops the records of ended sessions, as [`RangeState::drop_ended_sessions`] does. Refused: EMPTY.
+#[unsafe(no_mangle)]
+#[tactic(auto, using(crate::proofs::CallLaws::empty, crate::proofs::CallLaws::held))]
+pub extern "C" fn antientropy_drop_sessions(alloc: Global, replica: &mut Replica) -> u32
+    ensures { Calls result replica.old replica.new ⊤ (λ s t. (result ≡ 0) × (t ≡ without_ended_sessions s)) }
+{
+    let mut call = |state: &mut RangeState| {
+        state.drop_ended_sessions();
+        0
     };
     with(replica, alloc, &mut call)
 }
