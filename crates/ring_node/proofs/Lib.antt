@@ -1,3 +1,4 @@
+pub mod EndLaws
 pub mod DueHints
 pub mod OutcomeLaws
 pub mod CauseLaws
