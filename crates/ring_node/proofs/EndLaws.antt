@@ -2,14 +2,13 @@
 use Rattle.std.proofs.Common.{◌≡◌, ◌≢◌, ℕ, ◌<◌, Option, Some, None, List, length, get_or, set, refl, sym, ap, subst, ◌∙◌, arith, slice_get}
 use Rattle.std.proofs.lemmas.List.{length-set, get_or-set_same}
 use Rattle.std.proofs.lemmas.Option.{slice_get-get_or, slice_get_within, get_or_from_slice_get}
-use Rattle.vclock.specs.Outcome.{gives, refuses, through}
+use Rattle.vclock.specs.Outcome.{gives, through}
 use Rattle.sync_session.specs.Steps.{cancelled_by}
 use Rattle.sync_session.specs.Walks.{Walk}
 use Rattle.sync_session.specs.declared.state.SessionState.{SessionState}
 use Rattle.sync_session.specs.declared.state.SessionState.TheVariants.{Open, Finished, Failed, Cancelled}
 use Rattle.range_state.specs.declared.«record».Record.{Record}
 use Rattle.range_state.specs.Records.{place_of, record_of}
-use Rattle.range_state.specs.State.{State}
 use Rattle.range_state.specs.Sessions.{cancel_record, cancel_session, walked_to}
 use Rattle.range_state.proofs.NumberLaws.{place_kept}
 use Rattle.caller_pass.specs.Locks.{Locked, moved}
