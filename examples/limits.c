@@ -65,6 +65,7 @@ static void greatest_row(void)
 {
     struct antientropy_replica replica = {0};
     struct antientropy_pair clock[PAIRS + 1];
+    uint64_t next;
     is("new", antientropy_new(&replica, 2, 0, 0, 1000) == ANTIENTROPY_OK);
     for (unsigned n = 0; n < MANY; n++) {
         for (unsigned p = 0; p <= PAIRS; p++)
@@ -76,6 +77,8 @@ static void greatest_row(void)
     is("VERSIONS_MAX + 1", accept(&replica, ANTIENTROPY_KEY_MAX, clock, 1, 1) == ANTIENTROPY_CROWDED);
     is("ROW_MAX", antientropy_get(&replica, value, ANTIENTROPY_KEY_MAX, bytes, sizeof bytes, &len) == ANTIENTROPY_OK
                       && len == ANTIENTROPY_ROW_MAX);
+    is("ENTRY_MAX", antientropy_entries(&replica, 0, bytes, ANTIENTROPY_ENTRY_MAX, &len, &next) == ANTIENTROPY_OK
+                        && len == ANTIENTROPY_ENTRY_MAX && next == 1);
     antientropy_free(&replica);
 }
 

@@ -1,4 +1,7 @@
 pub mod Numbers
+pub mod Kept
+pub mod About
+pub mod Packed
 pub mod Hands
 pub mod Calls
 pub mod Makes

@@ -10,7 +10,7 @@ ghost use Rattle.antientropy_c.specs.Calls.{Calls, Reads};
 ghost use Rattle.antientropy_c.specs.Hands.{HandsNothing, HandsOut, HandsOutRight};
 ghost use Rattle.antientropy_c.specs.Offers.{ShowsRows, Publishes, TakesRows, offer_numbered, ServesAsk, Serves};
 
-use crate::frame::with;
+use crate::frame::{with, with_state};
 use crate::numbers::{HELD, code};
 use crate::output::{copy_out, hand_out};
 use crate::publication::Publication;
@@ -27,7 +27,7 @@ use walk_messages::{Answer, Ask, Message, decode, encode};
 /// Publishes the rows of a replica now. Refused, in order: EMPTY, HELD (the publication holds a snapshot already),
 /// Dirty (some node has no digest), NoMemory. On error the publication is unchanged.
 #[unsafe(no_mangle)]
-#[tactic(auto, using(crate::proofs::CallLaws::empty, crate::proofs::CallLaws::held))]
+#[tactic(auto, using(crate::proofs::CallLaws::state_empty, crate::proofs::CallLaws::state_held))]
 pub extern "C" fn antientropy_snapshot(
     alloc: Global,
     replica: &mut Replica,
@@ -37,7 +37,7 @@ pub extern "C" fn antientropy_snapshot(
         × Publishes result publication.old publication.new (dirty_fault s.store) (rows_now s.store)) }
 {
     let mut call = |state: &mut RangeState| publish(alloc, state, LocalRows::Now, publication);
-    with(replica, alloc, &mut call)
+    with_state(replica, alloc, &mut call)
 }
 
 /// Publishes the rows now or those of the moment.

@@ -1,0 +1,50 @@
+//! The place of a replica's range, and the number of its entries.
+ghost use Rattle.std.specs.Prelude.{◌≡◌};
+ghost use Rattle.antientropy_c.specs.About.{about_of};
+ghost use Rattle.antientropy_c.specs.Calls.{CallsKept};
+
+use crate::frame::with;
+use crate::kept::Kept;
+use crate::replica::Replica;
+use std::alloc::Global;
+
+/// What a checkpoint has to name: the range, and the position of its log.
+#[repr(C)]
+#[derive(Clone, Copy)]
+pub struct About {
+    /// The number of the format, 1 or 2.
+    pub format: u64,
+    /// The number of bits of the range's number.
+    pub bits: u64,
+    /// The number of the range, from 0.
+    pub range: u64,
+    /// The number of entries, with those before the last renewals: the number of the next entry.
+    pub entries: u64,
+}
+
+/// Stores the place of the range of a replica, and the number of its entries. Refused: EMPTY.
+#[unsafe(no_mangle)]
+#[tactic(auto, using(crate::proofs::CallLaws::empty, crate::proofs::CallLaws::held))]
+pub extern "C" fn antientropy_about(alloc: Global, replica: &mut Replica, about: &mut About) -> u32
+    ensures { CallsKept result replica.old replica.new (about.new ≡ about.old)
+        (λ s t. (t ≡ s) × (result ≡ 0) × (about.new ≡ about_of s)) }
+{
+    let mut call = |kept: &mut Kept| {
+        *about = about_of(kept);
+        0
+    };
+    with(replica, alloc, &mut call)
+}
+
+/// Returns the place of the range of a replica, and the number of its entries.
+fn about_of(kept: &Kept) -> About
+    ensures { result ≡ about_of kept.now }
+{
+    let config = kept.state().store().config();
+    About {
+        format: u64::from(config.format().number()),
+        bits: u64::from(config.bits()),
+        range: u64::from(config.range()),
+        entries: kept.entries(),
+    }
+}
