@@ -240,7 +240,7 @@ static void names(void)
 {
     uint64_t longest = 0;
     is("VERSION", antientropy_version() == ANTIENTROPY_VERSION);
-    for (uint32_t number = 0; number <= ANTIENTROPY_NO_VERSION; number++) {
+    for (uint32_t number = 0; number <= ANTIENTROPY_BAD_POSITION; number++) {
         is("name", antientropy_name(number, bytes, sizeof bytes, &len) == ANTIENTROPY_OK && len > 0);
         const char *name = antientropy_strerror(number);
         is("strerror", strlen(name) == len && memcmp(name, bytes, len) == 0);
@@ -248,8 +248,8 @@ static void names(void)
     }
     is("NAME_MAX", longest == ANTIENTROPY_NAME_MAX);
     is("a number without a name",
-       antientropy_name(ANTIENTROPY_NO_VERSION + 1, bytes, sizeof bytes, &len) == ANTIENTROPY_OK && len == 0);
-    is("strerror of a number without a name", strcmp(antientropy_strerror(ANTIENTROPY_NO_VERSION + 1), "unknown") == 0
+       antientropy_name(ANTIENTROPY_BAD_POSITION + 1, bytes, sizeof bytes, &len) == ANTIENTROPY_OK && len == 0);
+    is("strerror of a number without a name", strcmp(antientropy_strerror(ANTIENTROPY_BAD_POSITION + 1), "unknown") == 0
                                                   && strcmp(antientropy_strerror(UINT32_MAX), "unknown") == 0);
     is("BAD_KEY", antientropy_name(ANTIENTROPY_BAD_KEY, bytes, sizeof bytes, &len) == ANTIENTROPY_OK && len == 6
                       && memcmp(bytes, "BadKey", 6) == 0);

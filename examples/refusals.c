@@ -281,6 +281,8 @@ static void positions(void)
 {
     struct antientropy_replica old = {0}, replica = {0};
     struct antientropy_counts counts;
+    struct antientropy_snapshot snapshot = {0};
+    struct antientropy_about about;
     struct antientropy_pair later = {1, 2};
     uint64_t next = 0, taken;
     one_entry();
@@ -312,6 +314,17 @@ static void positions(void)
     SEE(entries, BAD_POSITION, antientropy_entries(&replica, 5, out, ROOM, &need, &next));
     OK(antientropy_entries(&replica, counts.first, out, ROOM, &need, &next));
     is("the first number gives the whole journal", next == 4);
+    OK(antientropy_hold(&replica));
+    accept(&replica, 4, 1);
+    do
+        OK(antientropy_hash_moment(&replica, 1000, &need));
+    while (need > 0);
+    OK(antientropy_moment(&replica, &snapshot));
+    OK(antientropy_snapshot_about(&snapshot, &about));
+    is("four entries made the rows of the moment", about.entries == 4);
+    OK(antientropy_count(&replica, &counts));
+    is("the front is the moment's number", counts.entries == 5 && counts.front == 4);
+    antientropy_snapshot_free(&snapshot);
     antientropy_free(&old);
     antientropy_free(&replica);
 }
@@ -442,11 +455,15 @@ static void snapshots_and_loads(void)
     struct antientropy_loaded loaded;
     struct antientropy_replica half = {0}, full = {0}, small = {0}, one = {0};
     uint8_t offer[ANTIENTROPY_OFFER_LEN], ask[ANTIENTROPY_ASK_LEN] = {2, 0, 0, 0, OFFER, 0, 0, 0}, row[ROOM];
+    struct antientropy_about about;
     uint64_t row_len;
     SEE(snapshot, DIRTY, antientropy_snapshot(&made, &snapshot));
     offer_now(&made, &snapshot, offer);
     SEE(snapshot, EMPTY, antientropy_snapshot(&none, &nothing));
     SEE(snapshot, HELD, antientropy_snapshot(&made, &snapshot));
+    SEE(snapshot_about, EMPTY, antientropy_snapshot_about(&nothing, &about));
+    OK(antientropy_snapshot_about(&snapshot, &about));
+    is("the snapshot has two entries of format 2", about.format == 2 && about.range == 0 && about.entries == 2);
     SEE(root, EMPTY, antientropy_root(&nothing, out, ROOM, &need));
     SEE(root, SMALL, antientropy_root(&snapshot, out, ANTIENTROPY_ROOT_LEN - 1, &need));
     SEE(offer, EMPTY, antientropy_offer(&nothing, OFFER, out, ROOM, &need));
@@ -782,6 +799,7 @@ static void empty_others(struct results *at)
     static struct antientropy_portion portion;
     static struct antientropy_hints hints;
     static struct antientropy_slots slots;
+    EMPTY(antientropy_snapshot_about(&snapshot, &at->about));
     EMPTY(antientropy_root(&snapshot, at->bytes, sizeof at->bytes, &at->number));
     EMPTY(antientropy_offer(&snapshot, OFFER, at->bytes, sizeof at->bytes, &at->number));
     EMPTY(antientropy_serve(&snapshot, OFFER, VALUE, 4, at->bytes, sizeof at->bytes, &at->number));

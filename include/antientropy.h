@@ -237,7 +237,7 @@ struct antientropy_counts {
     uint64_t front;         /* `entries` at the last moment that was whole; `first` if there was none since a renewal */
 };
 
-/* The range of a replica, and the position of its journal: what a checkpoint or a log has to name. */
+/* The range of a replica or a snapshot, and the position of its journal: what a checkpoint or a log has to name. */
 struct antientropy_about {
     uint64_t format;  /* 1 or 2 */
     uint64_t bits;    /* bits of the range's number: the ring has 2^bits ranges */
@@ -542,6 +542,10 @@ uint32_t antientropy_snapshot(struct antientropy_replica *replica, struct antien
  * has a handle of its own; the threads then need no lock. The rows are freed with the last handle.
  * Refused, in order: EMPTY (the snapshot), HELD (`other` holds one already), NO_MEMORY. */
 uint32_t antientropy_snapshot_share(struct antientropy_snapshot *snapshot, struct antientropy_snapshot *other);
+
+/* Returns the range of a snapshot, and the number of entries that made its rows: of a moment those at the time of
+ * antientropy_hold. So a checkpoint of the snapshot has all entries below that number. Refused: EMPTY. */
+uint32_t antientropy_snapshot_about(struct antientropy_snapshot *snapshot, struct antientropy_about *about);
 
 /* Frees the snapshot that a handle holds, if it holds one. */
 void antientropy_snapshot_free(struct antientropy_snapshot *snapshot);

@@ -1,12 +1,11 @@
 -- Bytes that are written to a buffer one after the other, and the entries whose texts fit into it.
-use Rattle.std.proofs.Common.{◌≡◌, ℕ, ◌+◌, ◌-◌, ◌<◌, ◌≤◌, Bool, true, false, cond, List, [], ◌∷◌, ◌++◌, length, take, drop, get_or, refl, ap, sym, subst, ◌∙◌, arith, append_assoc, length-append, length-drop}
+use Rattle.std.proofs.Common.{◌≡◌, ℕ, suc, ◌+◌, ◌-◌, ◌<◌, ◌≤◌, Bool, cond, List, [], ◌∷◌, ◌++◌, length, take, drop, get_or, refl, ap, sym, subst, ◌∙◌, arith, append_assoc, drop-cons, length-append, length-drop}
 use Rattle.std.proofs.Math.Seq.{take-append-add, take-append_seam, drop-append-add}
-use Rattle.std.proofs.lemmas.Bool.{leb-true}
+use Rattle.std.proofs.lemmas.Bool.{le-leb}
 use Rattle.std.proofs.lemmas.List.{append-nil, drop-drop, length-take-le, take-append-drop, take_more}
 use Rattle.std.proofs.lemmas.List.Folds.{length-flat_map-take}
 use Rattle.std.proofs.lemmas.Grind.{flat_map-append}
 use Rattle.std.specs.Int.{w16, to_be_bytes}
-use Rattle.std.specs.Prelude.{nat_le}
 use Rattle.std.specs.List.{flat_map, splice, AllByRecursion}
 use Rattle.vclock.specs.declared.format.Format.{Format}
 use Rattle.version_set.specs.Version.{version_text}
@@ -49,14 +48,14 @@ both_written a b old mid new at middle end room one two =
     }
 
 -- one more text is written
-pub more_written : {X : Type 0} (f : X → List ℕ) (xs : List X) (i : ℕ) (d : X) (old mid new : List ℕ) (at middle end : ℕ) → i < length xs → at + length (flat_map f xs) ≤ length old
+pub more_written : {X : Type 0} (f : X → List ℕ) (xs : List X) (i : ℕ) (d : X) (old mid new : List ℕ) (at middle end : ℕ) → i < length xs → at ≤ length old
     → IsWritten (flat_map f (take i xs)) old at mid middle → IsWritten (f (get_or xs i d)) mid middle new end → IsWritten (flat_map f (take (i + 1) xs)) old at new end
 more_written f xs i d old mid new at middle end within room one two =
     let text = f (get_or xs i d) in
     let more : flat_map f (take (i + 1) xs) ≡ flat_map f (take i xs) ++ text =
     ap (flat_map f) (take_more xs i d within) ∙ flat_map-append f (take i xs) (get_or xs i d ∷ []) ∙ ap (λ (ys : List ℕ). flat_map f (take i xs) ++ ys) (append-nil text) in
     subst (λ (ys : List ℕ). IsWritten ys old at new end) (sym more)
-    (both_written (flat_map f (take i xs)) text old mid new at middle end (omega (arith, room, length-flat_map-take f xs i d within)) one two)
+    (both_written (flat_map f (take i xs)) text old mid new at middle end room one two)
 
 -- and there is room for it
 pub room_for_more : {X : Type 0} (f : X → List ℕ) (xs : List X) (i : ℕ) (d : X) (old mid : List ℕ) (at middle : ℕ) → i < length xs → at + length (flat_map f xs) ≤ length old
@@ -74,16 +73,21 @@ pub entry_parts : (format : Format) (e : Entry) → ((((number_of_source e.sourc
 unfolding row_text
 entry_parts format e = ap (λ (xs : List ℕ). number_of_source e.source ∷ (((to_be_bytes w16 (length e.key) ++ e.key) ++ to_be_bytes w16 1) ++ xs)) (sym (append-nil (version_text format e.version)))
 
--- the texts of entries that fit do fit
-pub fits_room : (format : Format) (room : ℕ) (es : List Entry) → length (entries_text format (fitting format room es)) ≤ room
-fits_room format room [] = omega arith
-fits_room format room (e ∷ es) =
-    let t = entry_text format e in
-    let rest = fitting format (room - length t) es in
-    elim (nat_le (length t) room) as (λ b. nat_le (length t) room ≡ b → length (entries_text format (cond b (e ∷ rest) [])) ≤ room) [
-      | true ↦ λ le. omega (arith, leb-true (length t) room le, length-append t (entries_text format rest), fits_room format (room - length t) es)
-      | false ↦ λ over. omega arith
-    ] refl
+-- one more entry fits
+pub one_more_fits : (format : Format) (es : List Entry) (i left : ℕ) (d : Entry) → i < length es → length (entry_text format (get_or es i d)) ≤ left
+    → take (i + 1) es ++ fitting format (left - length (entry_text format (get_or es i d))) (drop (i + 1) es) ≡ take i es ++ fitting format left (drop i es)
+one_more_fits format es i left d within fits =
+    let e = get_or es i d in
+    let len = length (entry_text format e) in
+    let rest = drop (i + 1) es in
+    let more = fitting format (left - len) rest in
+    let next : suc i ≡ i + 1 = omega arith in
+    let here : fitting format left (e ∷ rest) ≡ e ∷ more = ap (λ (b : Bool). cond b (e ∷ more) []) (le-leb len left fits) in
+    let cut : drop i es ≡ e ∷ rest = drop-cons es i d within ∙ ap (λ (n : ℕ). e ∷ drop n es) next in
+    ap (λ (xs : List Entry). xs ++ more) (take_more es i d within)
+    ∙ append_assoc (take i es) (e ∷ []) more
+    ∙ ap (λ (xs : List Entry). take i es ++ xs) (sym here)
+    ∙ ap (λ (xs : List Entry). take i es ++ fitting format left xs) (sym cut)
 
 -- the entries of a range are within the limits of its format
 pub all_within : (c : Config) (es : List Entry) → AllByRecursion (IsOwn c) es → AllByRecursion (IsWithin c.format) es

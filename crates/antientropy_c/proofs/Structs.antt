@@ -20,7 +20,7 @@ abbrev pub of_replica : CStruct
 of_replica = record { R = kept.the_row; T = replica.the_type; parts_of = λ h. ((h.at, (h.held, (h.alloc, tt))), h.kept); make = λ u. record { at = u.0.0; held = u.0.1.0; alloc = u.0.1.1.0; kept = u.1 }; any = numbered (fresh (record { format = One; bits = 0; range = 0; limit = 1 })); made = λ u. refl; owns = λ h. refl }
 
 abbrev pub of_publication : CStruct
-of_publication = record { R = published.the_row; T = publication.the_type; parts_of = λ h. ((h.at, (h.held, (h.alloc, tt))), h.rows); make = λ u. record { at = u.0.0; held = u.0.1.0; alloc = u.0.1.1.0; rows = u.1 }; any = record { format = One; bits = 0; range = 0; rows = [] }; made = λ u. refl; owns = λ h. refl }
+of_publication = record { R = published.the_row; T = publication.the_type; parts_of = λ h. ((h.at, (h.held, (h.alloc, tt))), h.shown); make = λ u. record { at = u.0.0; held = u.0.1.0; alloc = u.0.1.1.0; shown = u.1 }; any = record { rows = record { format = One; bits = 0; range = 0; rows = [] }; entries = 0 }; made = λ u. refl; owns = λ h. refl }
 
 abbrev pub of_hints : CStruct
 of_hints = record { R = store.the_row; T = hints.the_type; parts_of = λ h. ((h.at, (h.held, (h.alloc, tt))), h.kept); make = λ u. record { at = u.0.0; held = u.0.1.0; alloc = u.0.1.1.0; kept = u.1 }; any = []; made = λ u. refl; owns = λ h. refl }

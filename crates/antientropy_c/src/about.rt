@@ -1,10 +1,13 @@
 //! The place of a replica's range, and the number of its entries.
 ghost use Rattle.std.specs.Prelude.{◌≡◌};
-ghost use Rattle.antientropy_c.specs.About.{about_of};
+ghost use Rattle.antientropy_c.specs.About.{about_of, about_shown};
 ghost use Rattle.antientropy_c.specs.Calls.{CallsKept};
+ghost use Rattle.antientropy_c.specs.Offers.{Shows};
 
 use crate::frame::with;
 use crate::kept::Kept;
+use crate::publication::Publication;
+use crate::published::Published;
 use crate::replica::Replica;
 use std::alloc::Global;
 
@@ -46,5 +49,37 @@ fn about_of(kept: &Kept) -> About
         bits: u64::from(config.bits()),
         range: u64::from(config.range()),
         entries: kept.entries(),
+    }
+}
+
+/// Stores the place of the range of a snapshot, and the number of entries that made its rows: of a moment those that the
+/// replica had at the time. Refused: EMPTY.
+#[unsafe(no_mangle)]
+#[tactic(auto, using(crate::proofs::CallLaws::empty, crate::proofs::CallLaws::held))]
+pub extern "C" fn antientropy_snapshot_about(
+    alloc: Global,
+    publication: &mut Publication,
+    about: &mut About,
+) -> u32
+    ensures { Shows result publication.old publication.new (about.new ≡ about.old)
+        (λ m. (result ≡ 0) × (about.new ≡ about_shown m)) }
+{
+    let mut call = |rows: &mut Published| {
+        *about = about_shown(rows);
+        0
+    };
+    with(publication, alloc, &mut call)
+}
+
+/// Returns the place of the range of a snapshot, and the number of entries that made its rows.
+fn about_shown(rows: &Published) -> About
+    ensures { result ≡ about_shown rows.now }
+{
+    let snapshot = rows.snapshot();
+    About {
+        format: u64::from(snapshot.format().number()),
+        bits: u64::from(snapshot.bits()),
+        range: u64::from(snapshot.range()),
+        entries: rows.entries(),
     }
 }

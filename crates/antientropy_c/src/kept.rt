@@ -1,16 +1,18 @@
 //! A replica's state, and the numbers of its entries in C.
-ghost use Rattle.std.specs.Prelude.{◌≡◌, ◌+◌, ◌-◌, ◌^◌, ◌<◌, ◌≤◌, length, true, false, IfOk, IfSome, MatchOption};
+ghost use Rattle.std.specs.Prelude.{◌≡◌, ◌+◌, ◌-◌, ◌^◌, ◌<◌, ◌≤◌, length, true, false, None, IfOk, IfSome, MatchOption};
 ghost use Rattle.std.specs.Fn.{CalledAtMut};
 ghost use Rattle.std.specs.List.{AllByRecursion};
 ghost use Rattle.std.specs.Option.{option_copied};
 ghost use Rattle.vclock.specs.Answer.{Answers};
 ghost use Rattle.vclock.specs.Outcome.{DoesOrNoMemory, through};
+ghost use Rattle.range_state.specs.Moments.{shown_fault};
 ghost use Rattle.range_state.specs.State.{put_by};
 ghost use Rattle.antientropy_c.specs.Kept.{numbered, with_state, entries_in, entry_at, front_in, renewal_fault, renewed_kept};
 ghost use Rattle.antientropy_c.specs.Packed.{IsWithin, entries_from, is_no_position};
+ghost use Rattle.antientropy_c.specs.Published.{shown_entries};
 
 use range_journal::Entry;
-use range_state::{ContextTest, RangeState, Receipt};
+use range_state::{ContextTest, LocalRows, RangeState, Receipt};
 use std::alloc::Global;
 use std::marker::Model;
 use vclock::limits::ENTRIES_MAX;
@@ -101,6 +103,21 @@ impl Kept {
     {
         let entries = self.state.journal().len();
         self.first + self.state.whole_front().min(entries)
+    }
+
+    /// Returns the number of entries that made the rows now, or those of the moment, which is whole.
+    pub(crate) fn shown_entries(&self, local: LocalRows) -> u64
+        requires { shown_fault local self.now.state ≡ None }
+        ensures { result ≡ shown_entries local self.now }
+    {
+        match local {
+            LocalRows::Now => self.entries(),
+            LocalRows::Moment => {
+                // Called for its clause alone: the moment is one of the journal.
+                let _right = self.state.journal();
+                self.front()
+            }
+        }
     }
 
     /// Returns the entry of a number, if the journal has it.

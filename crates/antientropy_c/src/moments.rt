@@ -2,15 +2,17 @@
 ghost use Rattle.std.specs.Prelude.{◌≡◌, ℕ, Result, ⊤};
 ghost use Rattle.vclock.specs.Outcome.{Does, gives};
 ghost use Rattle.vclock.specs.declared.refusal.Refusal.{Refusal};
-ghost use Rattle.range_state.specs.Moments.{with_moment, without_moment, moment_fault, front_of};
+ghost use Rattle.range_state.specs.Moments.{with_moment, without_moment, moment_fault};
 ghost use Rattle.range_state.specs.Portions.{HashesMoment};
-ghost use Rattle.range_state.specs.State.{rows_at};
-ghost use Rattle.antientropy_c.specs.Calls.{Calls};
+ghost use Rattle.range_state.specs.declared.local_rows.LocalRows.TheVariants as local_rows;
+ghost use Rattle.antientropy_c.specs.Calls.{Calls, CallsKept};
 ghost use Rattle.antientropy_c.specs.Numbers.{Returns};
 ghost use Rattle.antientropy_c.specs.Offers.{Publishes};
+ghost use Rattle.antientropy_c.specs.Published.{shown_by};
 ghost use Rattle.antientropy_c.specs.Sessions.{TellsNumber};
 
-use crate::frame::with_state;
+use crate::frame::{with, with_state};
+use crate::kept::Kept;
 use crate::numbers::code;
 use crate::offers::publish;
 use crate::publication::Publication;
@@ -89,15 +91,15 @@ fn hash_moment(alloc: Global, state: &mut RangeState, most: u64) -> Result<u64, 
 /// already), Dirty (there is no moment, or some node of it has no digest), NoMemory. On error the publication is
 /// unchanged.
 #[unsafe(no_mangle)]
-#[tactic(auto, using(crate::proofs::CallLaws::state_empty, crate::proofs::CallLaws::state_held))]
+#[tactic(auto, using(crate::proofs::CallLaws::empty, crate::proofs::CallLaws::held))]
 pub extern "C" fn antientropy_moment(
     alloc: Global,
     replica: &mut Replica,
     publication: &mut Publication,
 ) -> u32
-    ensures { Calls result replica.old replica.new (publication.new ≡ publication.old) (λ s t. (t ≡ s)
-        × Publishes result publication.old publication.new (moment_fault s.moment) (rows_at s.store (front_of s.moment))) }
+    ensures { CallsKept result replica.old replica.new (publication.new ≡ publication.old) (λ s t. (t ≡ s)
+        × Publishes result publication.old publication.new (moment_fault s.state.moment) (shown_by local_rows.Moment s)) }
 {
-    let mut call = |state: &mut RangeState| publish(alloc, state, LocalRows::Moment, publication);
-    with_state(replica, alloc, &mut call)
+    let mut call = |kept: &mut Kept| publish(alloc, kept, LocalRows::Moment, publication);
+    with(replica, alloc, &mut call)
 }

@@ -43,6 +43,15 @@ pub extern "C" fn antientropy_entries(
     with(replica, alloc, &mut call)
 }
 
+/// The texts of some entries in a buffer.
+#[derive(Clone, Copy)]
+struct Packed {
+    /// Their length in bytes.
+    len: usize,
+    /// The number of the entries.
+    count: usize,
+}
+
 /// Copies out the entries from a number on.
 fn pack_from(kept: &Kept, from: u64, out: &mut [u8], need: &mut u64, next: &mut u64) -> u32
     ensures { PacksFrom kept.now from result next.old next.new (need.old, out.old) (need.new, out.new) }
@@ -71,9 +80,9 @@ fn pack(
         *need = len as u64;
         return SMALL;
     }
-    let count = fitting(format, entries, out.len());
-    *need = put_entries(out, format, &entries[..count]) as u64;
-    *next = from + count as u64;
+    let packed = put_fitting(out, format, entries);
+    *need = packed.len as u64;
+    *next = from + packed.count as u64;
     0
 }
 
@@ -86,23 +95,6 @@ fn first_over(format: Format, entries: &[Entry], room: usize) -> Option<usize>
     if len <= room { None } else { Some(len) }
 }
 
-/// Returns the number of the first entries whose texts fit into so many bytes together.
-fn fitting(format: Format, entries: &[Entry], room: usize) -> usize
-    requires { AllByRecursion (IsWithin format) entries.now }
-    ensures are { take result entries.now ≡ fitting format room entries.now }
-    ensures within { result ≤ length entries.now }
-{
-    let mut left = room;
-    for (count, entry) in entries.iter().enumerate() {
-        let len = entry_len(format, entry);
-        if len > left {
-            return count;
-        }
-        left -= len;
-    }
-    entries.len()
-}
-
 /// Returns the length in bytes of the text of an entry.
 fn entry_len(format: Format, entry: &Entry) -> usize
     requires { IsWithin format entry.now }
@@ -111,17 +103,27 @@ fn entry_len(format: Format, entry: &Entry) -> usize
     1 + 2 + entry.key.as_slice().len() + 2 + version_len(format, &entry.version) as usize
 }
 
-/// Writes the texts of entries to the front of a buffer, and returns their length.
-fn put_entries(out: &mut [u8], format: Format, entries: &[Entry]) -> usize
-    requires within { AllByRecursion (IsWithin format) entries.now }
-    requires room { length (entries_text format entries.now) ≤ length out.old }
-    ensures { IsWritten (entries_text format entries.now) out.old 0 out.new result }
+/// Writes the texts of the first entries to the front of a buffer, as many as fit together.
+fn put_fitting(out: &mut [u8], format: Format, entries: &[Entry]) -> Packed
+    requires { AllByRecursion (IsWithin format) entries.now }
+    ensures are { take result.count entries.now ≡ fitting format (length out.old) entries.now }
+    ensures within { result.count ≤ length entries.now }
+    ensures written { IsWritten (entries_text format (take result.count entries.now)) out.old 0 out.new result.len }
 {
-    let mut at = 0;
-    for entry in entries {
-        at = put_entry(out, at, format, entry);
+    let mut len = 0;
+    let mut left = out.len();
+    for (count, entry) in entries.iter().enumerate() {
+        let entry_len = entry_len(format, entry);
+        if entry_len > left {
+            return Packed { len, count };
+        }
+        len = put_entry(out, len, format, entry);
+        left -= entry_len;
     }
-    at
+    Packed {
+        len,
+        count: entries.len(),
+    }
 }
 
 /// Writes the text of an entry at a place of a buffer, and returns its end.
