@@ -234,7 +234,7 @@ static void renew(struct antientropy_replica *replica)
     want("renew", antientropy_renew(&old, replica, 1000), ANTIENTROPY_OK);
     want("renew", antientropy_renew(&old, replica, 1000), ANTIENTROPY_HELD);
     want("count", antientropy_count(replica, &counts), ANTIENTROPY_OK);
-    printf("renewed with %llu entries and %llu sessions, ", (unsigned long long)counts.entries,
+    printf("renewed with %llu entries and %llu sessions, ", (unsigned long long)(counts.entries - counts.first),
            (unsigned long long)counts.sessions);
     printf("roots equal: %s\n", equal_roots(&old, replica) ? "yes" : "no");
     antientropy_free(&old);

@@ -65,6 +65,7 @@ static void greatest_row(void)
 {
     struct antientropy_replica replica = {0};
     struct antientropy_pair clock[PAIRS + 1];
+    uint64_t next;
     is("new", antientropy_new(&replica, 2, 0, 0, 1000) == ANTIENTROPY_OK);
     for (unsigned n = 0; n < MANY; n++) {
         for (unsigned p = 0; p <= PAIRS; p++)
@@ -76,6 +77,8 @@ static void greatest_row(void)
     is("VERSIONS_MAX + 1", accept(&replica, ANTIENTROPY_KEY_MAX, clock, 1, 1) == ANTIENTROPY_CROWDED);
     is("ROW_MAX", antientropy_get(&replica, value, ANTIENTROPY_KEY_MAX, bytes, sizeof bytes, &len) == ANTIENTROPY_OK
                       && len == ANTIENTROPY_ROW_MAX);
+    is("ENTRY_MAX", antientropy_entries(&replica, 0, bytes, ANTIENTROPY_ENTRY_MAX, &len, &next) == ANTIENTROPY_OK
+                        && len == ANTIENTROPY_ENTRY_MAX && next == 1);
     antientropy_free(&replica);
 }
 
@@ -243,7 +246,7 @@ static void names(void)
 {
     uint64_t longest = 0;
     is("VERSION", antientropy_version() == ANTIENTROPY_VERSION);
-    for (uint32_t number = 0; number <= ANTIENTROPY_NO_VERSION; number++) {
+    for (uint32_t number = 0; number <= ANTIENTROPY_BAD_POSITION; number++) {
         is("name", antientropy_name(number, bytes, sizeof bytes, &len) == ANTIENTROPY_OK && len > 0);
         const char *name = antientropy_strerror(number);
         is("strerror", strlen(name) == len && memcmp(name, bytes, len) == 0);
@@ -251,8 +254,8 @@ static void names(void)
     }
     is("NAME_MAX", longest == ANTIENTROPY_NAME_MAX);
     is("a number without a name",
-       antientropy_name(ANTIENTROPY_NO_VERSION + 1, bytes, sizeof bytes, &len) == ANTIENTROPY_OK && len == 0);
-    is("strerror of a number without a name", strcmp(antientropy_strerror(ANTIENTROPY_NO_VERSION + 1), "unknown") == 0
+       antientropy_name(ANTIENTROPY_BAD_POSITION + 1, bytes, sizeof bytes, &len) == ANTIENTROPY_OK && len == 0);
+    is("strerror of a number without a name", strcmp(antientropy_strerror(ANTIENTROPY_BAD_POSITION + 1), "unknown") == 0
                                                   && strcmp(antientropy_strerror(UINT32_MAX), "unknown") == 0);
     is("BAD_KEY", antientropy_name(ANTIENTROPY_BAD_KEY, bytes, sizeof bytes, &len) == ANTIENTROPY_OK && len == 6
                       && memcmp(bytes, "BadKey", 6) == 0);

@@ -35,7 +35,8 @@ static bool show_start(struct store *store, struct antientropy_snapshot *partner
     }
     want("count", antientropy_count(&store->replica, &counts), ANTIENTROPY_OK);
     printf("node %llu starts: %llu records, %llu bytes cut off, %llu entries\n", (unsigned long long)store->node,
-           (unsigned long long)store->place, (unsigned long long)store->torn, (unsigned long long)counts.entries);
+           (unsigned long long)store->place, (unsigned long long)store->torn,
+           (unsigned long long)(counts.entries - counts.first));
     return true;
 }
 

@@ -258,9 +258,81 @@ static void keys_in_one_buffer(uint64_t leaf)
     is("key_next leaves all unchanged", len == sizeof key + 1 && memcmp(key, "cart----", sizeof key) == 0);
 }
 
+/* The packed entry of docs/FORMATS.md. */
+static void one_entry(void)
+{
+    static const uint8_t ENTRY[] = {0, 0, 1, 'a', 0, 1, 0, 1, 0, 1, 0, 0, 0, 0, 0, 0, 0, 1, 0, 0, 0, 1, 'x'};
+    struct antientropy_replica replica = {0};
+    struct antientropy_receipt receipt;
+    uint64_t next;
+    OK(antientropy_new(&replica, 2, 0, 0, 1000));
+    OK(antientropy_put(&replica, 1, (const uint8_t *)"a", 1, many, 0, ANTIENTROPY_LIVE, (const uint8_t *)"x", 1,
+                       &receipt));
+    OK(antientropy_entries(&replica, 0, out, sizeof ENTRY, &need, &next));
+    is("the entry is as in docs/FORMATS.md",
+       need == sizeof ENTRY && next == 1 && memcmp(out, ENTRY, sizeof ENTRY) == 0);
+    SEE(entries, SMALL, antientropy_entries(&replica, 0, out, sizeof ENTRY - 1, &need, &next));
+    is("the length of its text is told", need == sizeof ENTRY && next == 1);
+    antientropy_free(&replica);
+}
+
+/* Positions of a replica with two versions of three entries, which is renewed, and accepts one more. */
+static void positions(void)
+{
+    struct antientropy_replica old = {0}, replica = {0};
+    struct antientropy_counts counts;
+    struct antientropy_snapshot snapshot = {0};
+    struct antientropy_about about;
+    struct antientropy_pair later = {1, 2};
+    uint64_t next = 0, taken;
+    one_entry();
+    OK(antientropy_new(&old, 2, 0, 0, 1000));
+    accept(&old, 1, 2);
+    OK(antientropy_accept(&old, KEY, 4, &later, 1, ANTIENTROPY_LIVE, VALUE, 4, &taken));
+    OK(antientropy_entries(&old, 1, out, ROOM, &need, &next));
+    is("two entries are read", next == 3);
+    OK(antientropy_renew(&old, &replica, 1000));
+    OK(antientropy_count(&replica, &counts));
+    is("the numbers go on", counts.entries == 3 && counts.first == 1 && counts.front == 1);
+    accept(&replica, 3, 1);
+    OK(antientropy_count(&replica, &counts));
+    is("the next entry has number 3", counts.entries == 4 && counts.first == 1);
+    OK(antientropy_entry_key(&replica, 3, out, ROOM, &need));
+    OK(antientropy_entry_key(&replica, 1, out, ROOM, &need));
+    SEE(entry_key, NO_VERSION, antientropy_entry_key(&replica, 0, out, ROOM, &need));
+    SEE(entry_key, NO_VERSION, antientropy_entry_key(&replica, 4, out, ROOM, &need));
+    OK(antientropy_top_counter(&replica, 3, KEY, 4, 3, &taken));
+    is("entry 3 isn't below 3", taken == 0);
+    OK(antientropy_top_counter(&replica, 3, KEY, 4, 4, &taken));
+    is("entry 3 is below 4", taken == 1);
+    OK(antientropy_entries(&replica, 3, out, ROOM, &need, &next));
+    is("one entry is new", next == 4 && need > 0);
+    OK(antientropy_entries(&replica, 4, out, ROOM, &need, &next));
+    is("nothing is left", next == 4 && need == 0);
+    SEE(entries, BAD_POSITION, antientropy_entries(&replica, 0, out, ROOM, &need, &next));
+    SEE(entries, BAD_POSITION, antientropy_entries(&replica, 2, out, ROOM, &need, &next));
+    SEE(entries, BAD_POSITION, antientropy_entries(&replica, 5, out, ROOM, &need, &next));
+    OK(antientropy_entries(&replica, counts.first, out, ROOM, &need, &next));
+    is("the first number gives the whole journal", next == 4);
+    OK(antientropy_hold(&replica));
+    accept(&replica, 4, 1);
+    do
+        OK(antientropy_hash_moment(&replica, 1000, &need));
+    while (need > 0);
+    OK(antientropy_moment(&replica, &snapshot));
+    OK(antientropy_snapshot_about(&snapshot, &about));
+    is("four entries made the rows of the moment", about.entries == 4);
+    OK(antientropy_count(&replica, &counts));
+    is("the front is the moment's number", counts.entries == 5 && counts.front == 4);
+    antientropy_snapshot_free(&snapshot);
+    antientropy_free(&old);
+    antientropy_free(&replica);
+}
+
 static void reads(void)
 {
     struct antientropy_reading reading;
+    struct antientropy_about about;
     uint64_t count, source;
     uint8_t kind;
     SEE(get, EMPTY, antientropy_get(&none, KEY, 4, out, ROOM, &need));
@@ -295,6 +367,14 @@ static void reads(void)
     SEE(entry_clock, SMALL, antientropy_entry_clock(&made, 0, pairs, 0, &need));
     SEE(entry_source, EMPTY, antientropy_entry_source(&none, 0, &source));
     SEE(entry_source, NO_VERSION, antientropy_entry_source(&made, 2, &source));
+    SEE(entries, EMPTY, antientropy_entries(&none, 0, out, ROOM, &need, &source));
+    SEE(entries, BAD_POSITION, antientropy_entries(&made, 3, out, ROOM, &need, &source));
+    SEE(entries, SMALL, antientropy_entries(&made, 0, out, 3, &need, &source));
+    positions();
+    SEE(about, EMPTY, antientropy_about(&none, &about));
+    OK(antientropy_about(&made, &about));
+    is("two entries of format 2 in the only range",
+       about.format == 2 && about.bits == 0 && about.range == 0 && about.entries == 2);
     SEE(top_counter, EMPTY, antientropy_top_counter(&none, 0, KEY, 4, 2, &source));
     SEE(top_counter, BAD_CLOCK, antientropy_top_counter(&made, 0, KEY, 4, 2, &source));
     SEE(top_counter, BAD_CLOCK, antientropy_top_counter(&made, ANTIENTROPY_NODE_MAX + 1, KEY, 4, 2, &source));
@@ -375,11 +455,15 @@ static void snapshots_and_loads(void)
     struct antientropy_loaded loaded;
     struct antientropy_replica half = {0}, full = {0}, small = {0}, one = {0};
     uint8_t offer[ANTIENTROPY_OFFER_LEN], ask[ANTIENTROPY_ASK_LEN] = {2, 0, 0, 0, OFFER, 0, 0, 0}, row[ROOM];
+    struct antientropy_about about;
     uint64_t row_len;
     SEE(snapshot, DIRTY, antientropy_snapshot(&made, &snapshot));
     offer_now(&made, &snapshot, offer);
     SEE(snapshot, EMPTY, antientropy_snapshot(&none, &nothing));
     SEE(snapshot, HELD, antientropy_snapshot(&made, &snapshot));
+    SEE(snapshot_about, EMPTY, antientropy_snapshot_about(&nothing, &about));
+    OK(antientropy_snapshot_about(&snapshot, &about));
+    is("the snapshot has two entries of format 2", about.format == 2 && about.range == 0 && about.entries == 2);
     SEE(root, EMPTY, antientropy_root(&nothing, out, ROOM, &need));
     SEE(root, SMALL, antientropy_root(&snapshot, out, ANTIENTROPY_ROOT_LEN - 1, &need));
     SEE(offer, EMPTY, antientropy_offer(&nothing, OFFER, out, ROOM, &need));
@@ -654,13 +738,14 @@ static void slots(void)
 /* What calls write, filled with a byte that none of them writes. */
 static struct results {
     uint8_t bytes[256], kind;
-    uint64_t number;
+    uint64_t number, next;
     struct antientropy_pair pairs[ANTIENTROPY_CLOCK_MAX];
     struct antientropy_receipt receipt;
     struct antientropy_reading reading;
     struct antientropy_taken taken;
     struct antientropy_loaded loaded;
     struct antientropy_counts counts;
+    struct antientropy_about about;
     struct antientropy_hint_counts hint_counts;
     struct antientropy_slot_counts slot_counts;
     struct antientropy_percentile percentile;
@@ -687,6 +772,8 @@ static void empty_replicas(struct results *at)
     EMPTY(antientropy_entry_value(&empty, 0, &at->kind, at->bytes, sizeof at->bytes, &at->number));
     EMPTY(antientropy_entry_clock(&empty, 0, at->pairs, ANTIENTROPY_CLOCK_MAX, &at->number));
     EMPTY(antientropy_entry_source(&empty, 0, &at->number));
+    EMPTY(antientropy_entries(&empty, 0, at->bytes, sizeof at->bytes, &at->number, &at->next));
+    EMPTY(antientropy_about(&empty, &at->about));
     EMPTY(antientropy_top_counter(&empty, 1, KEY, 4, 1, &at->number));
     EMPTY(antientropy_rehash(&empty));
     EMPTY(antientropy_rehash_some(&empty, 1, &at->number));
@@ -713,6 +800,7 @@ static void empty_others(struct results *at)
     static struct antientropy_portion portion;
     static struct antientropy_hints hints;
     static struct antientropy_slots slots;
+    EMPTY(antientropy_snapshot_about(&snapshot, &at->about));
     EMPTY(antientropy_root(&snapshot, at->bytes, sizeof at->bytes, &at->number));
     EMPTY(antientropy_offer(&snapshot, OFFER, at->bytes, sizeof at->bytes, &at->number));
     EMPTY(antientropy_serve(&snapshot, OFFER, VALUE, 4, at->bytes, sizeof at->bytes, &at->number));

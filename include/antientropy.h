@@ -82,6 +82,7 @@ extern "C" {
 #define ANTIENTROPY_OFFER_LEN 39
 #define ANTIENTROPY_ASK_LEN 8
 #define ANTIENTROPY_ROW_MAX 4215427       /* the text of a row */
+#define ANTIENTROPY_ENTRY_MAX 66122       /* the text of an entry */
 #define ANTIENTROPY_HINTS_MAX 10000       /* pending hints of a carrier */
 #define ANTIENTROPY_SLOTS_MAX 1024        /* the greatest ceiling of slots */
 #define ANTIENTROPY_NAME_MAX 14           /* a name of a number that a call returns */
@@ -97,7 +98,7 @@ enum {
     ANTIENTROPY_BAD_VALUE = 5,        /* too long; a tombstone with a value, or in format 1; or an unknown kind */
     ANTIENTROPY_STALE_CONTEXT = 6,    /* a held version has seen all of the new clock; of put_read, more of the node */
     ANTIENTROPY_CROWDED = 7,          /* the key would have over 64 versions */
-    ANTIENTROPY_JOURNAL_FULL = 8,     /* the journal has no room for the entries */
+    ANTIENTROPY_JOURNAL_FULL = 8,     /* the journal has no room for the entries; of renew, or no numbers are left */
     ANTIENTROPY_OTHER_RANGE = 9,      /* a key or an offer is of another range, or the rows are of two leaves */
     ANTIENTROPY_DIRTY = 10,           /* some node has no digest, or there is no moment */
     ANTIENTROPY_UNKNOWN_SESSION = 12, /* no session has this number */
@@ -118,7 +119,8 @@ enum {
     ANTIENTROPY_SMALL = 33,           /* the room is too small */
     ANTIENTROPY_EMPTY = 34,           /* the handle holds nothing */
     ANTIENTROPY_HELD = 35,            /* the handle holds something already */
-    ANTIENTROPY_NO_VERSION = 36       /* there is no such version, entry or hint, or none that follows */
+    ANTIENTROPY_NO_VERSION = 36,      /* there is no such version, entry or hint, or none that follows */
+    ANTIENTROPY_BAD_POSITION = 37     /* no entry is to be read from this number on: see antientropy_entries */
 };
 
 /* Kinds of versions. */
@@ -184,7 +186,7 @@ struct antientropy_pair {
 
 /* The result of a put. */
 struct antientropy_receipt {
-    uint64_t number;  /* the entry's place in the journal, from 0 */
+    uint64_t number;  /* the entry's number: no other entry of this replica, before or after renewals, has it */
     uint64_t counter; /* the node's counter in the new version's clock; the other counters are those of the context */
 };
 
@@ -226,13 +228,21 @@ struct antientropy_loaded {
 
 /* Counts of a replica. */
 struct antientropy_counts {
-    uint64_t entries;       /* entries of the journal */
-    uint64_t limit;         /* maximum number of entries: close to it, JOURNAL_FULL is near */
+    uint64_t entries;       /* entries, with those before renewals: the number of the next entry */
+    uint64_t limit;         /* maximum of `entries` less `first`: there the journal is full (JOURNAL_FULL) */
     uint64_t dirty;         /* nodes of the tree that have no digest */
     uint64_t sessions;      /* sessions, ever: at 1,024 no other can be opened */
     uint64_t open_sessions; /* open sessions: at 64 no other can be opened until one has ended */
-    uint64_t first;         /* 0; reserved for journals that are trimmed */
-    uint64_t front;         /* entries at the last moment that was whole: 0 if there was none */
+    uint64_t first;         /* the number of the journal's first entry: 0 before the first renewal */
+    uint64_t front;         /* `entries` at the last moment that was whole; `first` if there was none since a renewal */
+};
+
+/* The range of a replica or a snapshot, and the position of its journal: what a checkpoint or a log has to name. */
+struct antientropy_about {
+    uint64_t format;  /* 1 or 2 */
+    uint64_t bits;    /* bits of the range's number: the ring has 2^bits ranges */
+    uint64_t range;   /* the range's number, from 0 */
+    uint64_t entries; /* entries, as in the counts: the number of the next entry */
 };
 
 /* Counts of hints. */
@@ -272,7 +282,7 @@ static inline const char *antientropy_strerror(uint32_t number)
         "OtherRange", "Dirty", "Stale", "UnknownSession", "NotAsked", "WrongDigest", "NotCanonical", "OtherFormat",
         "SessionsFull", "NoSlot", "ClockBack", "UnknownHint", "HintsFull", "Gone", "Behind", "Unsettled", "Stranger",
         "LinkLost", "BadRing", "Down", "BadLine", "RowBroken", "BadMessage", "NoMemory", "Small", "Empty", "Held",
-        "NoVersion"};
+        "NoVersion", "BadPosition"};
     return number < sizeof names / sizeof *names ? names[number] : "unknown";
 }
 
@@ -302,9 +312,11 @@ void antientropy_free(struct antientropy_replica *replica);
 
 /* Makes a new replica in the empty handle `into`, which begins with the versions that `from` holds: one entry for each,
  * with the same rows and digests, no sessions, and a journal of at most `limit` entries, 1 to 1,000,000. `from` is left
- * unchanged: free it, and go on with the new one under the same node number.
+ * unchanged: free it, and go on with the new one under the same node number. The numbers of entries go on: the last
+ * entry of the new replica has the number of the last one of `from`, so both count as many entries, and the next entry
+ * gets a number that was never used. The entries from the new `first` to that count are the versions carried over.
  * Refused, in order: EMPTY (`from`), HELD (`into` holds one already), BAD_RING (the limit), JOURNAL_FULL (more versions
- * are held than the limit), NO_MEMORY. */
+ * are held than the limit, or `entries` + 1,000,000 is over 2^64 - 1), NO_MEMORY. */
 uint32_t antientropy_renew(struct antientropy_replica *from, struct antientropy_replica *into, uint64_t limit);
 
 /* Converts a replica of format 1 to format 2. All nodes become dirty, and open sessions are cancelled. A replica of
@@ -313,6 +325,9 @@ uint32_t antientropy_migrate(struct antientropy_replica *replica);
 
 /* Returns the counts of a replica. Refused: EMPTY. */
 uint32_t antientropy_count(struct antientropy_replica *replica, struct antientropy_counts *counts);
+
+/* Returns the range of a replica, and the number of its entries. Refused: EMPTY. */
+uint32_t antientropy_about(struct antientropy_replica *replica, struct antientropy_about *about);
 
 /* ---- versions */
 
@@ -419,9 +434,20 @@ uint32_t antientropy_merge(const struct antientropy_pair *first, size_t first_le
 
 /* Every accepted version is an entry, numbered from 0 in the order of acceptance. The new entries of a call are those
  * from the count of entries before it to the count after it: what a put, an accept, a load or a take brought. After a
- * renewal the entries are those of the versions that are held, leaf by leaf, each with the source COPY: the order of
- * acceptance and the sources before it are forgotten. Entries that a load brings are in the order of its rows, as COPY
- * too. */
+ * renewal the numbers go on. The journal has then one entry for each version that is held, leaf by leaf, each with the
+ * source COPY, and numbered from `first` of the counts up to the count at the renewal: the order of acceptance and the
+ * sources before it are forgotten, and a number below that count may name another version than before. The entries that
+ * follow have numbers that were never used. Entries that a load brings are in the order of its rows, as COPY too. */
+
+/* Returns entries from number `from` on, as many whole ones as fit, one after the other: each as one byte, its source,
+ * and the text of the row of its key with its one version (docs/FORMATS.md). `need` is the number of bytes written, and
+ * `next` the number after the last of these entries: go on there. With nothing left, `need` is 0 and `next` is `from`.
+ * A log reads from the count of entries that it has, and lacks none after a renewal. At SMALL the first entry needs
+ * `need` bytes, at most ANTIENTROPY_ENTRY_MAX; `next` is unchanged.
+ * Refused, in order: EMPTY; BAD_POSITION (`from` is over the count of entries; or it is below the count at the last
+ * renewal, and isn't `first`: read from `first` then, which gives the whole journal); SMALL. */
+uint32_t antientropy_entries(struct antientropy_replica *replica, uint64_t from, uint8_t *out, size_t out_len,
+                             uint64_t *need, uint64_t *next);
 
 /* Returns the key of an entry. Refused, in order: EMPTY, NO_VERSION (no such entry), SMALL. */
 uint32_t antientropy_entry_key(struct antientropy_replica *replica, uint64_t number, uint8_t *out, size_t out_len,
@@ -441,9 +467,9 @@ uint32_t antientropy_entry_clock(struct antientropy_replica *replica, uint64_t n
  * entry). */
 uint32_t antientropy_entry_source(struct antientropy_replica *replica, uint64_t number, uint64_t *source);
 
-/* Returns the greatest counter of a node in the clocks of the versions of a key that the first `entries` entries of the
- * journal accepted (all, if there are fewer): 0 if there is none. By it a host sees whether a partner holds a version
- * with a counter of the host's node number that the host has lost.
+/* Returns the greatest counter of a node in the clocks of the versions of a key that the journal's entries of numbers
+ * below `entries` have (all, if there are fewer; none, if `entries` is at most `first`): 0 if there is none. By it a
+ * host sees whether a partner holds a version with a counter of the host's node number that the host has lost.
  * Refused, in order: EMPTY, BAD_CLOCK (the node is 0 or over 65,535). */
 uint32_t antientropy_top_counter(struct antientropy_replica *replica, uint64_t node, const uint8_t *key, size_t key_len,
                                  uint64_t entries, uint64_t *counter);
@@ -516,6 +542,10 @@ uint32_t antientropy_snapshot(struct antientropy_replica *replica, struct antien
  * has a handle of its own; the threads then need no lock. The rows are freed with the last handle.
  * Refused, in order: EMPTY (the snapshot), HELD (`other` holds one already), NO_MEMORY. */
 uint32_t antientropy_snapshot_share(struct antientropy_snapshot *snapshot, struct antientropy_snapshot *other);
+
+/* Returns the range of a snapshot, and the number of entries that made its rows: of a moment those at the time of
+ * antientropy_hold. So a checkpoint of the snapshot has all entries below that number. Refused: EMPTY. */
+uint32_t antientropy_snapshot_about(struct antientropy_snapshot *snapshot, struct antientropy_about *about);
 
 /* Frees the snapshot that a handle holds, if it holds one. */
 void antientropy_snapshot_free(struct antientropy_snapshot *snapshot);

@@ -3,11 +3,13 @@ use Rattle.std.proofs.Common.{◌≡◌, ℕ, List, sym, subst}
 use Rattle.std.specs.Prelude.{Bool, true, false, Result}
 use Rattle.vclock.specs.declared.refusal.Refusal.{Refusal}
 use Rattle.antientropy_c.specs.Numbers.{code_of, Returns, EMPTY}
-use Rattle.antientropy_c.specs.Calls.{CallsOn, OnHeld, Reads}
+use Rattle.antientropy_c.specs.Calls.{CallsOn, CallsOnState, OnHeld, Reads}
 use Rattle.antientropy_c.specs.Hands.{HandsOut, HandsOutRight}
+use Rattle.antientropy_c.specs.Kept.{KeptState}
 use Rattle.antientropy_c.specs.Merges.{HandsClock, GivesClock}
 use Rattle.antientropy_c.specs.declared.pair.Pair.{Pair}
 use Rattle.vclock.specs.Clock.{Pairs}
+use Rattle.range_state.specs.State.{State}
 use Rattle.walk_messages.specs.Messages.{Decodes}
 use Rattle.walk_messages.specs.declared.message.Message.{Message}
 
@@ -32,6 +34,21 @@ unfolding CallsOn
 held {S} code old new Same Right s t was now is_old is_new right =
     on_held old.0 new.0 code Same (Right old.1 new.1) was now
     (subst (λ (x : S). Right x new.1) is_old (subst (λ (x : S). Right s x) (sym is_new) right))
+
+-- no replica was held
+pub state_empty : (code : ℕ) (old new : Bool × KeptState) (Same : Type 0) (Right : State → State → Type 0)
+    → old.0 ≡ false → new.0 ≡ false → code ≡ EMPTY → Same → CallsOnState code old new Same Right
+unfolding CallsOnState
+state_empty code old new Same Right was now is_code same = on_empty old.0 new.0 code Same _ was now is_code same
+
+-- a replica was held, and its state taken from s to t
+pub state_held : (code : ℕ) (old new : Bool × KeptState) (Same : Type 0) (Right : State → State → Type 0) (s t : State)
+    → old.0 ≡ true → new.0 ≡ true → new.1.first ≡ old.1.first → new.1.renewed ≡ old.1.renewed → s ≡ old.1.state → new.1.state ≡ t → Right s t
+    → CallsOnState code old new Same Right
+unfolding CallsOnState
+state_held code old new Same Right s t was now first renewed is_old is_new right =
+    on_held old.0 new.0 code Same _ was now
+    (first, renewed, subst (λ (x : State). Right x new.1.state) is_old (subst (λ (x : State). Right s x) (sym is_new) right))
 
 -- the number is that of a result
 pub returns : {T : Type 0} (code : ℕ) (Right : Result T Refusal → Type 0) (r : Result T Refusal) → code ≡ code_of r → Right r → Returns code Right

@@ -1,4 +1,6 @@
 pub mod CallLaws
+pub mod KeptLaws
+pub mod PackedLaws
 pub mod MakeLaws
 pub mod HintCallLaws
 pub mod HintNumberLaws

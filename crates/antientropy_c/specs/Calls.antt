@@ -2,12 +2,12 @@
 use Rattle.std.specs.Prelude.{◌≡◌, ℕ, Bool, true, false, List, Result, length}
 use Rattle.range_state.specs.State.{State}
 use Rattle.antientropy_c.specs.declared.replica.Replica.{Replica}
+use Rattle.antientropy_c.specs.Kept.{KeptState, entries_in, front_in}
 use Rattle.antientropy_c.specs.Numbers.{EMPTY}
 use Rattle.vclock.specs.declared.refusal.Refusal.{Refusal}
 use Rattle.walk_messages.specs.Messages.{Decodes}
 use Rattle.walk_messages.specs.declared.message.Message.{Message}
 use Rattle.tree_nodes.specs.Nodes.{dirty_count}
-use Rattle.range_state.specs.Moments.{last_whole}
 use Rattle.range_state.specs.Records.{open_count}
 use Rattle.antientropy_c.specs.declared.counts.Counts.{Counts}
 
@@ -21,12 +21,20 @@ OnHeld false now code Same Right = (now ≡ false) × (code ≡ EMPTY) × Same
 unfoldable pub CallsOn : {S : Type 0} → ℕ → Bool × S → Bool × S → Type 0 → (S → S → Type 0) → Type 0
 CallsOn code old new Same Right = OnHeld old.0 new.0 code Same (Right old.1 new.1)
 
-abbrev pub replica_in : Replica → Bool × State
-replica_in h = (h.held, h.state)
+abbrev pub replica_in : Replica → Bool × KeptState
+replica_in h = (h.held, h.kept)
 
--- a call on a replica, that changes its state
+-- a call on a replica, by its state and the numbers of its entries
+abbrev pub CallsKept : ℕ → Replica → Replica → Type 0 → (KeptState → KeptState → Type 0) → Type 0
+CallsKept code old new Same Right = CallsOn code (replica_in old) (replica_in new) Same Right
+
+-- a call on the state in a replica, that leaves the numbers of its entries unchanged
+unfoldable pub CallsOnState : ℕ → Bool × KeptState → Bool × KeptState → Type 0 → (State → State → Type 0) → Type 0
+CallsOnState code old new Same Right = OnHeld old.0 new.0 code Same
+    ((new.1.first ≡ old.1.first) × (new.1.renewed ≡ old.1.renewed) × Right old.1.state new.1.state)
+
 abbrev pub Calls : ℕ → Replica → Replica → Type 0 → (State → State → Type 0) → Type 0
-Calls code old new Same Right = CallsOn code (replica_in old) (replica_in new) Same Right
+Calls code old new Same Right = CallsOnState code (replica_in old) (replica_in new) Same Right
 
 -- A statement about the bytes of a message, by their decoding.
 pub record Reads (bytes : List ℕ) (Right : Result Message Refusal → Type 0) : Type 0 where
@@ -34,5 +42,5 @@ pub record Reads (bytes : List ℕ) (Right : Result Message Refusal → Type 0) 
   pub decodes : Decodes bytes decoded
   pub right : Right decoded
 
-abbrev pub counts_of : State → Counts
-counts_of s = record { entries = length s.store.entries; limit = s.store.config.limit; dirty = dirty_count s.store.marks; sessions = length s.records; open_sessions = open_count s.records; first = 0; front = last_whole s }
+abbrev pub counts_of : KeptState → Counts
+counts_of k = record { entries = entries_in k; limit = k.state.store.config.limit; dirty = dirty_count k.state.store.marks; sessions = length k.state.records; open_sessions = open_count k.state.records; first = k.first; front = front_in k }

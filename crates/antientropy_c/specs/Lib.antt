@@ -1,4 +1,8 @@
 pub mod Numbers
+pub mod Kept
+pub mod About
+pub mod Published
+pub mod Packed
 pub mod Hands
 pub mod Calls
 pub mod Makes

@@ -10,7 +10,7 @@ names =
     ∷ codes "SessionsFull" ∷ codes "NoSlot" ∷ codes "ClockBack" ∷ codes "UnknownHint" ∷ codes "HintsFull" ∷ codes "Gone"
     ∷ codes "Behind" ∷ codes "Unsettled" ∷ codes "Stranger" ∷ codes "LinkLost" ∷ codes "BadRing" ∷ codes "Down"
     ∷ codes "BadLine" ∷ codes "RowBroken" ∷ codes "BadMessage" ∷ codes "NoMemory" ∷ codes "Small" ∷ codes "Empty"
-    ∷ codes "Held" ∷ codes "NoVersion" ∷ []
+    ∷ codes "Held" ∷ codes "NoVersion" ∷ codes "BadPosition" ∷ []
 
 -- the name of a number, or no bytes if no call returns it
 abbrev pub name_numbered : ℕ → List ℕ

@@ -4,8 +4,9 @@ use Rattle.vclock.specs.Answer.{Answers}
 use Rattle.vclock.specs.declared.refusal.Refusal.{Refusal}
 use Rattle.vclock.specs.declared.refusal.Refusal.TheVariants.{BadRing}
 use Rattle.range_store.specs.Config.{Config}
-use Rattle.range_state.specs.State.{State, fresh}
+use Rattle.range_state.specs.State.{fresh}
 use Rattle.antientropy_c.specs.Calls.{replica_in}
+use Rattle.antientropy_c.specs.Kept.{KeptState, numbered}
 use Rattle.antientropy_c.specs.Numbers.{Returns, HELD}
 use Rattle.antientropy_c.specs.declared.replica.Replica.{Replica}
 
@@ -14,10 +15,10 @@ abbrev pub config_fault : Option Config → Option Refusal
 config_fault (Some c) = None
 config_fault None = Some BadRing
 
--- the state of a range that has accepted nothing
-abbrev pub IsFresh : Option Config → State → Type 0
-IsFresh (Some c) s = s ≡ fresh c
-IsFresh None s = ⊥
+-- the state of a range that has accepted nothing; its entries are numbered from 0
+abbrev pub IsFresh : Option Config → KeptState → Type 0
+IsFresh (Some c) k = k ≡ numbered (fresh c)
+IsFresh None k = ⊥
 
 -- a handle holds a right value, or is empty on error
 abbrev pub Takes : {S : Type 0} → Bool × S → Option Refusal → (S → Type 0) → Result (Unit {0}) Refusal → Type 0
@@ -32,8 +33,8 @@ unfoldable pub MakesIn : {S : Type 0} → ℕ → Bool × S → Bool × S → Op
 MakesIn code old new cause Right = MadeWhere old.0 code old new cause Right
 
 -- a replica is made
-abbrev pub Makes : ℕ → Replica → Replica → Option Refusal → (State → Type 0) → Type 0
+abbrev pub Makes : ℕ → Replica → Replica → Option Refusal → (KeptState → Type 0) → Type 0
 Makes code old new cause Right = MakesIn code (replica_in old) (replica_in new) cause Right
 
-abbrev pub TakesState : Replica → Option Refusal → (State → Type 0) → Result (Unit {0}) Refusal → Type 0
+abbrev pub TakesState : Replica → Option Refusal → (KeptState → Type 0) → Result (Unit {0}) Refusal → Type 0
 TakesState new cause Right r = Takes (replica_in new) cause Right r

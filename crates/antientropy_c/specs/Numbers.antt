@@ -29,3 +29,7 @@ HELD = 35
 -- the key has no such version, or the journal no such entry
 abbrev pub NO_VERSION : ℕ
 NO_VERSION = 36
+
+-- the number is no position of the journal
+abbrev pub BAD_POSITION : ℕ
+BAD_POSITION = 37

@@ -14,22 +14,27 @@ use Rattle.snapshot.specs.RowMaps.{RowMap, root_of, text_at}
 use Rattle.snapshot.specs.Snapshots.{answer_fault}
 use Rattle.antientropy_c.specs.Calls.{CallsOn}
 use Rattle.antientropy_c.specs.Makes.{Takes, MakesIn}
+use Rattle.antientropy_c.specs.Published.{Shown}
 use Rattle.antientropy_c.specs.declared.publication.Publication.{Publication}
 
-abbrev pub rows_in : Publication → Bool × RowMap
-rows_in h = (h.held, h.rows)
+abbrev pub shown_in : Publication → Bool × Shown
+shown_in h = (h.held, h.shown)
 
 -- a call on a publication that does not change it
-abbrev pub ShowsRows : ℕ → Publication → Publication → Type 0 → (RowMap → Type 0) → Type 0
-ShowsRows code old new Same Right = CallsOn code (rows_in old) (rows_in new) Same (λ m n. (n ≡ m) × Right m)
+abbrev pub Shows : ℕ → Publication → Publication → Type 0 → (Shown → Type 0) → Type 0
+Shows code old new Same Right = CallsOn code (shown_in old) (shown_in new) Same (λ m n. (n ≡ m) × Right m)
 
--- the publication holds the rows, or is empty on error
-abbrev pub TakesRows : Publication → Option Refusal → RowMap → Result (Unit {0}) Refusal → Type 0
-TakesRows new cause m r = Takes (rows_in new) cause (λ x. x ≡ m) r
+-- one that speaks of its rows
+abbrev pub ShowsRows : ℕ → Publication → Publication → Type 0 → (RowMap → Type 0) → Type 0
+ShowsRows code old new Same Right = Shows code old new Same (λ m. Right m.rows)
+
+-- the publication holds the rows and their number of entries, or is empty on error
+abbrev pub TakesRows : Publication → Option Refusal → Shown → Result (Unit {0}) Refusal → Type 0
+TakesRows new cause m r = Takes (shown_in new) cause (λ x. x ≡ m) r
 
 -- a full publication is unchanged, and HELD is returned; otherwise the rows are published
-abbrev pub Publishes : ℕ → Publication → Publication → Option Refusal → RowMap → Type 0
-Publishes code old new cause m = MakesIn code (rows_in old) (rows_in new) cause (λ x. x ≡ m)
+abbrev pub Publishes : ℕ → Publication → Publication → Option Refusal → Shown → Type 0
+Publishes code old new cause m = MakesIn code (shown_in old) (shown_in new) cause (λ x. x ≡ m)
 
 -- the offer of some rows
 abbrev pub offer_numbered : ℕ → RowMap → Offer

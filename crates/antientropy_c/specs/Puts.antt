@@ -1,5 +1,5 @@
 -- Versions from C: their numbers need not be right.
-use Rattle.std.specs.Prelude.{◌≡◌, ℕ, ◌&&◌, nat_le, ◌==◌, List, Option, Some, None, Result, Ok, Err, if◌then◌else◌}
+use Rattle.std.specs.Prelude.{◌≡◌, ℕ, ◌+◌, ◌&&◌, nat_le, ◌==◌, List, Option, Some, None, Result, Ok, Err, if◌then◌else◌}
 use Rattle.vclock.specs.Answer.{first_fault}
 use Rattle.vclock.specs.Bytes.{key_fault}
 use Rattle.vclock.specs.Clock.{Pairs, counter, clock_of, pairs_fault}
@@ -56,10 +56,10 @@ put_at s node key context kind value = put_at_by Fresh s node key context kind v
 abbrev pub put_read_at : State → ℕ → List ℕ → Pairs → ℕ → List ℕ → Outcome Entry State
 put_read_at s node key context kind value = put_at_by Read s node key context kind value
 
--- the caller gets the receipt of its entry, unless the put was refused
-abbrev pub TellsPut : ℕ → Result Entry Refusal → PutReceipt → PutReceipt → Type 0
-TellsPut node (Ok e) old new = new ≡ record { number = e.number; counter = counter e.version.clock node }
-TellsPut node (Err e) old new = new ≡ old
+-- the caller gets the receipt of its entry, unless the put was refused; the journal's first entry has the number `first`
+abbrev pub TellsPut : ℕ → ℕ → Result Entry Refusal → PutReceipt → PutReceipt → Type 0
+TellsPut first node (Ok e) old new = new ≡ record { number = first + e.number; counter = counter e.version.clock node }
+TellsPut first node (Err e) old new = new ≡ old
 
 -- a version of another replica, accepted as a copy by seat 0
 abbrev pub accept_at : State → List ℕ → Pairs → ℕ → List ℕ → Outcome Accepted State

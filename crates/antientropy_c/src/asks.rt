@@ -10,7 +10,7 @@ ghost use Rattle.antientropy_c.specs.Hands.{HandsNothing, HandsOutRight};
 ghost use Rattle.antientropy_c.specs.Numbers.{Returns};
 ghost use Rattle.antientropy_c.specs.Sessions.{TellsNumber};
 
-use crate::frame::with;
+use crate::frame::with_state;
 use crate::numbers::code;
 use crate::output::hand_out;
 use crate::replica::Replica;
@@ -23,7 +23,7 @@ use walk_messages::{Ask, Message, encode};
 
 /// Counts the nodes that a session has outstanding. Refused, in order: EMPTY, UnknownSession.
 #[unsafe(no_mangle)]
-#[tactic(auto, using(crate::proofs::CallLaws::empty, crate::proofs::CallLaws::held, crate::proofs::CallLaws::returns))]
+#[tactic(auto, using(crate::proofs::CallLaws::state_empty, crate::proofs::CallLaws::state_held, crate::proofs::CallLaws::returns))]
 pub extern "C" fn antientropy_outstanding(
     alloc: Global,
     replica: &mut Replica,
@@ -39,7 +39,7 @@ pub extern "C" fn antientropy_outstanding(
         tell_number(&outcome, count);
         code(&outcome)
     };
-    with(replica, alloc, &mut call)
+    with_state(replica, alloc, &mut call)
 }
 
 /// Counts the nodes that a session has outstanding. Refused: UnknownSession.
@@ -52,7 +52,7 @@ fn count_of(state: &RangeState, session: u64) -> Result<u64, Refusal>
 /// Writes the message that asks for the first outstanding node of a session, with the number of the partner's offer: no
 /// bytes if no node is outstanding. Refused, in order: EMPTY, UnknownSession, NoMemory, SMALL.
 #[unsafe(no_mangle)]
-#[tactic(auto, using(crate::proofs::CallLaws::empty, crate::proofs::CallLaws::held, crate::proofs::CallLaws::gives))]
+#[tactic(auto, using(crate::proofs::CallLaws::state_empty, crate::proofs::CallLaws::state_held, crate::proofs::CallLaws::gives))]
 pub extern "C" fn antientropy_ask(
     alloc: Global,
     replica: &mut Replica,
@@ -69,13 +69,13 @@ pub extern "C" fn antientropy_ask(
         let outcome = ask(alloc, state, session, 0, number);
         hand_out(&outcome, out, need)
     };
-    with(replica, alloc, &mut call)
+    with_state(replica, alloc, &mut call)
 }
 
 /// Writes the message that asks for one of the outstanding nodes of a session, by its place from 0 in the order in which
 /// the session asks: no bytes if fewer are outstanding. Refused, in order: EMPTY, UnknownSession, NoMemory, SMALL.
 #[unsafe(no_mangle)]
-#[tactic(auto, using(crate::proofs::CallLaws::empty, crate::proofs::CallLaws::held, crate::proofs::CallLaws::gives))]
+#[tactic(auto, using(crate::proofs::CallLaws::state_empty, crate::proofs::CallLaws::state_held, crate::proofs::CallLaws::gives))]
 pub extern "C" fn antientropy_ask_at(
     alloc: Global,
     replica: &mut Replica,
@@ -93,7 +93,7 @@ pub extern "C" fn antientropy_ask_at(
         let outcome = ask(alloc, state, session, place, number);
         hand_out(&outcome, out, need)
     };
-    with(replica, alloc, &mut call)
+    with_state(replica, alloc, &mut call)
 }
 
 /// Writes the message that asks for the node that a session has outstanding at a place, with the number of the partner's

@@ -1,24 +1,25 @@
 //! The greatest counters of nodes.
-ghost use Rattle.std.specs.Prelude.{◌≡◌, ℕ, Result, take};
+ghost use Rattle.std.specs.Prelude.{◌≡◌, ℕ, Result};
 ghost use Rattle.vclock.specs.Answer.{AnswersAtOnce};
 ghost use Rattle.vclock.specs.declared.refusal.Refusal.{Refusal};
 ghost use Rattle.range_journal.specs.Counters.{top_counter};
-ghost use Rattle.antientropy_c.specs.Calls.{Calls};
+ghost use Rattle.antientropy_c.specs.Calls.{CallsKept};
+ghost use Rattle.antientropy_c.specs.Kept.{entries_below};
 ghost use Rattle.antientropy_c.specs.Numbers.{Returns};
 ghost use Rattle.antientropy_c.specs.Puts.{node_fault};
 ghost use Rattle.antientropy_c.specs.Sessions.{TellsNumber};
 
 use crate::frame::with;
+use crate::kept::Kept;
 use crate::numbers::code;
 use crate::puts::node_of;
 use crate::replica::Replica;
 use crate::sessions::tell_number;
-use range_state::RangeState;
 use std::alloc::Global;
 use vclock::{Refusal, check_key};
 
-/// Stores the greatest counter of a node in the clocks of the versions that the first `entries` entries of the journal
-/// accepted for a key: of all entries if there are fewer, and 0 if no clock has the node. Reads each of these entries.
+/// Stores the greatest counter of a node in the clocks of the versions that the entries of numbers below `entries` have
+/// for a key: of all entries if there are fewer, and 0 if no clock has the node. Reads each of these entries.
 /// Refused, in order: EMPTY, BadClock (the node is 0 or over 65,535).
 #[unsafe(no_mangle)]
 #[tactic(auto, using(crate::proofs::CallLaws::empty, crate::proofs::CallLaws::held, crate::proofs::CallLaws::returns))]
@@ -30,28 +31,29 @@ pub extern "C" fn antientropy_top_counter(
     entries: u64,
     counter: &mut u64,
 ) -> u32
-    ensures { Calls result replica.old replica.new (counter.new ≡ counter.old)
+    ensures { CallsKept result replica.old replica.new (counter.new ≡ counter.old)
         (λ s t. (t ≡ s) × Returns result (λ (r : Result ℕ Refusal).
-        AnswersAtOnce r (node_fault node) (λ n. n ≡ top_counter (take entries s.store.entries) key.now node)
+        AnswersAtOnce r (node_fault node) (λ n. n ≡ top_counter (entries_below s entries) key.now node)
         × TellsNumber r counter.old counter.new)) }
 {
-    let mut call = |state: &mut RangeState| {
-        let outcome = top_counter(state, node, key, entries);
+    let mut call = |kept: &mut Kept| {
+        let outcome = top_counter(kept, node, key, entries);
         tell_number(&outcome, counter);
         code(&outcome)
     };
     with(replica, alloc, &mut call)
 }
 
-/// Returns the greatest counter of a node for a key, over the first entries: 0 for a key that isn't 1 to 255 bytes long,
+/// Returns the greatest counter of a node for a key, over the entries of numbers below `entries`: 0 for a key that isn't 1 to 255 bytes long,
 /// of which no byte is read. Refused: BadClock.
-fn top_counter(state: &RangeState, node: u64, key: &[u8], entries: u64) -> Result<u64, Refusal>
-    ensures { AnswersAtOnce result (node_fault node) (λ n. n ≡ top_counter (take entries state.now.store.entries) key.now node) }
+fn top_counter(kept: &Kept, node: u64, key: &[u8], entries: u64) -> Result<u64, Refusal>
+    ensures { AnswersAtOnce result (node_fault node) (λ n. n ≡ top_counter (entries_below kept.now entries) key.now node) }
 {
     let node = node_of(node)?;
-    let journal = state.journal();
+    let front = kept.below(entries);
+    let journal = kept.state().journal();
     match check_key(key) {
-        Ok(()) => Ok(journal.top_counter(node, key, entries)),
+        Ok(()) => Ok(journal.top_counter(node, key, front)),
         Err(_) => Ok(0),
     }
 }

@@ -1,19 +1,19 @@
 //! The counts of a replica.
 ghost use Rattle.std.specs.Prelude.{◌≡◌};
-ghost use Rattle.antientropy_c.specs.Calls.{Calls, counts_of};
+ghost use Rattle.antientropy_c.specs.Calls.{CallsKept, counts_of};
 
 use crate::frame::with;
+use crate::kept::Kept;
 use crate::replica::Replica;
-use range_state::RangeState;
 use std::alloc::Global;
 
 /// The counts of a replica.
 #[repr(C)]
 #[derive(Clone, Copy)]
 pub struct Counts {
-    /// The number of entries of the journal.
+    /// The number of entries, with those before the last renewals: the number of the next entry.
     pub entries: u64,
-    /// The maximum number of entries.
+    /// The maximum number of entries of the journal, which has those from `first` on.
     pub limit: u64,
     /// The number of nodes of the tree without a digest.
     pub dirty: u64,
@@ -21,9 +21,9 @@ pub struct Counts {
     pub sessions: u64,
     /// The number of sessions that are open.
     pub open_sessions: u64,
-    /// 0; reserved for journals that are trimmed.
+    /// The number of the journal's first entry: 0 before the first renewal.
     pub first: u64,
-    /// The number of entries that the journal had at the last moment that was whole; 0 if there was none.
+    /// The number of entries at the last moment that was whole: `first` if there was none since the renewal.
     pub front: u64,
 }
 
@@ -35,27 +35,28 @@ pub extern "C" fn antientropy_count(
     replica: &mut Replica,
     counts: &mut Counts,
 ) -> u32
-    ensures { Calls result replica.old replica.new (counts.new ≡ counts.old)
+    ensures { CallsKept result replica.old replica.new (counts.new ≡ counts.old)
         (λ s t. (t ≡ s) × (result ≡ 0) × (counts.new ≡ counts_of s)) }
 {
-    let mut call = |state: &mut RangeState| {
-        *counts = count(state);
+    let mut call = |kept: &mut Kept| {
+        *counts = count(kept);
         0
     };
     with(replica, alloc, &mut call)
 }
 
 /// Counts the parts of a replica.
-fn count(state: &RangeState) -> Counts
-    ensures { result ≡ counts_of state.now }
+fn count(kept: &Kept) -> Counts
+    ensures { result ≡ counts_of kept.now }
 {
+    let state = kept.state();
     Counts {
-        entries: state.journal().len(),
+        entries: kept.entries(),
         limit: state.store().config().limit(),
         dirty: state.store().tree().dirty_count() as u64,
         sessions: state.records().len() as u64,
         open_sessions: state.open_sessions() as u64,
-        first: 0,
-        front: state.whole_front(),
+        first: kept.first(),
+        front: kept.front(),
     }
 }

@@ -8,7 +8,7 @@ ghost use Rattle.antientropy_c.specs.Calls.{Calls};
 ghost use Rattle.antientropy_c.specs.Hands.{HandsNothing};
 ghost use Rattle.antientropy_c.specs.Keys.{key_after, HandsKeyAfter, HandsKeyNext, HandsNext, Replaces};
 
-use crate::frame::with;
+use crate::frame::with_state;
 use crate::numbers::{NO_VERSION, SMALL};
 use crate::output::copy_out;
 use crate::replica::Replica;
@@ -23,7 +23,7 @@ use vclock::Refusal;
 /// Copies out the least key of a leaf above a key: the first one, for a key of no bytes. Refused, in order: EMPTY,
 /// BadMessage (the tree has no such leaf), NO_VERSION (no key follows), SMALL.
 #[unsafe(no_mangle)]
-#[tactic(auto, using(crate::proofs::CallLaws::empty, crate::proofs::CallLaws::held))]
+#[tactic(auto, using(crate::proofs::CallLaws::state_empty, crate::proofs::CallLaws::state_held))]
 pub extern "C" fn antientropy_key_after(
     alloc: Global,
     replica: &mut Replica,
@@ -36,7 +36,7 @@ pub extern "C" fn antientropy_key_after(
         × HandsKeyAfter s leaf key.now result (need.old, out.old) (need.new, out.new)) }
 {
     let mut call = |state: &mut RangeState| show_key_after(state, leaf, key, out, need);
-    with(replica, alloc, &mut call)
+    with_state(replica, alloc, &mut call)
 }
 
 /// Copies out the least key of a leaf above a key.
@@ -57,7 +57,7 @@ fn show_key_after(state: &RangeState, leaf: u64, key: &[u8], out: &mut [u8], nee
 /// (the length is over the room's), NO_VERSION (no key follows), SMALL (the next key doesn't fit). On error the room and
 /// the length are unchanged.
 #[unsafe(no_mangle)]
-#[tactic(auto, using(crate::proofs::CallLaws::empty, crate::proofs::CallLaws::held))]
+#[tactic(auto, using(crate::proofs::CallLaws::state_empty, crate::proofs::CallLaws::state_held))]
 pub extern "C" fn antientropy_key_next(
     alloc: Global,
     replica: &mut Replica,
@@ -69,7 +69,7 @@ pub extern "C" fn antientropy_key_next(
         × HandsKeyNext s leaf result (key_len.old, key.old) (key_len.new, key.new)) }
 {
     let mut call = |state: &mut RangeState| show_key_next(state, leaf, key, key_len);
-    with(replica, alloc, &mut call)
+    with_state(replica, alloc, &mut call)
 }
 
 /// Puts the least key of a leaf above a key in that key's place.

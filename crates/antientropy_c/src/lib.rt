@@ -2,6 +2,7 @@
 //! which declares these calls.
 #![tactic(auto)]
 
+pub mod about;
 pub mod asks;
 pub mod carrier;
 pub mod clocks;
@@ -11,6 +12,7 @@ pub mod entries;
 mod frame;
 pub mod hint_calls;
 pub mod hints;
+mod kept;
 pub mod keys;
 pub mod laws;
 pub mod library;
@@ -21,6 +23,7 @@ mod numbers;
 pub mod offer_parts;
 pub mod offers;
 mod output;
+pub mod packed;
 pub mod pair;
 pub mod portion_handle;
 pub mod portions;

@@ -70,6 +70,7 @@ fn name_of(number: u32) -> &'static str
         34 => "Empty",
         35 => "Held",
         36 => "NoVersion",
-        37.. => "",
+        37 => "BadPosition",
+        38.. => "",
     }
 }

@@ -9,7 +9,8 @@ ghost use Rattle.antientropy_c.specs.Numbers.{Returns};
 ghost use Rattle.antientropy_c.specs.Calls.{Calls};
 ghost use Rattle.antientropy_c.specs.Makes.{Makes, TakesState, config_fault, IsFresh};
 
-use crate::frame::with;
+use crate::frame::with_state;
+use crate::kept::Kept;
 use crate::numbers::{HELD, code};
 use crate::replica::Replica;
 use c_handle::InC;
@@ -34,8 +35,8 @@ pub extern "C" fn antientropy_new(
     ensures { Makes result replica.old replica.new (config_fault (config_of format bits range limit))
         (IsFresh (config_of format bits range limit)) }
 {
-    if let Some(state) = replica.take(alloc) {
-        replica.hold(state);
+    if let Some(kept) = replica.take(alloc) {
+        replica.hold(kept);
         return HELD;
     }
     let seed = Seed::default();
@@ -62,8 +63,8 @@ pub extern "C" fn antientropy_new_seeded(
     ensures { Makes result replica.old replica.new (config_fault (config_of format bits range limit))
         (IsFresh (config_of format bits range limit)) }
 {
-    if let Some(state) = replica.take(alloc) {
-        replica.hold(state);
+    if let Some(kept) = replica.take(alloc) {
+        replica.hold(kept);
         return HELD;
     }
     let seed = Seed { first, second };
@@ -84,12 +85,12 @@ fn make(
     ensures { TakesState replica.new (config_fault (config_of format bits range limit))
         (IsFresh (config_of format bits range limit)) result }
 {
-    let state = fresh(alloc, format, bits, range, limit, seed)?;
-    replica.hold(state);
+    let kept = fresh(alloc, format, bits, range, limit, seed)?;
+    replica.hold(kept);
     Ok(())
 }
 
-/// Makes the state of a replica that has accepted nothing.
+/// Makes the box of a replica that has accepted nothing.
 fn fresh(
     alloc: Global,
     format: u64,
@@ -97,25 +98,25 @@ fn fresh(
     range: u64,
     limit: u64,
     seed: Seed,
-) -> Result<Box<RangeState, Global>, Refusal>
+) -> Result<Box<Kept, Global>, Refusal>
     ensures { Answers result (config_fault (config_of format bits range limit))
-        (λ state. IsFresh (config_of format bits range limit) state.value) }
+        (λ kept. IsFresh (config_of format bits range limit) kept.value) }
 {
     let config = RangeConfig::new(format, bits, range, limit).ok_or(Refusal::BadRing)?;
     let state = RangeState::seeded(alloc, config, seed)?;
-    Ok(Box::new(alloc, state)?)
+    Ok(Box::new(alloc, Kept::new(state))?)
 }
 
 /// Migrates a replica of format 1 to format 2; one of format 2 is unchanged. Refused, in order: EMPTY, NoMemory. On
 /// error the replica is unchanged.
 #[unsafe(no_mangle)]
-#[tactic(auto, using(crate::proofs::CallLaws::empty, crate::proofs::CallLaws::held, crate::proofs::CallLaws::returns))]
+#[tactic(auto, using(crate::proofs::CallLaws::state_empty, crate::proofs::CallLaws::state_held, crate::proofs::CallLaws::returns))]
 pub extern "C" fn antientropy_migrate(alloc: Global, replica: &mut Replica) -> u32
     ensures { Calls result replica.old replica.new ⊤ (λ s t. Returns result (λ (r : Result (Unit {0}) Refusal).
         Does r s t (migrate s))) }
 {
     let mut call = |state: &mut RangeState| code(&state.migrate(alloc));
-    with(replica, alloc, &mut call)
+    with_state(replica, alloc, &mut call)
 }
 
 /// Frees the replica of a handle, if any.
@@ -123,5 +124,5 @@ pub extern "C" fn antientropy_migrate(alloc: Global, replica: &mut Replica) -> u
 pub extern "C" fn antientropy_free(alloc: Global, replica: &mut Replica)
     ensures { replica.new.held ≡ false }
 {
-    let _state = replica.take(alloc);
+    let _kept = replica.take(alloc);
 }

@@ -19,7 +19,7 @@ ghost use Rattle.antientropy_c.specs.Numbers.{Returns};
 ghost use Rattle.antientropy_c.specs.Offers.{ShowsRows};
 ghost use Rattle.antientropy_c.specs.Puts.{NoMemoryAfter};
 
-use crate::frame::with;
+use crate::frame::{with, with_state};
 use crate::numbers::code;
 use crate::output::hand_out;
 use crate::publication::Publication;
@@ -84,7 +84,7 @@ fn rows_of(alloc: Global, snapshot: &Snapshot, leaf: u64) -> Result<Text, Refusa
 /// Refused, in order: EMPTY; then as `load_rows` is: RowBroken, OtherRange, Crowded, JournalFull, NoMemory. On error the
 /// replica is unchanged. After RowBroken the offset is stored; after any other refusal the result is unchanged.
 #[unsafe(no_mangle)]
-#[tactic(auto, using(crate::proofs::CallLaws::empty, crate::proofs::CallLaws::held, crate::proofs::CallLaws::returns))]
+#[tactic(auto, using(crate::proofs::CallLaws::state_empty, crate::proofs::CallLaws::state_held, crate::proofs::CallLaws::returns))]
 pub extern "C" fn antientropy_load(
     alloc: Global,
     replica: &mut Replica,
@@ -100,7 +100,7 @@ pub extern "C" fn antientropy_load(
         tell_loaded(&outcome, loaded);
         code(&outcome)
     };
-    with(replica, alloc, &mut call)
+    with_state(replica, alloc, &mut call)
 }
 
 /// Loads rows of a format, of any leaves, from their texts, as
@@ -110,7 +110,7 @@ pub extern "C" fn antientropy_load(
 /// OtherRange, Crowded, JournalFull, NoMemory. On error the replica is unchanged. After RowBroken the offset is stored;
 /// after any other refusal the result is unchanged. NoMemory may replace a cause from RowBroken on.
 #[unsafe(no_mangle)]
-#[tactic(auto, using(crate::proofs::CallLaws::empty, crate::proofs::CallLaws::held, crate::proofs::CallLaws::returns))]
+#[tactic(auto, using(crate::proofs::CallLaws::state_empty, crate::proofs::CallLaws::state_held, crate::proofs::CallLaws::returns))]
 pub extern "C" fn antientropy_load_format(
     alloc: Global,
     replica: &mut Replica,
@@ -128,7 +128,7 @@ pub extern "C" fn antientropy_load_format(
         tell_loaded(&outcome, loaded);
         code(&outcome)
     };
-    with(replica, alloc, &mut call)
+    with_state(replica, alloc, &mut call)
 }
 
 /// Loads rows of the format of a number.

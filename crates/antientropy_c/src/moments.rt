@@ -2,15 +2,17 @@
 ghost use Rattle.std.specs.Prelude.{◌≡◌, ℕ, Result, ⊤};
 ghost use Rattle.vclock.specs.Outcome.{Does, gives};
 ghost use Rattle.vclock.specs.declared.refusal.Refusal.{Refusal};
-ghost use Rattle.range_state.specs.Moments.{with_moment, without_moment, moment_fault, front_of};
+ghost use Rattle.range_state.specs.Moments.{with_moment, without_moment, moment_fault};
 ghost use Rattle.range_state.specs.Portions.{HashesMoment};
-ghost use Rattle.range_state.specs.State.{rows_at};
-ghost use Rattle.antientropy_c.specs.Calls.{Calls};
+ghost use Rattle.range_state.specs.declared.local_rows.LocalRows.TheVariants as local_rows;
+ghost use Rattle.antientropy_c.specs.Calls.{Calls, CallsKept};
 ghost use Rattle.antientropy_c.specs.Numbers.{Returns};
 ghost use Rattle.antientropy_c.specs.Offers.{Publishes};
+ghost use Rattle.antientropy_c.specs.Published.{shown_by};
 ghost use Rattle.antientropy_c.specs.Sessions.{TellsNumber};
 
-use crate::frame::with;
+use crate::frame::{with, with_state};
+use crate::kept::Kept;
 use crate::numbers::code;
 use crate::offers::publish;
 use crate::publication::Publication;
@@ -23,7 +25,7 @@ use vclock::Refusal;
 /// Keeps the rows now as the moment of a replica, in the place of another one. Copies no row. Refused, in order: EMPTY,
 /// NoMemory. On error the replica is unchanged.
 #[unsafe(no_mangle)]
-#[tactic(auto, using(crate::proofs::CallLaws::empty, crate::proofs::CallLaws::held, crate::proofs::CallLaws::returns))]
+#[tactic(auto, using(crate::proofs::CallLaws::state_empty, crate::proofs::CallLaws::state_held, crate::proofs::CallLaws::returns))]
 pub extern "C" fn antientropy_hold(alloc: Global, replica: &mut Replica) -> u32
     ensures { Calls result replica.old replica.new ⊤ (λ s t. Returns result (λ (r : Result (Unit {0}) Refusal).
         Does r s t (gives tt (with_moment s)))) }
@@ -32,7 +34,7 @@ pub extern "C" fn antientropy_hold(alloc: Global, replica: &mut Replica) -> u32
         let outcome = hold(alloc, state);
         code(&outcome)
     };
-    with(replica, alloc, &mut call)
+    with_state(replica, alloc, &mut call)
 }
 
 /// Keeps the rows now as the moment of a replica, and frees the one before.
@@ -45,7 +47,7 @@ fn hold(alloc: Global, state: &mut RangeState) -> Result<(), Refusal>
 
 /// Lets go of the moment of a replica, if there is one. Refused: EMPTY.
 #[unsafe(no_mangle)]
-#[tactic(auto, using(crate::proofs::CallLaws::empty, crate::proofs::CallLaws::held))]
+#[tactic(auto, using(crate::proofs::CallLaws::state_empty, crate::proofs::CallLaws::state_held))]
 pub extern "C" fn antientropy_drop_moment(alloc: Global, replica: &mut Replica) -> u32
     ensures { Calls result replica.old replica.new ⊤ (λ s t. (result ≡ 0) × (t ≡ without_moment s)) }
 {
@@ -53,13 +55,13 @@ pub extern "C" fn antientropy_drop_moment(alloc: Global, replica: &mut Replica) 
         let _moment = state.take_moment();
         0
     };
-    with(replica, alloc, &mut call)
+    with_state(replica, alloc, &mut call)
 }
 
 /// Hashes at most `most` of the moment's dirty nodes whose children are clean, and stores the number of its nodes that are
 /// dirty then: 0 without a moment. Refused, in order: EMPTY, NoMemory. On error the replica is unchanged.
 #[unsafe(no_mangle)]
-#[tactic(auto, using(crate::proofs::CallLaws::empty, crate::proofs::CallLaws::held, crate::proofs::CallLaws::returns))]
+#[tactic(auto, using(crate::proofs::CallLaws::state_empty, crate::proofs::CallLaws::state_held, crate::proofs::CallLaws::returns))]
 pub extern "C" fn antientropy_hash_moment(
     alloc: Global,
     replica: &mut Replica,
@@ -74,7 +76,7 @@ pub extern "C" fn antientropy_hash_moment(
         tell_number(&outcome, left);
         code(&outcome)
     };
-    with(replica, alloc, &mut call)
+    with_state(replica, alloc, &mut call)
 }
 
 /// Hashes at most `most` of the moment's dirty nodes whose children are clean, and returns the number of its nodes that
@@ -95,9 +97,9 @@ pub extern "C" fn antientropy_moment(
     replica: &mut Replica,
     publication: &mut Publication,
 ) -> u32
-    ensures { Calls result replica.old replica.new (publication.new ≡ publication.old) (λ s t. (t ≡ s)
-        × Publishes result publication.old publication.new (moment_fault s.moment) (rows_at s.store (front_of s.moment))) }
+    ensures { CallsKept result replica.old replica.new (publication.new ≡ publication.old) (λ s t. (t ≡ s)
+        × Publishes result publication.old publication.new (moment_fault s.state.moment) (shown_by local_rows.Moment s)) }
 {
-    let mut call = |state: &mut RangeState| publish(alloc, state, LocalRows::Moment, publication);
+    let mut call = |kept: &mut Kept| publish(alloc, kept, LocalRows::Moment, publication);
     with(replica, alloc, &mut call)
 }

@@ -16,6 +16,9 @@ pub(crate) const HELD: u32 = 35;
 /// The key has no such version.
 pub(crate) const NO_VERSION: u32 = 36;
 
+/// The number isn't a position of the journal.
+pub(crate) const BAD_POSITION: u32 = 37;
+
 /// Returns 0, or the number of a refusal.
 pub(crate) fn code<T>(outcome: &Result<T, Refusal>) -> u32
     ensures { result ≡ code_of outcome.now }

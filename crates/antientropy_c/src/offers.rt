@@ -4,20 +4,23 @@ ghost use Rattle.vclock.specs.Answer.{Answers};
 ghost use Rattle.walk_messages.specs.Messages.{message_text};
 ghost use Rattle.walk_messages.specs.declared.message.Message.TheVariants as messages;
 ghost use Rattle.snapshot.specs.RowMaps.{root_of};
-ghost use Rattle.range_store.specs.Store.{rows_now, dirty_fault};
-ghost use Rattle.range_state.specs.Moments.{shown_fault, shown_rows};
-ghost use Rattle.antientropy_c.specs.Calls.{Calls, Reads};
+ghost use Rattle.range_store.specs.Store.{dirty_fault};
+ghost use Rattle.range_state.specs.Moments.{shown_fault};
+ghost use Rattle.range_state.specs.declared.local_rows.LocalRows.TheVariants as local_rows;
+ghost use Rattle.antientropy_c.specs.Calls.{CallsKept, Reads};
 ghost use Rattle.antientropy_c.specs.Hands.{HandsNothing, HandsOut, HandsOutRight};
 ghost use Rattle.antientropy_c.specs.Offers.{ShowsRows, Publishes, TakesRows, offer_numbered, ServesAsk, Serves};
+ghost use Rattle.antientropy_c.specs.Published.{shown_by};
 
 use crate::frame::with;
+use crate::kept::Kept;
 use crate::numbers::{HELD, code};
 use crate::output::{copy_out, hand_out};
 use crate::publication::Publication;
 use crate::published::Published;
 use crate::replica::Replica;
 use c_handle::InC;
-use range_state::{LocalRows, RangeState};
+use range_state::LocalRows;
 use snapshot::Snapshot;
 use std::alloc::Global;
 use tree_nodes::Text;
@@ -33,10 +36,10 @@ pub extern "C" fn antientropy_snapshot(
     replica: &mut Replica,
     publication: &mut Publication,
 ) -> u32
-    ensures { Calls result replica.old replica.new (publication.new ≡ publication.old) (λ s t. (t ≡ s)
-        × Publishes result publication.old publication.new (dirty_fault s.store) (rows_now s.store)) }
+    ensures { CallsKept result replica.old replica.new (publication.new ≡ publication.old) (λ s t. (t ≡ s)
+        × Publishes result publication.old publication.new (dirty_fault s.state.store) (shown_by local_rows.Now s)) }
 {
-    let mut call = |state: &mut RangeState| publish(alloc, state, LocalRows::Now, publication);
+    let mut call = |kept: &mut Kept| publish(alloc, kept, LocalRows::Now, publication);
     with(replica, alloc, &mut call)
 }
 
@@ -44,44 +47,41 @@ pub extern "C" fn antientropy_snapshot(
 #[tactic(auto, using(crate::proofs::MakeLaws::already, crate::proofs::MakeLaws::made))]
 pub(crate) fn publish(
     alloc: Global,
-    state: &RangeState,
+    kept: &Kept,
     local: LocalRows,
     publication: &mut Publication,
 ) -> u32
-    ensures { Publishes result publication.old publication.new (shown_fault local state.now) (shown_rows local state.now) }
+    ensures { Publishes result publication.old publication.new (shown_fault local kept.now.state) (shown_by local kept.now) }
 {
     if let Some(rows) = publication.take(alloc) {
         publication.hold(rows);
         return HELD;
     }
-    code(&make(alloc, state, local, publication))
+    code(&make(alloc, kept, local, publication))
 }
 
 /// Publishes them in an empty publication.
 fn make(
     alloc: Global,
-    state: &RangeState,
+    kept: &Kept,
     local: LocalRows,
     publication: &mut Publication,
 ) -> Result<(), Refusal>
     requires { publication.old.held ≡ false }
-    ensures { TakesRows publication.new (shown_fault local state.now) (shown_rows local state.now) result }
+    ensures { TakesRows publication.new (shown_fault local kept.now.state) (shown_by local kept.now) result }
 {
-    let rows = boxed(alloc, state, local)?;
+    let rows = boxed(alloc, kept, local)?;
     publication.hold(rows);
     Ok(())
 }
 
 /// Makes a box with them.
-fn boxed(
-    alloc: Global,
-    state: &RangeState,
-    local: LocalRows,
-) -> Result<Box<Published, Global>, Refusal>
-    ensures { Answers result (shown_fault local state.now) (λ rows. rows.value ≡ shown_rows local state.now) }
+fn boxed(alloc: Global, kept: &Kept, local: LocalRows) -> Result<Box<Published, Global>, Refusal>
+    ensures { Answers result (shown_fault local kept.now.state) (λ rows. rows.value ≡ shown_by local kept.now) }
 {
-    let snapshot = state.snapshot_of(alloc, local)?;
-    Ok(Box::new(alloc, Published::new(snapshot))?)
+    let snapshot = kept.state().snapshot_of(alloc, local)?;
+    let entries = kept.shown_entries(local);
+    Ok(Box::new(alloc, Published::new(snapshot, entries))?)
 }
 
 /// Copies out the digest of the root of a snapshot: 32 bytes. Refused, in order: EMPTY, SMALL.

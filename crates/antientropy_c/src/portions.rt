@@ -6,7 +6,7 @@ ghost use Rattle.antientropy_c.specs.Calls.{Calls, CallsOn};
 ghost use Rattle.antientropy_c.specs.Makes.{MakesIn, Takes};
 ghost use Rattle.antientropy_c.specs.Portions.{nodes_in, Installs};
 
-use crate::frame::with;
+use crate::frame::{with, with_state};
 use crate::numbers::{EMPTY, HELD, code};
 use crate::portion_handle::PortionHandle;
 use crate::replica::Replica;
@@ -21,7 +21,7 @@ use vclock::Refusal;
 /// Refused, in order: EMPTY (the replica), HELD (the handle holds a portion already), NoMemory. On error the handle is
 /// unchanged.
 #[unsafe(no_mangle)]
-#[tactic(auto, using(crate::proofs::CallLaws::empty, crate::proofs::CallLaws::held))]
+#[tactic(auto, using(crate::proofs::CallLaws::state_empty, crate::proofs::CallLaws::state_held))]
 pub extern "C" fn antientropy_take_portion(
     alloc: Global,
     replica: &mut Replica,
@@ -32,7 +32,7 @@ pub extern "C" fn antientropy_take_portion(
         × MakesIn result (nodes_in portion.old) (nodes_in portion.new) None (IsPortion s.moment most)) }
 {
     let mut call = |state: &mut RangeState| take_portion(alloc, state, most, portion);
-    with(replica, alloc, &mut call)
+    with_state(replica, alloc, &mut call)
 }
 
 /// Takes a portion into a handle.
@@ -90,7 +90,7 @@ pub extern "C" fn antientropy_hash_portion(alloc: Global, portion: &mut PortionH
 ///
 /// Refused: EMPTY (the replica or the portion). Then nothing changes.
 #[unsafe(no_mangle)]
-#[tactic(auto, using(crate::proofs::CallLaws::empty, crate::proofs::CallLaws::held))]
+#[tactic(auto, using(crate::proofs::CallLaws::state_empty, crate::proofs::CallLaws::state_held))]
 pub extern "C" fn antientropy_install_portion(
     alloc: Global,
     replica: &mut Replica,
@@ -101,7 +101,7 @@ pub extern "C" fn antientropy_install_portion(
         Installs result (nodes_in portion.old) (nodes_in portion.new) s t left.old left.new) }
 {
     let mut call = |state: &mut RangeState| install(alloc, state, portion, left);
-    with(replica, alloc, &mut call)
+    with_state(replica, alloc, &mut call)
 }
 
 /// Installs the digests of a portion, if there is one.

@@ -1,6 +1,6 @@
 //! The handle of a snapshot.
 ghost use Rattle.std.specs.Prelude.{◌≡◌, Some, IfSome};
-ghost use Rattle.snapshot.specs.RowMaps.{RowMap};
+ghost use Rattle.antientropy_c.specs.Published.{Shown};
 ghost use Rattle.c_handle.specs.Handles.{c_owns};
 ghost use Rattle.antientropy_c.specs.contracts.published.Published.{the_row};
 
@@ -9,18 +9,18 @@ use c_handle::{Handle, InC};
 use std::alloc::Global;
 use std::marker::Model;
 
-/// A snapshot on the heap, or nothing: then all its bytes are zero, and the ghost rows are arbitrary.
+/// A snapshot on the heap, or nothing: then all its bytes are zero, and the ghost value is arbitrary.
 #[repr(C)]
 #[derive(Drop)]
 pub struct Publication {
     at: *mut u8,
     pub held: bool,
     alloc: Global,
-    pub ghost rows: { RowMap },
+    pub ghost shown: { Shown },
 }
 
 impl Model for Publication {
-    ghost also_owns = { λ h. c_owns the_row h.alloc h.held h.at h.rows };
+    ghost also_owns = { λ h. c_owns the_row h.alloc h.held h.at h.shown };
 }
 
 // The allocator and the contents may go to another thread, and so may the handle.
@@ -31,10 +31,10 @@ impl InC for Publication {
 
     ghost held = { λ h. h.held };
 
-    ghost value = { λ h. h.rows };
+    ghost value = { λ h. h.shown };
 
     fn of(handle: Handle<Published, Global>) -> Publication
-        ensures { (result.held ≡ handle.held) × IfSome handle.value (λ x. result.rows ≡ x) }
+        ensures { (result.held ≡ handle.held) × IfSome handle.value (λ x. result.shown ≡ x) }
     {
         let Handle { at, held, alloc } = handle;
         Publication {
@@ -45,7 +45,7 @@ impl InC for Publication {
     }
 
     fn into_handle(self) -> Handle<Published, Global>
-        ensures { (result.held ≡ self.held) × (result.value ≡ Some self.rows) }
+        ensures { (result.held ≡ self.held) × (result.value ≡ Some self.shown) }
     {
         let Publication { at, held, alloc } = self;
         Handle {

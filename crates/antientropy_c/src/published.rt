@@ -1,4 +1,4 @@
-//! A snapshot that is published.
+//! A snapshot that is published, and the number of entries that made its rows.
 ghost use Rattle.std.specs.Prelude.{◌≡◌, None};
 ghost use Rattle.std.specs.Arc.{arc_value};
 ghost use Rattle.vclock.specs.Answer.{Answers};
@@ -13,23 +13,25 @@ use vclock::Refusal;
 #[derive(Drop)]
 pub struct Published {
     snapshot: Arc<Snapshot, Global>,
+    /// The number of entries that made the rows, with those before the journal's first one.
+    entries: u64,
 }
 
 impl Model for Published {
     ghost use Rattle.std.specs.Arc.{arc_value};
-    ghost use Rattle.snapshot.specs.RowMaps.{RowMap};
+    ghost use Rattle.antientropy_c.specs.Published.{Shown};
 
-    ghost Value = { RowMap };
+    ghost Value = { Shown };
 
-    ghost view = { λ p. arc_value p.snapshot };
+    ghost view = { λ p. record { rows = arc_value p.snapshot; entries = p.entries } };
 }
 
 impl Published {
-    /// Makes the published form of a snapshot.
-    pub(crate) fn new(snapshot: Arc<Snapshot, Global>) -> Published
-        ensures { result ≡ arc_value snapshot }
+    /// Makes the published form of a snapshot, whose rows so many entries made.
+    pub(crate) fn new(snapshot: Arc<Snapshot, Global>, entries: u64) -> Published
+        ensures { result ≡ record { rows = arc_value snapshot; entries = entries } }
     {
-        Published { snapshot }
+        Published { snapshot, entries }
     }
 
     /// Makes another owner of the snapshot. Copies no row. Refused: NoMemory.
@@ -38,13 +40,21 @@ impl Published {
     {
         Ok(Published {
             snapshot: Arc::try_clone(&self.snapshot)?,
+            entries: self.entries,
         })
     }
 
     /// The snapshot.
     pub(crate) fn snapshot(&self) -> &Snapshot
-        ensures { result.now ≡ self.now }
+        ensures { result.now ≡ self.now.rows }
     {
         &self.snapshot
+    }
+
+    /// The number of entries that made the rows.
+    pub(crate) fn entries(&self) -> u64
+        ensures { result ≡ self.now.entries }
+    {
+        self.entries
     }
 }

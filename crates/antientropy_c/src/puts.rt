@@ -1,17 +1,19 @@
 //! Puts, and versions of other replicas.
-ghost use Rattle.std.specs.Prelude.{◌≡◌, ◌≤◌, None, Result, OnOk, IfOk};
+ghost use Rattle.std.specs.Prelude.{◌≡◌, ◌+◌, ◌^◌, ◌<◌, ◌≤◌, None, Result, OnOk, IfOk};
 ghost use Rattle.vclock.specs.Answer.{AnswersAtOnce, first_fault};
 ghost use Rattle.vclock.specs.Clock.{pairs_fault};
-ghost use Rattle.vclock.specs.Outcome.{DoesOrNoMemory};
+ghost use Rattle.vclock.specs.Outcome.{DoesOrNoMemory, through};
 ghost use Rattle.vclock.specs.declared.refusal.Refusal.{Refusal};
 ghost use Rattle.range_journal.specs.declared.journal.Entry.{Entry};
 ghost use Rattle.antientropy_c.specs.Numbers.{Returns};
-ghost use Rattle.antientropy_c.specs.Calls.{Calls};
+ghost use Rattle.antientropy_c.specs.Calls.{Calls, CallsKept};
+ghost use Rattle.antientropy_c.specs.Kept.{with_state};
 ghost use Rattle.antientropy_c.specs.Pairs.{clock_pairs};
 ghost use Rattle.range_store.specs.declared.receipt.Accepted.{Accepted};
 ghost use Rattle.antientropy_c.specs.Puts.{node_fault, kind_fault, kind_numbered, parts_fault, put_at_by, put_at, put_read_at, accept_at, NoMemoryAfter, TellsPut, TellsAccepted};
 
-use crate::frame::with;
+use crate::frame::{with, with_state};
+use crate::kept::Kept;
 use crate::numbers::code;
 use crate::pair::{Pair, check_pairs, clock_of};
 use crate::replica::Replica;
@@ -26,7 +28,7 @@ use version_set::{Kind, Version};
 #[repr(C)]
 #[derive(Clone, Copy)]
 pub struct PutReceipt {
-    /// The number of the entry in the journal, from 0.
+    /// The number of the entry.
     pub number: u64,
     /// The counter of the node in the new version's clock. The other counters are those of the context.
     pub counter: u64,
@@ -50,17 +52,18 @@ pub extern "C" fn antientropy_put(
     value: &[u8],
     receipt: &mut PutReceipt,
 ) -> u32
-    ensures { Calls result replica.old replica.new (receipt.new ≡ receipt.old)
+    ensures { CallsKept result replica.old replica.new (receipt.new ≡ receipt.old)
         (λ s t. Returns result (λ (r : Result Entry Refusal).
-        DoesOrNoMemory r s t (put_at s node key.now (clock_pairs context.now) kind value.now)
+        DoesOrNoMemory r s t (through (with_state s) (put_at s.state node key.now (clock_pairs context.now) kind value.now))
         × NoMemoryAfter (first_fault (node_fault node)
-        (parts_fault s.store.config.format key.now (clock_pairs context.now) kind value.now)) r
-        × TellsPut node r receipt.old receipt.new)) }
+        (parts_fault s.state.store.config.format key.now (clock_pairs context.now) kind value.now)) r
+        × TellsPut s.first node r receipt.old receipt.new)) }
 {
     let test = ContextTest::Fresh;
-    let mut call = |state: &mut RangeState| {
-        let outcome = put(alloc, state, test, node, key, context, kind, value);
-        tell_put(&outcome, node, receipt);
+    let mut call = |kept: &mut Kept| {
+        let first = kept.first();
+        let outcome = put(alloc, kept, test, node, key, context, kind, value);
+        tell_put(&outcome, first, node, receipt);
         code(&outcome)
     };
     with(replica, alloc, &mut call)
@@ -85,17 +88,18 @@ pub extern "C" fn antientropy_put_read(
     value: &[u8],
     receipt: &mut PutReceipt,
 ) -> u32
-    ensures { Calls result replica.old replica.new (receipt.new ≡ receipt.old)
+    ensures { CallsKept result replica.old replica.new (receipt.new ≡ receipt.old)
         (λ s t. Returns result (λ (r : Result Entry Refusal).
-        DoesOrNoMemory r s t (put_read_at s node key.now (clock_pairs context.now) kind value.now)
+        DoesOrNoMemory r s t (through (with_state s) (put_read_at s.state node key.now (clock_pairs context.now) kind value.now))
         × NoMemoryAfter (first_fault (node_fault node)
-        (parts_fault s.store.config.format key.now (clock_pairs context.now) kind value.now)) r
-        × TellsPut node r receipt.old receipt.new)) }
+        (parts_fault s.state.store.config.format key.now (clock_pairs context.now) kind value.now)) r
+        × TellsPut s.first node r receipt.old receipt.new)) }
 {
-    let mut call = |state: &mut RangeState| {
+    let mut call = |kept: &mut Kept| {
+        let first = kept.first();
         let test = ContextTest::Read;
-        let outcome = put(alloc, state, test, node, key, context, kind, value);
-        tell_put(&outcome, node, receipt);
+        let outcome = put(alloc, kept, test, node, key, context, kind, value);
+        tell_put(&outcome, first, node, receipt);
         code(&outcome)
     };
     with(replica, alloc, &mut call)
@@ -104,7 +108,7 @@ pub extern "C" fn antientropy_put_read(
 /// Puts a value into a replica, by a test of its context.
 fn put(
     alloc: Global,
-    state: &mut RangeState,
+    kept: &mut Kept,
     test: ContextTest,
     node: u64,
     key: &[u8],
@@ -112,20 +116,24 @@ fn put(
     kind: u8,
     value: &[u8],
 ) -> Result<Receipt, Refusal>
-    ensures does { DoesOrNoMemory result state.old state.new (put_at_by test state.old node key.now
-        (clock_pairs context.now) kind value.now) }
+    ensures does { DoesOrNoMemory result kept.old kept.new (through (with_state kept.old)
+        (put_at_by test kept.old.state node key.now (clock_pairs context.now) kind value.now)) }
     ensures early { NoMemoryAfter (first_fault (node_fault node)
-        (parts_fault state.old.store.config.format key.now (clock_pairs context.now) kind value.now)) result }
+        (parts_fault kept.old.state.store.config.format key.now (clock_pairs context.now) kind value.now)) result }
     ensures node { OnOk result (node ≤ 65535) }
+    ensures number { IfOk result (λ entry. kept.old.first + entry.number < 2 ^ 64) }
 {
     let node = node_of(node)?;
-    let kind = kind_of_parts(state.store().config().format(), key, context, kind, value)?;
+    let kind = kind_of_parts(
+        kept.state().store().config().format(),
+        key,
+        context,
+        kind,
+        value,
+    )?;
     let context = clock_of(alloc, context)?;
     let value = Bytes::copy_of(alloc, value)?;
-    match test {
-        ContextTest::Fresh => state.put(alloc, 0, node, key, &context, kind, value),
-        ContextTest::Read => state.put_read(alloc, 0, node, key, &context, kind, value),
-    }
+    kept.put(alloc, test, node, key, &context, kind, value)
 }
 
 /// Returns the node of a number. Refused: BadClock (it is 0 or over 65,535).
@@ -144,7 +152,7 @@ pub(crate) fn node_of(number: u64) -> Result<u16, Refusal>
 /// then as [`RangeState::accept`] is. On error the replica and the stored number are unchanged. The clock and the value
 /// are copied once the causes up to BadValue were tested, so NoMemory may replace a cause from OtherRange on.
 #[unsafe(no_mangle)]
-#[tactic(auto, using(crate::proofs::CallLaws::empty, crate::proofs::CallLaws::held, crate::proofs::CallLaws::returns))]
+#[tactic(auto, using(crate::proofs::CallLaws::state_empty, crate::proofs::CallLaws::state_held, crate::proofs::CallLaws::returns))]
 pub extern "C" fn antientropy_accept(
     alloc: Global,
     replica: &mut Replica,
@@ -165,7 +173,7 @@ pub extern "C" fn antientropy_accept(
         tell_accepted(&outcome, taken);
         code(&outcome)
     };
-    with(replica, alloc, &mut call)
+    with_state(replica, alloc, &mut call)
 }
 
 /// Accepts a version into a replica, as [`antientropy_accept`] does.
@@ -188,14 +196,15 @@ fn accept(
     state.accept(alloc, 0, Source::Copy, key, version)
 }
 
-/// Stores the receipt of a put, if it was not refused.
-fn tell_put(outcome: &Result<Receipt, Refusal>, node: u64, receipt: &mut PutReceipt)
-    requires { OnOk outcome.now (node ≤ 65535) }
-    ensures { TellsPut node outcome.now receipt.old receipt.new }
+/// Stores the receipt of a put, if it was not refused. The journal's first entry has the number `first`.
+fn tell_put(outcome: &Result<Receipt, Refusal>, first: u64, node: u64, receipt: &mut PutReceipt)
+    requires node { OnOk outcome.now (node ≤ 65535) }
+    requires number { IfOk outcome.now (λ entry. first + entry.number < 2 ^ 64) }
+    ensures { TellsPut first node outcome.now receipt.old receipt.new }
 {
     if let Ok(entry) = outcome {
         *receipt = PutReceipt {
-            number: entry.number,
+            number: first + entry.number,
             counter: entry.version.clock.get(node as u16),
         };
     }

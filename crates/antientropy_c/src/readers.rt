@@ -3,7 +3,7 @@ ghost use Rattle.std.specs.Prelude.{◌≡◌, true, false, None, MatchOption};
 ghost use Rattle.vclock.specs.Answer.{Answers};
 ghost use Rattle.vclock.specs.Bytes.{key_fault};
 ghost use Rattle.antientropy_c.specs.Hands.{HandsNothing, HandsOut, HandsOutRight};
-ghost use Rattle.antientropy_c.specs.Offers.{ShowsRows, Publishes, TakesRows};
+ghost use Rattle.antientropy_c.specs.Offers.{Shows, ShowsRows, Publishes, TakesRows};
 ghost use Rattle.antientropy_c.specs.Readers.{row_in, HandsKeyNextIn, has_node, digest_in};
 
 use crate::frame::with;
@@ -29,7 +29,7 @@ pub extern "C" fn antientropy_snapshot_share(
     publication: &mut Publication,
     other: &mut Publication,
 ) -> u32
-    ensures { ShowsRows result publication.old publication.new (other.new ≡ other.old)
+    ensures { Shows result publication.old publication.new (other.new ≡ other.old)
         (λ m. Publishes result other.old other.new None m) }
 {
     let mut call = |rows: &mut Published| share(alloc, rows, other);

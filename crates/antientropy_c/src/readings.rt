@@ -4,7 +4,7 @@ ghost use Rattle.range_journal.specs.Journal.{held};
 ghost use Rattle.antientropy_c.specs.Calls.{Calls};
 ghost use Rattle.antientropy_c.specs.Readings.{ReadsVersion};
 
-use crate::frame::with;
+use crate::frame::with_state;
 use crate::numbers::NO_VERSION;
 use crate::output::copy_out;
 use crate::pair::Pair;
@@ -31,7 +31,7 @@ pub struct Reading {
 /// and the version's kind. Refused, in order: EMPTY, NO_VERSION, SMALL (the pairs or the bytes don't fit: then the
 /// reading is stored, and of the two what fits is copied).
 #[unsafe(no_mangle)]
-#[tactic(auto, using(crate::proofs::CallLaws::empty, crate::proofs::CallLaws::held))]
+#[tactic(auto, using(crate::proofs::CallLaws::state_empty, crate::proofs::CallLaws::state_held))]
 pub extern "C" fn antientropy_read(
     alloc: Global,
     replica: &mut Replica,
@@ -47,7 +47,7 @@ pub extern "C" fn antientropy_read(
         reading.old reading.new (pairs.old, value.old) (pairs.new, value.new)) }
 {
     let mut call = |state: &mut RangeState| read(state, key, index, reading, pairs, value);
-    with(replica, alloc, &mut call)
+    with_state(replica, alloc, &mut call)
 }
 
 /// Copies out the clock and the value of a version, and stores their sizes and its kind.

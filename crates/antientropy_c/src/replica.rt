@@ -1,11 +1,11 @@
 //! The handle of a replica.
 ghost use Rattle.std.specs.Prelude.{◌≡◌, Some, IfSome};
-ghost use Rattle.range_state.specs.State.{State};
 ghost use Rattle.c_handle.specs.Handles.{c_owns};
-ghost use Rattle.range_state.specs.contracts.state.RangeState.{the_row};
+ghost use Rattle.antientropy_c.specs.Kept.{KeptState};
+ghost use Rattle.antientropy_c.specs.contracts.kept.Kept.{the_row};
 
+use crate::kept::Kept;
 use c_handle::{Handle, InC};
-use range_state::RangeState;
 use std::alloc::Global;
 use std::marker::Model;
 
@@ -16,25 +16,25 @@ pub struct Replica {
     at: *mut u8,
     pub held: bool,
     alloc: Global,
-    pub ghost state: { State },
+    pub ghost kept: { KeptState },
 }
 
 impl Model for Replica {
-    ghost also_owns = { λ h. c_owns the_row h.alloc h.held h.at h.state };
+    ghost also_owns = { λ h. c_owns the_row h.alloc h.held h.at h.kept };
 }
 
 // The allocator and the contents may go to another thread, and so may the handle.
 unsafe impl Send for Replica {}
 
 impl InC for Replica {
-    type Held = RangeState;
+    type Held = Kept;
 
     ghost held = { λ h. h.held };
 
-    ghost value = { λ h. h.state };
+    ghost value = { λ h. h.kept };
 
-    fn of(handle: Handle<RangeState, Global>) -> Replica
-        ensures { (result.held ≡ handle.held) × IfSome handle.value (λ x. result.state ≡ x) }
+    fn of(handle: Handle<Kept, Global>) -> Replica
+        ensures { (result.held ≡ handle.held) × IfSome handle.value (λ x. result.kept ≡ x) }
     {
         let Handle { at, held, alloc } = handle;
         Replica {
@@ -44,12 +44,12 @@ impl InC for Replica {
         }
     }
 
-    fn into_handle(self) -> Handle<RangeState, Global>
-        ensures { (result.held ≡ self.held) × (result.value ≡ Some self.state) }
+    fn into_handle(self) -> Handle<Kept, Global>
+        ensures { (result.held ≡ self.held) × (result.value ≡ Some self.kept) }
     {
         let Replica { at, held, alloc } = self;
         Handle {
-            at: at as *mut RangeState,
+            at: at as *mut Kept,
             held,
             alloc,
         }

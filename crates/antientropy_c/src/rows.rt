@@ -9,7 +9,7 @@ ghost use Rattle.antientropy_c.specs.Calls.{Calls};
 ghost use Rattle.antientropy_c.specs.Hands.{HandsNothing, HandsOutRight};
 ghost use Rattle.antientropy_c.specs.Shows.{row_of, row_shown};
 
-use crate::frame::with;
+use crate::frame::with_state;
 use crate::output::hand_out;
 use crate::replica::Replica;
 use crate::versions::versions_of;
@@ -23,7 +23,7 @@ use version_set::Held;
 /// Writes the text of the row of a key: no bytes if no version is held. Refused, in order: EMPTY, BadKey, NoMemory,
 /// SMALL.
 #[unsafe(no_mangle)]
-#[tactic(auto, using(crate::proofs::CallLaws::empty, crate::proofs::CallLaws::held, crate::proofs::CallLaws::gives))]
+#[tactic(auto, using(crate::proofs::CallLaws::state_empty, crate::proofs::CallLaws::state_held, crate::proofs::CallLaws::gives))]
 pub extern "C" fn antientropy_get(
     alloc: Global,
     replica: &mut Replica,
@@ -39,7 +39,7 @@ pub extern "C" fn antientropy_get(
         let outcome = row(alloc, state, key);
         hand_out(&outcome, out, need)
     };
-    with(replica, alloc, &mut call)
+    with_state(replica, alloc, &mut call)
 }
 
 /// Writes the text of the row of a key. Copies neither the key nor the versions.
@@ -74,7 +74,7 @@ pub(crate) fn held_row(
 
 /// Counts the versions that are held for a key. Refused: EMPTY.
 #[unsafe(no_mangle)]
-#[tactic(auto, using(crate::proofs::CallLaws::empty, crate::proofs::CallLaws::held))]
+#[tactic(auto, using(crate::proofs::CallLaws::state_empty, crate::proofs::CallLaws::state_held))]
 pub extern "C" fn antientropy_versions(
     alloc: Global,
     replica: &mut Replica,
@@ -88,5 +88,5 @@ pub extern "C" fn antientropy_versions(
         *count = versions_of(state, key).len() as u64;
         0
     };
-    with(replica, alloc, &mut call)
+    with_state(replica, alloc, &mut call)
 }

@@ -12,7 +12,7 @@ ghost use Rattle.antientropy_c.specs.Numbers.{Returns};
 ghost use Rattle.antientropy_c.specs.Calls.{Calls, Reads};
 ghost use Rattle.antientropy_c.specs.Sessions.{Opens, OpensUnless, partner_fault, asked_fault, TellsNumber, TakesWith, TakesMessage, TellsTaken, number_of_state, session_seen};
 
-use crate::frame::with;
+use crate::frame::with_state;
 use crate::numbers::code;
 use crate::replica::Replica;
 use range_state::{AnswerTaken, LocalRows, RangeState};
@@ -29,7 +29,7 @@ use walk_messages::{Answer, Message, decode};
 /// [`RangeState::open_session`] is: OtherFormat, OtherRange, SessionsFull, Dirty, NoMemory. If the bytes are an answer,
 /// NoMemory may replace BadMessage. On error the replica and the stored number are unchanged.
 #[unsafe(no_mangle)]
-#[tactic(auto, using(crate::proofs::CallLaws::empty, crate::proofs::CallLaws::held, crate::proofs::CallLaws::returns))]
+#[tactic(auto, using(crate::proofs::CallLaws::state_empty, crate::proofs::CallLaws::state_held, crate::proofs::CallLaws::returns))]
 pub extern "C" fn antientropy_open(
     alloc: Global,
     replica: &mut Replica,
@@ -46,7 +46,7 @@ pub extern "C" fn antientropy_open(
         tell_number(&outcome, session);
         code(&outcome)
     };
-    with(replica, alloc, &mut call)
+    with_state(replica, alloc, &mut call)
 }
 
 /// Opens a session as [`antientropy_open`] does, but one that compares the rows of the moment that the replica keeps: it
@@ -55,7 +55,7 @@ pub extern "C" fn antientropy_open(
 /// Refused as [`antientropy_open`] is; Dirty if there is no moment, or some node of it has no digest. On error the
 /// replica and the stored number are unchanged.
 #[unsafe(no_mangle)]
-#[tactic(auto, using(crate::proofs::CallLaws::empty, crate::proofs::CallLaws::held, crate::proofs::CallLaws::returns))]
+#[tactic(auto, using(crate::proofs::CallLaws::state_empty, crate::proofs::CallLaws::state_held, crate::proofs::CallLaws::returns))]
 pub extern "C" fn antientropy_open_at_moment(
     alloc: Global,
     replica: &mut Replica,
@@ -72,7 +72,7 @@ pub extern "C" fn antientropy_open_at_moment(
         tell_number(&outcome, session);
         code(&outcome)
     };
-    with(replica, alloc, &mut call)
+    with_state(replica, alloc, &mut call)
 }
 
 /// Opens a session by the bytes of an offer, if the partner's number isn't over 65,535.
@@ -151,7 +151,7 @@ pub struct TakenReceipt {
 /// Crowded, JournalFull, NoMemory. NoMemory may replace any of them if the bytes are an answer. On error the receipt is
 /// unchanged, and so is the replica after any refusal but NotCanonical.
 #[unsafe(no_mangle)]
-#[tactic(auto, using(crate::proofs::CallLaws::empty, crate::proofs::CallLaws::held, crate::proofs::CallLaws::returns))]
+#[tactic(auto, using(crate::proofs::CallLaws::state_empty, crate::proofs::CallLaws::state_held, crate::proofs::CallLaws::returns))]
 pub extern "C" fn antientropy_take(
     alloc: Global,
     replica: &mut Replica,
@@ -169,7 +169,7 @@ pub extern "C" fn antientropy_take(
         tell_taken(&outcome, receipt);
         code(&outcome)
     };
-    with(replica, alloc, &mut call)
+    with_state(replica, alloc, &mut call)
 }
 
 /// Takes the bytes of an answer.
@@ -268,7 +268,7 @@ fn number_of(state: SessionState) -> u64
 
 /// Cancels a session that is open; a session that has ended is unchanged. Refused, in order: EMPTY, UnknownSession.
 #[unsafe(no_mangle)]
-#[tactic(auto, using(crate::proofs::CallLaws::empty, crate::proofs::CallLaws::held, crate::proofs::CallLaws::returns))]
+#[tactic(auto, using(crate::proofs::CallLaws::state_empty, crate::proofs::CallLaws::state_held, crate::proofs::CallLaws::returns))]
 pub extern "C" fn antientropy_cancel(alloc: Global, replica: &mut Replica, session: u64) -> u32
     ensures { Calls result replica.old replica.new ⊤ (λ s t. Returns result (λ (r : Result (Unit {0}) Refusal).
         DoesAtOnce r s t (cancel_session s session))) }
@@ -277,12 +277,12 @@ pub extern "C" fn antientropy_cancel(alloc: Global, replica: &mut Replica, sessi
         let outcome = state.cancel_session(session);
         code(&outcome)
     };
-    with(replica, alloc, &mut call)
+    with_state(replica, alloc, &mut call)
 }
 
 /// Stores the state of a session: 0 open, 1 finished, 2 failed, 3 cancelled. Refused, in order: EMPTY, UnknownSession.
 #[unsafe(no_mangle)]
-#[tactic(auto, using(crate::proofs::CallLaws::empty, crate::proofs::CallLaws::held, crate::proofs::CallLaws::returns))]
+#[tactic(auto, using(crate::proofs::CallLaws::state_empty, crate::proofs::CallLaws::state_held, crate::proofs::CallLaws::returns))]
 pub extern "C" fn antientropy_session(
     alloc: Global,
     replica: &mut Replica,
@@ -298,7 +298,7 @@ pub extern "C" fn antientropy_session(
         tell_number(&outcome, standing);
         code(&outcome)
     };
-    with(replica, alloc, &mut call)
+    with_state(replica, alloc, &mut call)
 }
 
 /// Drops the records of ended sessions, as [`RangeState::drop_ended_sessions`] does. Refused: EMPTY.

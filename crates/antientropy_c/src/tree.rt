@@ -7,7 +7,7 @@ ghost use Rattle.antientropy_c.specs.Numbers.{Returns};
 ghost use Rattle.antientropy_c.specs.Calls.{Calls};
 ghost use Rattle.antientropy_c.specs.Sessions.{TellsNumber};
 
-use crate::frame::with;
+use crate::frame::with_state;
 use crate::numbers::code;
 use crate::replica::Replica;
 use crate::sessions::tell_number;
@@ -18,7 +18,7 @@ use vclock::Refusal;
 /// Hashes every dirty node. Refused, in order: EMPTY, NoMemory. After NoMemory some of the dirty nodes may be clean,
 /// and everything else is unchanged.
 #[unsafe(no_mangle)]
-#[tactic(auto, using(crate::proofs::CallLaws::empty, crate::proofs::CallLaws::held, crate::proofs::CallLaws::returns))]
+#[tactic(auto, using(crate::proofs::CallLaws::state_empty, crate::proofs::CallLaws::state_held, crate::proofs::CallLaws::returns))]
 pub extern "C" fn antientropy_rehash(alloc: Global, replica: &mut Replica) -> u32
     ensures { Calls result replica.old replica.new ⊤ (λ s t. Returns result (λ (r : Result (Unit {0}) Refusal).
         Answers r None (λ _. t ≡ rehashed s) × IsSameRange s t)) }
@@ -27,7 +27,7 @@ pub extern "C" fn antientropy_rehash(alloc: Global, replica: &mut Replica) -> u3
         let outcome = rehash(alloc, state);
         code(&outcome)
     };
-    with(replica, alloc, &mut call)
+    with_state(replica, alloc, &mut call)
 }
 
 /// Hashes every dirty node of a replica.
@@ -42,7 +42,7 @@ fn rehash(alloc: Global, state: &mut RangeState) -> Result<(), Refusal>
 /// Hashes at most `most` of the dirty nodes whose children are clean, and stores the number of nodes that are dirty then.
 /// Refused, in order: EMPTY, NoMemory. On error the replica is unchanged.
 #[unsafe(no_mangle)]
-#[tactic(auto, using(crate::proofs::CallLaws::empty, crate::proofs::CallLaws::held, crate::proofs::CallLaws::returns))]
+#[tactic(auto, using(crate::proofs::CallLaws::state_empty, crate::proofs::CallLaws::state_held, crate::proofs::CallLaws::returns))]
 pub extern "C" fn antientropy_rehash_some(
     alloc: Global,
     replica: &mut Replica,
@@ -57,7 +57,7 @@ pub extern "C" fn antientropy_rehash_some(
         tell_number(&outcome, left);
         code(&outcome)
     };
-    with(replica, alloc, &mut call)
+    with_state(replica, alloc, &mut call)
 }
 
 /// Hashes at most `most` of the dirty nodes whose children are clean, and returns the number of nodes that are dirty

@@ -5,7 +5,7 @@ ghost use Rattle.antientropy_c.specs.Calls.{Calls};
 ghost use Rattle.antientropy_c.specs.Hands.{HandsNothing};
 ghost use Rattle.antientropy_c.specs.Versions.{ShowsValue, ShowsClock, HandsPairs};
 
-use crate::frame::with;
+use crate::frame::with_state;
 use crate::numbers::{NO_VERSION, SMALL};
 use crate::output::copy_out;
 use crate::pair::Pair;
@@ -32,7 +32,7 @@ pub(crate) fn versions_of<'a>(state: &'a RangeState, key: &[u8]) -> &'a [Version
 /// version, 1 for a tombstone. Refused, in order: EMPTY, NO_VERSION, SMALL. The kind is stored even if the buffer is
 /// too small.
 #[unsafe(no_mangle)]
-#[tactic(auto, using(crate::proofs::CallLaws::empty, crate::proofs::CallLaws::held))]
+#[tactic(auto, using(crate::proofs::CallLaws::state_empty, crate::proofs::CallLaws::state_held))]
 pub extern "C" fn antientropy_value(
     alloc: Global,
     replica: &mut Replica,
@@ -47,7 +47,7 @@ pub extern "C" fn antientropy_value(
         × ShowsValue (slice_get (held s.store.entries key.now) index) result kind.old kind.new (need.old, out.old) (need.new, out.new)) }
 {
     let mut call = |state: &mut RangeState| show_value(state, key, index, kind, out, need);
-    with(replica, alloc, &mut call)
+    with_state(replica, alloc, &mut call)
 }
 
 /// Copies out the value of a version, and stores its kind.
@@ -74,7 +74,7 @@ fn show_value(
 /// Copies out the pairs of the clock of a version that is held for a key, by its index from 0. The pairs ascend by
 /// node. Refused, in order: EMPTY, NO_VERSION, SMALL.
 #[unsafe(no_mangle)]
-#[tactic(auto, using(crate::proofs::CallLaws::empty, crate::proofs::CallLaws::held))]
+#[tactic(auto, using(crate::proofs::CallLaws::state_empty, crate::proofs::CallLaws::state_held))]
 pub extern "C" fn antientropy_clock(
     alloc: Global,
     replica: &mut Replica,
@@ -87,7 +87,7 @@ pub extern "C" fn antientropy_clock(
         × ShowsClock (slice_get (held s.store.entries key.now) index) result (need.old, out.old) (need.new, out.new)) }
 {
     let mut call = |state: &mut RangeState| show_clock(state, key, index, out, need);
-    with(replica, alloc, &mut call)
+    with_state(replica, alloc, &mut call)
 }
 
 /// Copies out the pairs of the clock of a version.

@@ -3,5 +3,5 @@ use Rattle.std.proofs.lemmas.List.{get_or_past}
 use Rattle.antientropy_c.specs.Library.{names}
 use Rattle.antientropy_c.proofs.library.name_of.Goals as goal
 
-pub returns-in-37-to-4294967295 : goal.returns-in-37-to-4294967295
-returns-in-37-to-4294967295 c = sym (get_or_past names c.args.number [] (omega (arith, c.in-37-to-4294967295)))
+pub returns-in-38-to-4294967295 : goal.returns-in-38-to-4294967295
+returns-in-38-to-4294967295 c = sym (get_or_past names c.args.number [] (omega (arith, c.in-38-to-4294967295)))
