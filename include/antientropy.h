@@ -106,7 +106,7 @@ enum {
     ANTIENTROPY_WRONG_DIGEST = 14,    /* the text's digest isn't the expected one */
     ANTIENTROPY_NOT_CANONICAL = 15,   /* the digest is right, but the text isn't a node's: the session has failed */
     ANTIENTROPY_OTHER_FORMAT = 16,    /* the offer or the rows are of another format */
-    ANTIENTROPY_SESSIONS_FULL = 17,   /* 64 sessions are open, or there are 1,024 */
+    ANTIENTROPY_SESSIONS_FULL = 17,   /* 64 sessions are open, or 1,024 are kept: drop the ended ones */
     ANTIENTROPY_NO_SLOT = 18,         /* no slot is free, or none is lent */
     ANTIENTROPY_CLOCK_BACK = 19,      /* the moment is before the greatest accepted one */
     ANTIENTROPY_UNKNOWN_HINT = 20,    /* no pending hint has this number, or no hint can have it */
@@ -186,7 +186,7 @@ struct antientropy_pair {
 
 /* The result of a put. */
 struct antientropy_receipt {
-    uint64_t number;  /* the entry's number: no other entry of this replica, before or after renewals, has it */
+    uint64_t number;  /* the entry's number; after a renewal it may be that of a version carried over */
     uint64_t counter; /* the node's counter in the new version's clock; the other counters are those of the context */
 };
 
@@ -231,7 +231,7 @@ struct antientropy_counts {
     uint64_t entries;       /* entries, with those before renewals: the number of the next entry */
     uint64_t limit;         /* maximum of `entries` less `first`: there the journal is full (JOURNAL_FULL) */
     uint64_t dirty;         /* nodes of the tree that have no digest */
-    uint64_t sessions;      /* sessions, ever: at 1,024 no other can be opened */
+    uint64_t sessions;      /* sessions that are kept: at 1,024 no other can be opened until ended ones are dropped */
     uint64_t open_sessions; /* open sessions: at 64 no other can be opened until one has ended */
     uint64_t first;         /* the number of the journal's first entry: 0 before the first renewal */
     uint64_t front;         /* `entries` at the last moment that was whole; `first` if there was none since a renewal */
@@ -607,9 +607,10 @@ uint32_t antientropy_load_format(struct antientropy_replica *replica, uint64_t f
 
 /* ---- sessions */
 
-/* Opens a session with a partner's offer, and returns its number, from 0. The partner's number, at most 65,535, is kept
- * in the session's record, and no call returns it. A session is never freed before its replica, so compare first
- * (antientropy_read_offer, antientropy_root): an offer of the replica's format, range and root needs no session.
+/* Opens a session with a partner's offer, and returns its number: one more than the last, from 0, over renewals too. The
+ * partner's number, at most 65,535, is kept in the session's record, and no call returns it. A session is kept until
+ * antientropy_drop_sessions, so compare first (antientropy_read_offer, antientropy_root): an offer of the replica's
+ * format, range and root needs no session.
  * Refused, in order: EMPTY, BAD_CLOCK (the partner is over 65,535), BAD_MESSAGE, OTHER_FORMAT, OTHER_RANGE,
  * SESSIONS_FULL, DIRTY, NO_MEMORY. NO_MEMORY may be returned instead of BAD_MESSAGE. */
 uint32_t antientropy_open(struct antientropy_replica *replica, uint64_t partner, const uint8_t *offer, size_t offer_len,
@@ -651,6 +652,13 @@ uint32_t antientropy_take(struct antientropy_replica *replica, uint64_t session,
 
 /* Cancels a session if it is open; otherwise leaves it unchanged. Refused, in order: EMPTY, UNKNOWN_SESSION. */
 uint32_t antientropy_cancel(struct antientropy_replica *replica, uint64_t session);
+
+/* Drops the sessions that have ended, and all that they keep: rows that later puts have changed, and texts. Call it after
+ * each sync. Open sessions are unchanged, under their numbers. The number of a dropped one is UNKNOWN_SESSION from then
+ * on, and no later session has it. Entries whose source is PARTNER have the source COPY then. Takes time in proportion to
+ * the entries since the last such call, and to what is freed.
+ * Refused: EMPTY. */
+uint32_t antientropy_drop_sessions(struct antientropy_replica *replica);
 
 /* Returns the state of a session. Refused, in order: EMPTY, UNKNOWN_SESSION. */
 uint32_t antientropy_session(struct antientropy_replica *replica, uint64_t session, uint64_t *state);

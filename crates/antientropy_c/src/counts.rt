@@ -17,7 +17,7 @@ pub struct Counts {
     pub limit: u64,
     /// The number of nodes of the tree without a digest.
     pub dirty: u64,
-    /// The number of sessions that were ever opened.
+    /// The number of sessions that are kept.
     pub sessions: u64,
     /// The number of sessions that are open.
     pub open_sessions: u64,

@@ -311,7 +311,7 @@ pub extern "C" fn antientropy_drop_sessions(alloc: Global, replica: &mut Replica
         state.drop_ended_sessions();
         0
     };
-    with(replica, alloc, &mut call)
+    with_state(replica, alloc, &mut call)
 }
 
 /// Returns the number of a session's state. Refused: UnknownSession.
