@@ -114,13 +114,8 @@ impl RangeState {
             (λ r. IsFirstOf r.session.outstanding first)) }
         ensures valid { IsRight self.now }
     {
-        Ok(
-            self.record_at(place)?
-                .session
-                .outstanding()
-                .first()
-                .copied(),
-        )
+        let nodes = self.record_at(place)?.session.outstanding();
+        Ok(nodes.first().copied())
     }
 
     /// Returns the record of a session. Doesn't allocate. Refused: UnknownSession (there is no record of that number).
