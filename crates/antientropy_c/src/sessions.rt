@@ -303,7 +303,7 @@ pub extern "C" fn antientropy_session(
 
 /// Drops the records of ended sessions, as [`RangeState::drop_ended_sessions`] does. Refused: EMPTY.
 #[unsafe(no_mangle)]
-#[tactic(auto, using(crate::proofs::CallLaws::empty, crate::proofs::CallLaws::held))]
+#[tactic(auto, using(crate::proofs::CallLaws::state_empty, crate::proofs::CallLaws::state_held))]
 pub extern "C" fn antientropy_drop_sessions(alloc: Global, replica: &mut Replica) -> u32
     ensures { Calls result replica.old replica.new ⊤ (λ s t. (result ≡ 0) × (t ≡ without_ended_sessions s)) }
 {
