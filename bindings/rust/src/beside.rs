@@ -44,8 +44,8 @@ pub fn snapshot_beside<T: AsMut<Replica>>(shared: &Mutex<T>) -> Result<Snapshot,
 /// Takes the versions of a partner's offer that a shared replica lacks, as [`Replica::sync_within`] does.
 ///
 /// The lock is free while nodes are hashed and while `reach` waits, so other threads put. Don't put a renewed replica
-/// in the place of this one meanwhile: it doesn't have the session. `T` is [`Replica`], or a type that has one. Panics
-/// if the lock is poisoned.
+/// in the place of this one meanwhile: it doesn't have the session. Don't migrate this one: that ends the session. `T`
+/// is [`Replica`], or a type that has one. Panics if the lock is poisoned.
 ///
 /// ```
 /// use std::sync::Mutex;

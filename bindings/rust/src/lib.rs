@@ -8,6 +8,7 @@ mod functions;
 mod handle;
 mod hints;
 mod moment;
+mod packed;
 mod portion;
 mod refusal;
 mod replica;
@@ -23,6 +24,7 @@ pub use beside::{snapshot_beside, sync_beside};
 pub use checkpoint::{CheckpointError, Damage};
 pub use functions::{compare, merge, place, read_offer, version};
 pub use hints::Hints;
+pub use packed::Packed;
 pub use portion::Portion;
 pub use refusal::Refusal;
 pub use replica::{Config, Replica, RowsRefused};
@@ -31,6 +33,6 @@ pub use slots::Slots;
 pub use snapshot::Snapshot;
 pub use sync::{Bounds, Synced};
 pub use values::{
-    Clock, Counts, Entry, Hint, HintCounts, Kind, Loaded, OfferParts, Order, Pair, Receipt, Root, SlotCounts, Source,
-    Spot, State, Taken, Version,
+    About, Clock, Counts, Entry, Hint, HintCounts, Kind, Loaded, OfferParts, Order, Pair, Receipt, Root, SlotCounts,
+    Source, Spot, State, Taken, Version,
 };

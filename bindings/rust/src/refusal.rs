@@ -65,7 +65,7 @@ refusals! {
     StaleContext = 6,
     /// The key would have over 64 versions.
     Crowded = 7,
-    /// The journal has no room for the entries.
+    /// The journal has no room for the entries; of a renewal, or no numbers are left.
     JournalFull = 8,
     /// A key or an offer is of another range, or the rows are of two leaves.
     OtherRange = 9,
@@ -81,7 +81,7 @@ refusals! {
     NotCanonical = 15,
     /// The offer or the rows are of another format.
     OtherFormat = 16,
-    /// 64 sessions are open, or there are 1,024.
+    /// 64 sessions are open, or 1,024 are kept: drop the ended ones.
     SessionsFull = 17,
     /// No slot is free, or none is lent.
     NoSlot = 18,
@@ -109,6 +109,8 @@ refusals! {
     Held = 35,
     /// There is no such version, entry or hint, or none that follows.
     NoVersion = 36,
+    /// No entry is to be read from this number on: it is over the count of entries, or from before the last renewal.
+    BadPosition = 37,
 }
 
 /// Writes the name that the library has for the number.

@@ -8,6 +8,7 @@ use crate::checkpoint::{self, CheckpointError};
 use crate::functions::read_offer;
 use crate::handle::{bytes, clock, value, written, Owned, CLOCK_MAX};
 use crate::moment::at_moment;
+use crate::packed::{Entries, Packed};
 use crate::portion::Portion;
 use crate::refusal::{check, found, Refusal};
 use crate::rows::{row, Keys};
@@ -15,7 +16,7 @@ use crate::session::{Session, SessionId};
 use crate::snapshot::Snapshot;
 use crate::sync::{self, Bounds, Synced};
 use crate::sys;
-use crate::values::{kind_of, Clock, Counts, Entry, Kind, Loaded, Pair, Receipt, Root, Source, Version};
+use crate::values::{kind_of, About, Clock, Counts, Entry, Kind, Loaded, Pair, Receipt, Root, Source, Version};
 
 /// A call that puts a version.
 type PutCall = unsafe extern "C" fn(
@@ -37,12 +38,13 @@ type SnapshotCall = unsafe extern "C" fn(*mut sys::Handle, *mut sys::Handle) -> 
 /// A call that opens a session.
 type OpenCall = unsafe extern "C" fn(*mut sys::Handle, u64, *const u8, usize, *mut u64) -> u32;
 
-/// The numbers of a replica.
+/// The numbers of a new replica.
 ///
 /// ```
 /// use antientropy::{Config, Replica};
-/// let replica = Replica::new(Config { bits: 4, range: 9, ..Config::default() })?;
-/// assert_eq!((replica.format(), replica.bits(), replica.range()), (2, 4, 9));
+/// let mut replica = Replica::new(Config { bits: 4, range: 9, ..Config::default() })?;
+/// let about = replica.about()?;
+/// assert_eq!((about.format, about.bits, about.range), (2, 4, 9));
 /// # Ok::<(), antientropy::Refusal>(())
 /// ```
 #[derive(Clone, Copy, Debug, PartialEq, Eq, Hash)]
@@ -83,7 +85,6 @@ impl Default for Config {
 #[derive(Debug)]
 pub struct Replica {
     handle: Owned,
-    config: Config,
 }
 
 impl Replica {
@@ -94,7 +95,7 @@ impl Replica {
             // SAFETY: the handle is empty and a local one.
             unsafe { sys::antientropy_new(raw, format.into(), bits.into(), range.into(), limit) }
         })?;
-        Ok(Replica { handle, config })
+        Ok(Replica { handle })
     }
 
     /// Makes an empty replica that finds keys by a hash with a seed.
@@ -110,44 +111,43 @@ impl Replica {
                 sys::antientropy_new_seeded(raw, format.into(), bits.into(), range.into(), limit, first, second)
             }
         })?;
-        Ok(Replica { handle, config })
+        Ok(Replica { handle })
     }
 
-    /// Returns a new replica with the versions that are held: one entry for each, and no sessions.
+    /// Returns a new replica with the versions that are held: one entry for each, as a copy, and no sessions.
     ///
-    /// This one is left unchanged: drop it, and go on with the new one under the same node number. Refused as `BadRing`
-    /// (the limit) or `JournalFull` (more versions are held than the limit).
+    /// The numbers of entries go on: both replicas count as many entries, and the next entry gets a number that was
+    /// never used. So do those of sessions. This replica is left unchanged: drop it, and go on with the new one under
+    /// the same node number. Refused as `BadRing` (the limit) or `JournalFull` (more versions are held than the limit,
+    /// or no numbers are left).
     pub fn renew(&mut self, limit: u64) -> Result<Replica, Refusal> {
         let from = self.handle.raw();
         let handle = Owned::make(sys::antientropy_free, |into| {
             // SAFETY: as in `sys`; `into` is empty and a local one.
             unsafe { sys::antientropy_renew(from, into, limit) }
         })?;
-        Ok(Replica { handle, config: Config { limit, ..self.config } })
+        Ok(Replica { handle })
     }
 
     /// Converts a replica of format 1 to format 2. All nodes become dirty, open sessions are cancelled, and the moment
     /// is dropped.
     pub fn migrate(&mut self) -> Result<(), Refusal> {
         // SAFETY: as in `sys`.
-        check(unsafe { sys::antientropy_migrate(self.handle.raw()) })?;
-        self.config.format = 2;
-        Ok(())
+        check(unsafe { sys::antientropy_migrate(self.handle.raw()) })
     }
 
-    /// Returns the format of the replica.
-    pub fn format(&self) -> u8 {
-        self.config.format
-    }
-
-    /// Returns the bits of the ring.
-    pub fn bits(&self) -> u8 {
-        self.config.bits
-    }
-
-    /// Returns the number of the range.
-    pub fn range(&self) -> u16 {
-        self.config.range
+    /// Returns the format, the range and the number of entries: what a checkpoint or a log has to name.
+    pub fn about(&mut self) -> Result<About, Refusal> {
+        let about: sys::About = written(|about| {
+            // SAFETY: as in `sys`.
+            unsafe { sys::antientropy_about(self.handle.raw(), about) }
+        })?;
+        Ok(About {
+            format: about.format as u8,
+            bits: about.bits as u8,
+            range: about.range as u16,
+            entries: about.entries,
+        })
     }
 
     /// Returns the counts of entries, dirty nodes and sessions.
@@ -349,15 +349,18 @@ impl Replica {
 
 /// The journal.
 impl Replica {
-    /// Returns an entry of the journal, by its number from 0.
+    /// Returns an entry of the journal, by its number.
     pub fn entry(&mut self, number: u64) -> Result<Option<Entry>, Refusal> {
         found(self.entry_parts(number))
     }
 
-    /// Returns an iterator over the entries of the journal, from a number on. Entries are never changed.
+    /// Returns an iterator over the entries of the journal, from a number on. It ends after a refusal.
     ///
-    /// Refused as `NoVersion` if the number is over that of entries: then it is one of a journal before a renewal. That
-    /// finds only some old numbers, since a renewal numbers the entries anew: begin at its count of entries.
+    /// A log reads from the count of entries that it has. It lacks none after a renewal if it had all before.
+    ///
+    /// Refused as `BadPosition` if the number is over the count of entries, or below that at the last renewal: then
+    /// entries were missed, or it is another replica's number. Read from [`Counts::first`] then, which gives the whole
+    /// journal.
     ///
     /// ```
     /// # use antientropy::{Clock, Config, Replica};
@@ -371,15 +374,39 @@ impl Replica {
     /// # Ok::<(), antientropy::Refusal>(())
     /// ```
     pub fn entries(&mut self, start: u64) -> Result<impl Iterator<Item = Result<Entry, Refusal>> + '_, Refusal> {
-        if start > self.count()?.entries {
-            return Err(Refusal::NoVersion);
-        }
-        Ok((start..).map_while(move |number| self.entry(number).transpose()))
+        let format = self.about()?.format;
+        Ok(Entries::of(&mut self.handle, format, start)?.all())
+    }
+
+    /// Returns some entries of the journal, from a number on, packed: about 1 MiB, and at least one if any is left.
+    ///
+    /// Refused as [`entries`](Replica::entries).
+    ///
+    /// ```
+    /// # use std::io::Write;
+    /// # use antientropy::{Clock, Config, Replica};
+    /// # let (mut replica, mut log, mut logged) = (Replica::new(Config::default())?, Vec::new(), 0);
+    /// replica.put(1, b"cart", Some(b"milk"), &Clock::new())?;
+    /// loop {
+    ///     let packed = replica.packed_entries(logged)?;
+    ///     if packed.bytes.is_empty() {
+    ///         break;
+    ///     }
+    ///     log.write_all(&packed.bytes)?;
+    ///     logged = packed.next;
+    /// }
+    /// assert_eq!((logged, log.len()), (1, 29));
+    /// # Ok::<(), Box<dyn std::error::Error>>(())
+    /// ```
+    pub fn packed_entries(&mut self, start: u64) -> Result<Packed, Refusal> {
+        let mut packed = Packed::read(&mut self.handle, start)?;
+        packed.bytes.shrink_to_fit();
+        Ok(packed)
     }
 
     /// Returns the greatest counter of a node in the clocks of a key's versions, or 0.
     ///
-    /// It is that of the first `entries` entries of the journal (all, if there are fewer).
+    /// It is that of the journal's entries of numbers below `entries` (all, if there are fewer).
     ///
     /// Refused as `BadClock` if the node is 0.
     ///
@@ -448,7 +475,7 @@ impl Replica {
     /// Returns a snapshot of the rows now. Refused as `Dirty` if a node has no digest.
     pub fn snapshot_if_clean(&mut self) -> Result<Snapshot, Refusal> {
         let handle = self.snapshot_by(sys::antientropy_snapshot)?;
-        Ok(Snapshot::of(handle, self.config, self.count()?.entries))
+        Ok(Snapshot::of(handle, self.about()?))
     }
 
     /// Makes one of the two calls that make a snapshot.
@@ -512,8 +539,8 @@ impl Replica {
 
     /// Returns a new replica with the rows of a checkpoint, and a journal of at most `limit` entries.
     ///
-    /// The root finds damage, but no forged file. Compare `format`, `bits` and `range` with your configuration. Refused
-    /// as `BadRing` (the file's bits or range, or the limit) or `JournalFull`.
+    /// The root finds damage, but no forged file. Compare [`about`](Replica::about) with your configuration. Entries
+    /// are numbered from 0. Refused as `BadRing` (the file's bits or range, or the limit) or `JournalFull`.
     pub fn load(file: &mut (impl Read + ?Sized), limit: u64) -> Result<Replica, CheckpointError> {
         checkpoint::load(file, limit)
     }
@@ -588,7 +615,8 @@ impl Replica {
     /// Returns a snapshot of the moment. Refused as `Dirty` if there is none, or if it isn't whole.
     pub fn moment(&mut self) -> Result<Snapshot, Refusal> {
         let handle = self.snapshot_by(sys::antientropy_moment)?;
-        Ok(Snapshot::of(handle, self.config, self.count()?.front))
+        let entries = self.count()?.front;
+        Ok(Snapshot::of(handle, About { entries, ..self.about()? }))
     }
 }
 
@@ -596,8 +624,8 @@ impl Replica {
 impl Replica {
     /// Opens a session with a partner's offer. Hashes the nodes that have no digest. The replica keeps no moment then.
     ///
-    /// A session is never freed before its replica, so compare roots first. Refused as `BadMessage`, `OtherFormat`,
-    /// `OtherRange` or `SessionsFull`.
+    /// A session is kept until [`drop_sessions`](Replica::drop_sessions), so compare roots first. Refused as
+    /// `BadMessage`, `OtherFormat`, `OtherRange` or `SessionsFull`.
     pub fn open(&mut self, partner: u16, offer: &[u8]) -> Result<SessionId, Refusal> {
         at_moment(self, |replica| replica.open_at_moment(partner, offer))
     }
@@ -630,7 +658,28 @@ impl Replica {
         Session::of(&mut self.handle, id)
     }
 
+    /// Drops the sessions that have ended, and all that they keep: rows that later puts have changed, and texts.
+    ///
+    /// Open sessions are unchanged. Calls of a dropped one are refused as `UnknownSession`, and no later one has its
+    /// number. Entries of the source `Partner` have the source `Copy` then. [`sync`](Replica::sync) and
+    /// [`sync_beside`](crate::sync_beside) drop sessions, too.
+    ///
+    /// ```
+    /// # use antientropy::{Config, Refusal, Replica};
+    /// # let (mut a, mut b) = (Replica::new(Config::default())?, Replica::new(Config::default())?);
+    /// let id = b.open(1, &a.snapshot()?.offer(7)?)?;
+    /// b.session(id).cancel()?;
+    /// b.drop_sessions()?;
+    /// assert_eq!(b.session(id).state(), Err(Refusal::UnknownSession));
+    /// # Ok::<(), Refusal>(())
+    /// ```
+    pub fn drop_sessions(&mut self) -> Result<(), Refusal> {
+        // SAFETY: as in `sys`.
+        check(unsafe { sys::antientropy_drop_sessions(self.handle.raw()) })
+    }
+
     /// Takes the versions of a partner's offer that this replica lacks. If the roots are equal it opens no session.
+    /// Otherwise it drops all sessions that have ended, at its end.
     ///
     /// `reach` sends asks to the partner, and returns the answers in their order: `None` for one that is missing.
     /// Answers that are missing at the end are left out: after a lost link it returns an empty list. The sync has the

@@ -7,7 +7,7 @@ use crate::values::{State, Taken};
 
 /// The numbers of a session: its place in its replica, and the number of the partner's offer.
 ///
-/// It belongs to the replica that opened the session, until that one is renewed.
+/// It belongs to the replica that opened the session. No later session of it has the number, over renewals too.
 #[derive(Clone, Copy, Debug, PartialEq, Eq, Hash)]
 pub struct SessionId {
     /// Number of the session, from 0.
@@ -19,7 +19,8 @@ pub struct SessionId {
 /// A session of a replica with a partner's offer, borrowed for some calls.
 ///
 /// [`Replica::session`](crate::Replica::session) returns it by its numbers, so other calls of the replica, even puts,
-/// may come between. Each call is refused as `UnknownSession` if the replica has no session of the number.
+/// may come between. Each call is refused as `UnknownSession` if the replica has no session of the number, since
+/// [`Replica::drop_sessions`](crate::Replica::drop_sessions) has dropped it, say.
 ///
 /// ```
 /// use antientropy::{Clock, Config, Replica, State};

@@ -5,10 +5,9 @@ use std::io::Write;
 use crate::checkpoint::{self, CheckpointError};
 use crate::handle::{bytes, Owned};
 use crate::refusal::{check, Refusal};
-use crate::replica::Config;
 use crate::rows::{row, Keys};
 use crate::sys;
-use crate::values::Root;
+use crate::values::{About, Root};
 
 /// The rows of a replica at one moment.
 ///
@@ -27,13 +26,13 @@ use crate::values::Root;
 #[derive(Debug)]
 pub struct Snapshot {
     handle: Owned,
-    config: Config,
-    entries: u64,
+    about: About,
 }
 
 impl Snapshot {
-    pub(crate) fn of(handle: Owned, config: Config, entries: u64) -> Snapshot {
-        Snapshot { handle, config, entries }
+    /// Returns the snapshot of a handle. `about` is of its moment.
+    pub(crate) fn of(handle: Owned, about: About) -> Snapshot {
+        Snapshot { handle, about }
     }
 
     /// Returns another snapshot of the same rows. Copies no row.
@@ -56,27 +55,27 @@ impl Snapshot {
             // SAFETY: as in `sys`; `into` is empty and a local one.
             unsafe { sys::antientropy_snapshot_share(from, into) }
         })?;
-        Ok(Snapshot::of(handle, self.config, self.entries))
+        Ok(Snapshot::of(handle, self.about))
     }
 
     /// Returns the format of the rows.
     pub fn format(&self) -> u8 {
-        self.config.format
+        self.about.format
     }
 
     /// Returns the bits of the ring.
     pub fn bits(&self) -> u8 {
-        self.config.bits
+        self.about.bits
     }
 
     /// Returns the number of the range.
     pub fn range(&self) -> u16 {
-        self.config.range
+        self.about.range
     }
 
-    /// Returns the number of the journal's entries at the moment of the snapshot: a log goes on there.
+    /// Returns the number of entries at the moment of the snapshot: a log goes on there.
     pub fn entries(&self) -> u64 {
-        self.entries
+        self.about.entries
     }
 
     /// Returns the digest of the root.

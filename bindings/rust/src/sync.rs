@@ -37,7 +37,7 @@ pub struct Synced {
     pub bad: u64,
     /// Asks for the leaves that were left, since a key in them is crowded.
     pub crowded: Vec<Vec<u8>>,
-    /// State of the session.
+    /// State of the session at its end.
     pub state: State,
 }
 
@@ -90,7 +90,9 @@ fn open_unless_equal(
     Ok((moment, Some(id)))
 }
 
-/// An open session, which is cancelled when it is dropped: after a refusal, or when `reach` panics.
+/// The session of a sync. It is dropped with this struct: at the end, after a refusal, or when `reach` panics.
+///
+/// Another sync of the replica may drop it once it has ended. So only its cancel follows the last answer.
 struct Opened<'a, A: Access> {
     access: &'a mut A,
     id: SessionId,
@@ -108,7 +110,10 @@ impl<A: Access> Drop for Opened<'_, A> {
     fn drop(&mut self) {
         let id = self.id;
         // It is refused only for a session that the replica doesn't have.
-        let _ = self.access.try_with(|replica| replica.session(id).cancel());
+        let _ = self.access.try_with(|replica| {
+            replica.session(id).cancel()?;
+            replica.drop_sessions()
+        });
     }
 }
 
@@ -133,14 +138,16 @@ where
             }
             asks = self.open_asks()?;
         }
-        let state = self.session.with(|session| {
-            session.cancel()?;
-            session.state()
-        })?;
-        Ok(Synced { state, ..self.synced })
+        if self.synced.state == State::Open {
+            self.synced.state = self.session.with(|session| {
+                session.cancel()?;
+                session.state()
+            })?;
+        }
+        Ok(self.synced)
     }
 
-    /// Returns the asks for the nodes that may still be taken: none after too many bad answers.
+    /// Returns the asks for the nodes that may still be taken: none after the last answer, or too many bad ones.
     fn open_asks(&mut self) -> Result<Vec<Vec<u8>>, Refusal> {
         if self.is_over() {
             return Ok(Vec::new());
@@ -169,6 +176,7 @@ where
             Some(Ok(taken)) => {
                 self.synced.accepted += taken.accepted;
                 self.synced.known += taken.known;
+                self.synced.state = taken.state;
             }
             Some(Err(Refusal::Crowded)) => self.synced.crowded.push(ask.to_vec()),
             None | Some(Err(Refusal::BadMessage | Refusal::NotAsked | Refusal::WrongDigest)) => self.synced.bad += 1,
@@ -178,6 +186,6 @@ where
     }
 
     fn is_over(&self) -> bool {
-        self.synced.bad > self.bounds.most_bad
+        self.synced.state != State::Open || self.synced.bad > self.bounds.most_bad
     }
 }

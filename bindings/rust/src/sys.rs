@@ -61,6 +61,15 @@ pub struct Loaded {
 
 #[repr(C)]
 #[derive(Default)]
+pub struct About {
+    pub format: u64,
+    pub bits: u64,
+    pub range: u64,
+    pub entries: u64,
+}
+
+#[repr(C)]
+#[derive(Default)]
 pub struct Percentile {
     pub found: u64,
     pub micros: u64,
@@ -84,6 +93,7 @@ extern "C" {
     pub fn antientropy_renew(from: *mut Handle, into: *mut Handle, limit: u64) -> u32;
     pub fn antientropy_migrate(replica: *mut Handle) -> u32;
     pub fn antientropy_count(replica: *mut Handle, counts: *mut Counts) -> u32;
+    pub fn antientropy_about(replica: *mut Handle, about: *mut About) -> u32;
     pub fn antientropy_put_read(
         replica: *mut Handle,
         node: u64,
@@ -189,6 +199,14 @@ extern "C" {
         out: *mut Pair,
         out_len: usize,
         need: *mut u64,
+    ) -> u32;
+    pub fn antientropy_entries(
+        replica: *mut Handle,
+        from: u64,
+        out: *mut u8,
+        out_len: usize,
+        need: *mut u64,
+        next: *mut u64,
     ) -> u32;
     pub fn antientropy_entry_key(
         replica: *mut Handle,
@@ -319,6 +337,7 @@ extern "C" {
         taken: *mut Taken,
     ) -> u32;
     pub fn antientropy_cancel(replica: *mut Handle, session: u64) -> u32;
+    pub fn antientropy_drop_sessions(replica: *mut Handle) -> u32;
     pub fn antientropy_session(replica: *mut Handle, session: u64, state: *mut u64) -> u32;
     pub fn antientropy_hints_new(hints: *mut Handle) -> u32;
     pub fn antientropy_hints_restore(hints: *mut Handle, first: u64) -> u32;

@@ -117,11 +117,11 @@ numbered! {
     Source {
         /// A put at this replica.
         Put = 0,
-        /// A copy: accepted or loaded here, or carried over by a renewal.
+        /// A copy: accepted or loaded here, carried over by a renewal, or taken in a session that was dropped.
         Copy = 1,
         /// A hint that was delivered: not through the C library, which takes it as a copy.
         Hint = 2,
-        /// A partner's version, taken in a session.
+        /// A partner's version, taken in a session that is kept.
         Partner = 3,
     }
 }
@@ -192,7 +192,7 @@ pub(crate) fn kind_of(value: Option<&[u8]>) -> Kind {
 /// An entry of a journal: an accepted version, with its key and its source.
 #[derive(Clone, Debug, PartialEq, Eq, Hash)]
 pub struct Entry {
-    /// Number of the entry, from 0.
+    /// Number of the entry, from 0. Numbers go on over renewals.
     pub number: u64,
     /// Key of the version.
     pub key: Vec<u8>,
@@ -220,6 +220,7 @@ pub struct Hint {
 #[derive(Clone, Copy, Debug, Default, PartialEq, Eq, Hash)]
 pub struct Receipt {
     /// Number of the entry in the journal: [`Replica::entry`](crate::Replica::entry) returns the version for copies.
+    /// After a renewal it may be that of another version.
     pub number: u64,
     /// The node's counter in the new version's clock. The other counters are those of the context.
     pub counter: u64,
@@ -275,20 +276,33 @@ pub struct Loaded {
 #[repr(C)]
 #[derive(Clone, Copy, Debug, Default, PartialEq, Eq, Hash)]
 pub struct Counts {
-    /// Entries of the journal.
+    /// Entries, with those before renewals: the number of the next entry.
     pub entries: u64,
-    /// Maximum number of entries.
+    /// Maximum of `entries` less `first`: there the journal is full.
     pub limit: u64,
     /// Nodes of the tree that have no digest.
     pub dirty: u64,
-    /// Sessions, ever: at 1,024 no other can be opened.
+    /// Sessions that are kept: at 1,024 no other can be opened until ended ones are dropped.
     pub sessions: u64,
     /// Open sessions: at 64 no other can be opened until one has ended.
     pub open_sessions: u64,
-    /// 0; reserved for journals that are trimmed.
+    /// Number of the journal's first entry: 0 before the first renewal.
     pub first: u64,
-    /// Entries of the journal at the last moment that was whole: 0 if there was none.
+    /// `entries` at the last moment that was whole: `first` if there was none since a renewal.
     pub front: u64,
+}
+
+/// The range of a replica, and the position of its journal: what a checkpoint or a log has to name.
+#[derive(Clone, Copy, Debug, PartialEq, Eq, Hash)]
+pub struct About {
+    /// Format of the tree: 1 or 2.
+    pub format: u8,
+    /// Bits of the ring, which has 2^bits ranges.
+    pub bits: u8,
+    /// Number of the range, from 0.
+    pub range: u16,
+    /// Entries, with those before renewals: the number of the next entry.
+    pub entries: u64,
 }
 
 /// Counts of hints.

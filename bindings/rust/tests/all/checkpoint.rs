@@ -116,8 +116,8 @@ fn save_and_load() {
 fn range_of_the_file() {
     let mut file = Vec::new();
     Replica::new(Config { bits: 4, range: 9, ..Config::default() }).unwrap().save(&mut file).unwrap();
-    let loaded = load(&file).unwrap();
-    assert_eq!((loaded.format(), loaded.bits(), loaded.range()), (2, 4, 9));
+    let about = load(&file).unwrap().about().unwrap();
+    assert_eq!((about.format, about.bits, about.range), (2, 4, 9));
 }
 
 #[test]

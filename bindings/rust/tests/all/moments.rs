@@ -97,7 +97,8 @@ fn a_portion_outlives_its_replica() {
     assert_eq!(other.root(), filled(1).root());
 }
 
-/// A replica that another thread changes whenever the lock is free: it puts, and it drops the first moment.
+/// A replica that another thread changes whenever the lock is free: it puts, it drops the sessions that have ended, and
+/// it drops the first moment.
 struct Busy {
     replica: Replica,
     locked: u32,
@@ -107,6 +108,7 @@ impl AsMut<Replica> for Busy {
     fn as_mut(&mut self) -> &mut Replica {
         self.locked += 1;
         self.replica.put(2, &self.locked.to_be_bytes(), Some(b""), &NONE).unwrap();
+        self.replica.drop_sessions().unwrap();
         if self.locked == 2 {
             self.replica.drop_moment().unwrap();
         }

@@ -1,6 +1,7 @@
 //! Puts, reads and the journal of a replica.
 
-use antientropy::{place, Clock, Config, Counts, Kind, Receipt, Refusal, Replica, RowsRefused, Source, Version};
+use antientropy::{merge, place, Refusal, Replica, RowsRefused};
+use antientropy::{About, Clock, Config, Counts, Entry, Kind, Packed, Receipt, Source, Version};
 
 use crate::support::{assert_refused, crowd, filled, live, replica, with_limit, NONE};
 
@@ -72,19 +73,95 @@ fn keys_and_entries() {
     assert_eq!((last.number, last.source, last.version.kind()), (299, Source::Put, Kind::Live));
 }
 
-#[test]
-fn entries_from_before_a_renewal() {
-    let mut replica = replica();
-    let mut context = Clock::new();
-    for _ in 0..200 {
-        let receipt = replica.put(1, b"cart", Some(b"milk"), &context).unwrap();
-        context = Clock::from([(1, receipt.counter)]);
+/// Puts a key `puts` times, each after a read.
+fn put_often(replica: &mut Replica, key: &[u8], puts: u64) {
+    for _ in 0..puts {
+        let context = merge(replica.get(key).unwrap().iter().map(|version| &version.clock)).unwrap();
+        replica.put(1, key, Some(b"milk"), &context).unwrap();
     }
-    assert_eq!(replica.entries(200).unwrap().count(), 0);
+}
+
+fn entries_of(replica: &mut Replica, start: u64) -> Vec<Entry> {
+    replica.entries(start).unwrap().map(Result::unwrap).collect()
+}
+
+#[test]
+fn entries_of_all_kinds() {
+    let first = || Replica::new(Config { format: 1, ..Config::default() }).unwrap();
+    let (mut migrated, mut second) = (first(), replica());
+    migrated.migrate().unwrap();
+    second.put(2, b"gone", None, &NONE).unwrap();
+    for mut replica in [first(), migrated, second] {
+        replica.put(1, b"cart", Some(b"milk"), &(2..=32).map(|node| (node, node)).collect()).unwrap();
+        replica.accept(&[b'k'; 255], &live([(1, 1), (65_535, u64::MAX)], &[b'v'; 4096])).unwrap();
+        replica.accept(b"empty", &live([(3, 1)], b"")).unwrap();
+        let entries = entries_of(&mut replica, 0);
+        assert_eq!(entries.len() as u64, replica.count().unwrap().entries);
+        for (number, entry) in (0..).zip(entries) {
+            assert_eq!(replica.entry(number), Ok(Some(entry)));
+        }
+    }
+}
+
+#[test]
+fn packed_entries() {
+    let mut replica = replica();
+    replica.put(1, b"a", Some(b"x"), &NONE).unwrap();
+    let page = b"\x00\x00\x01a\x00\x01\x00\x01\x00\x01\x00\x00\x00\x00\x00\x00\x00\x01\x00\x00\x00\x01x";
+    assert_eq!(replica.packed_entries(0), Ok(Packed { bytes: page.to_vec(), next: 1 }));
+    assert_eq!(replica.packed_entries(1), Ok(Packed { bytes: vec![], next: 1 }));
+}
+
+#[test]
+fn entries_of_several_calls() {
+    let (mut replica, value) = (replica(), [b'v'; 65_536]);
+    for n in 0..40 {
+        replica.put(1, &[n], Some(&value), &NONE).unwrap();
+    }
+    let packed = replica.packed_entries(0).unwrap();
+    assert_eq!((packed.bytes.len(), packed.next), (15 * (22 + value.len()), 15));
+    assert_eq!(replica.packed_entries(38).unwrap().next, 40);
+    let entries = entries_of(&mut replica, 3);
+    assert!(entries.iter().map(|entry| (entry.number, entry.key[0])).eq((3..40).map(|n| (n.into(), n))));
+}
+
+/// The position of a log is the number of entries that it has, and is never changed otherwise.
+#[test]
+fn a_log_goes_on_over_renewals() {
+    let (mut replica, mut log) = (with_limit(150), Vec::new());
+    for round in 0..3u8 {
+        put_often(&mut replica, b"cart", 100);
+        put_often(&mut replica, &[round], 1);
+        log.append(&mut entries_of(&mut replica, log.len() as u64));
+        replica = replica.renew(150).unwrap();
+        assert_eq!(entries_of(&mut replica, log.len() as u64), []);
+    }
+    assert!(log.iter().map(|entry| entry.number).eq(0..303));
+    let mut restored = with_limit(1000);
+    for entry in &log {
+        assert_eq!(restored.accept(&entry.key, &entry.version), Ok(true));
+    }
+    assert_eq!(restored.root(), replica.root());
+}
+
+#[test]
+fn bad_positions() {
+    let mut replica = replica();
+    put_often(&mut replica, b"cart", 10);
+    put_often(&mut replica, b"gift", 1);
+    assert_eq!((entries_of(&mut replica, 11), replica.entries(12).err()), (vec![], Some(Refusal::BadPosition)));
     let mut renewed = replica.renew(1000).unwrap();
-    renewed.put(1, b"gift", Some(b"wrapped"), &NONE).unwrap();
-    assert_eq!(renewed.entries(200).err(), Some(Refusal::NoVersion));
-    assert_eq!(renewed.entries(1).unwrap().map(|entry| entry.unwrap().key).collect::<Vec<_>>(), [b"gift"]);
+    put_often(&mut renewed, b"list", 1);
+    for start in [0, 8, 10, 13, u64::MAX] {
+        assert_eq!(renewed.entries(start).err(), Some(Refusal::BadPosition));
+        assert_eq!(renewed.packed_entries(start), Err(Refusal::BadPosition));
+    }
+    let first = renewed.count().unwrap().first;
+    let whole = entries_of(&mut renewed, first);
+    assert!(whole.iter().map(|entry| entry.number).eq(9..12));
+    assert_eq!([0, 1, 2].map(|n| whole[n].source), [Source::Copy, Source::Copy, Source::Put]);
+    assert_eq!((entries_of(&mut renewed, 11), entries_of(&mut renewed, 12)), (whole[2..].to_vec(), vec![]));
+    assert_eq!([renewed.entry(8), renewed.entry(9)], [Ok(None), Ok(Some(whole[0].clone()))]);
 }
 
 #[test]
@@ -118,9 +195,20 @@ fn counts_and_renewal() {
     let counts = Counts { entries: 2, limit: 10, ..Counts::default() };
     assert_eq!(replica.count(), Ok(counts));
     let mut renewed = replica.renew(5).unwrap();
-    assert_eq!(renewed.count(), Ok(Counts { entries: 1, limit: 5, ..counts }));
+    assert_eq!(renewed.count(), Ok(Counts { limit: 5, first: 1, front: 1, ..counts }));
     assert_eq!(renewed.get(b"cart"), replica.get(b"cart"));
     assert_eq!(replica.renew(0).err(), Some(Refusal::BadRing));
+}
+
+#[test]
+fn about() {
+    let mut replica = Replica::new(Config { format: 1, bits: 8, range: 255, limit: 10 }).unwrap();
+    let about = About { format: 1, bits: 8, range: 255, entries: 0 };
+    assert_eq!(replica.about(), Ok(about));
+    replica.migrate().unwrap();
+    assert_eq!(replica.about(), Ok(About { format: 2, ..about }));
+    let mut renewed = filled(3).renew(10).unwrap();
+    assert_eq!(renewed.about(), Ok(About { format: 2, bits: 0, range: 0, entries: 3 }));
 }
 
 #[test]
@@ -149,7 +237,7 @@ fn migration() {
     replica.put(1, b"cart", Some(b"milk"), &NONE).unwrap();
     assert_refused(Refusal::BadValue, &mut replica, |replica| replica.put(1, b"cart", None, &NONE));
     replica.migrate().unwrap();
-    assert_eq!((replica.format(), replica.snapshot().unwrap().format()), (2, 2));
+    assert_eq!((replica.about().unwrap().format, replica.snapshot().unwrap().format()), (2, 2));
     replica.put(1, b"cart", None, &Clock::from([(1, 1)])).unwrap();
 }
 

@@ -1,11 +1,11 @@
 //! Snapshots and sessions.
 
-use antientropy::{place, read_offer, Config, Refusal, Replica, SessionId, Snapshot, Source, State};
+use antientropy::{place, read_offer, Config, Refusal, Replica, Session, SessionId, Snapshot, Source, State};
 
-use crate::support::{assert_refused, filled, replica, NONE};
+use crate::support::{assert_refused, filled, opened, replica, NONE};
 
 /// The SHA-256 of `junk`.
-const JUNK: [u8; 32] = [
+pub const JUNK: [u8; 32] = [
     0xef, 0x87, 0x5a, 0x17, 0x05, 0xa5, 0xfd, 0xac, 0x20, 0x6b, 0xe9, 0x96, 0xf4, 0xdc, 0x1f, 0x72, 0x6e, 0xa6, 0xb6,
     0x88, 0x61, 0xeb, 0x74, 0x1c, 0x37, 0xde, 0xf7, 0x27, 0x7f, 0x17, 0x9e, 0x37,
 ];
@@ -94,6 +94,28 @@ fn a_cancelled_session() {
 }
 
 #[test]
+fn dropped_sessions() {
+    let (mut snapshot, offer) = offered();
+    let mut replica = replica();
+    let [ended, open] = [(); 2].map(|()| replica.open(1, &offer).unwrap());
+    replica.session(ended).cancel().unwrap();
+    replica.drop_sessions().unwrap();
+    assert_unknown(&mut replica.session(ended));
+    let counts = replica.count().unwrap();
+    assert_eq!((counts.sessions, counts.open_sessions), (1, 1));
+    while let Some(ask) = replica.session(open).ask().unwrap() {
+        replica.session(open).take(&snapshot.serve(7, &ask).unwrap()).unwrap();
+    }
+    assert_eq!(replica.session(open).state(), Ok(State::Finished));
+    assert!(replica.entries(0).unwrap().all(|entry| entry.unwrap().source == Source::Partner));
+    replica.drop_sessions().unwrap();
+    assert_unknown(&mut replica.session(open));
+    assert_eq!(replica.count().unwrap().sessions, 0);
+    assert!(replica.entries(0).unwrap().all(|entry| entry.unwrap().source == Source::Copy));
+    assert_eq!(opened(&mut replica.renew(100).unwrap(), &offer), 2);
+}
+
+#[test]
 fn refused_asks() {
     let (mut snapshot, offer) = offered();
     let mut replica = replica();
@@ -151,12 +173,17 @@ fn sessions_full() {
 
 #[test]
 fn unknown_session() {
-    let mut replica = replica();
-    let mut session = replica.session(SessionId { number: 9, offer: 7 });
+    assert_unknown(&mut replica().session(SessionId { number: 9, offer: 7 }));
+}
+
+#[track_caller]
+fn assert_unknown(session: &mut Session<'_>) {
+    let answer = [&[3, 0, 0, 0, 7, 0, 0, 0][..], &0u64.to_be_bytes()].concat();
     assert_eq!(session.state(), Err(Refusal::UnknownSession));
     assert_eq!(session.outstanding(), Err(Refusal::UnknownSession));
     assert_eq!(session.ask(), Err(Refusal::UnknownSession));
     assert_eq!(session.ask_at(0), Err(Refusal::UnknownSession));
     assert_eq!(session.asks(), Err(Refusal::UnknownSession));
+    assert_eq!(session.take(&answer), Err(Refusal::UnknownSession));
     assert_eq!(session.cancel(), Err(Refusal::UnknownSession));
 }

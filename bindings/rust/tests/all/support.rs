@@ -37,6 +37,13 @@ pub fn crowd(replica: &mut Replica, key: &[u8]) {
     }
 }
 
+/// Returns the number of sessions that a replica has opened, and opens another one.
+pub fn opened(replica: &mut Replica, offer: &[u8]) -> u64 {
+    let id = replica.open(1, offer).unwrap();
+    replica.session(id).cancel().unwrap();
+    id.number
+}
+
 /// Returns the answers of a partner that is called directly.
 pub fn serve(snapshot: &mut Snapshot, number: u32, asks: &[Vec<u8>]) -> Vec<Option<Vec<u8>>> {
     asks.iter().map(|ask| snapshot.serve(number, ask).ok()).collect()
@@ -48,7 +55,8 @@ type Held = (Counts, Vec<Entry>, Vec<Vec<u8>>);
 pub fn state(replica: &mut Replica) -> Held {
     let keys: Vec<_> = replica.keys().map(Result::unwrap).collect();
     let rows = keys.iter().map(|key| replica.row(key).unwrap().unwrap()).collect();
-    (replica.count().unwrap(), replica.entries(0).unwrap().map(Result::unwrap).collect(), rows)
+    let counts = replica.count().unwrap();
+    (counts, replica.entries(counts.first).unwrap().map(Result::unwrap).collect(), rows)
 }
 
 /// A call is refused by a cause, and leaves the replica unchanged.

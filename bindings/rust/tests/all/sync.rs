@@ -2,9 +2,10 @@
 
 use std::panic::{catch_unwind, AssertUnwindSafe};
 
-use antientropy::{place, Bounds, Config, Refusal, Replica, State, Synced};
+use antientropy::{place, Bounds, Config, Refusal, Replica, Source, State, Synced};
 
-use crate::support::{crowd, filled, live, replica, serve, with_limit, NONE};
+use crate::session::JUNK;
+use crate::support::{crowd, filled, live, opened, replica, serve, with_limit, NONE};
 
 type Answers = Vec<Option<Vec<u8>>>;
 
@@ -28,6 +29,17 @@ fn sync_over(
 
 fn sync(replica: &mut Replica, partner: &mut Replica) -> Result<Synced, Refusal> {
     sync_over(replica, partner, Bounds::default(), |answers| answers).0
+}
+
+/// Returns an offer of all that a replica holds.
+fn offer_of(replica: &mut Replica) -> Vec<u8> {
+    replica.snapshot().unwrap().offer(1).unwrap()
+}
+
+/// Returns the numbers of sessions that are kept, and of open ones.
+fn sessions(replica: &mut Replica) -> (u64, u64) {
+    let counts = replica.count().unwrap();
+    (counts.sessions, counts.open_sessions)
 }
 
 #[test]
@@ -64,7 +76,7 @@ fn equal_roots() {
     let (synced, rounds) = sync_over(&mut b, &mut a, Bounds::default(), |answers| answers);
     let synced = synced.unwrap();
     assert_eq!((synced.finished(), synced.asks, rounds.len()), (true, 0, 0));
-    assert_eq!(b.count().unwrap().sessions, 1);
+    assert_eq!(opened(&mut b, &offer_of(&mut a)), 1);
 }
 
 #[test]
@@ -75,7 +87,22 @@ fn equal_roots_of_empty_ranges() {
     assert_eq!(sync(&mut empty(2, 1), &mut partner), Err(Refusal::OtherRange));
     let mut same = empty(2, 0);
     assert!(sync(&mut same, &mut partner).unwrap().finished());
-    assert_eq!(same.count().unwrap().sessions, 0);
+    assert_eq!(opened(&mut same, &offer_of(&mut partner)), 0);
+}
+
+#[test]
+fn forty_syncs() {
+    let (mut a, mut b) = (filled(300), replica());
+    let by_hand = b.open(1, &offer_of(&mut a)).unwrap();
+    for n in 0..40 {
+        a.put(1, format!("later {n}").as_bytes(), Some(b""), &NONE).unwrap();
+        let synced = sync(&mut b, &mut a).unwrap();
+        assert_eq!((synced.accepted, synced.state), (if n == 0 { 301 } else { 1 }, State::Finished));
+        assert_eq!(sessions(&mut b), (1, 1));
+    }
+    assert!(b.entries(0).unwrap().all(|entry| entry.unwrap().source == Source::Copy));
+    assert_eq!(b.session(by_hand).state(), Ok(State::Open));
+    assert_eq!(opened(&mut b, &offer_of(&mut a)), 41);
 }
 
 #[test]
@@ -114,7 +141,16 @@ fn a_partner_that_lies() {
     let (synced, _) = sync_over(&mut b, &mut a, Bounds { in_flight: 256, most_bad: 5 }, lie);
     let synced = synced.unwrap();
     assert_eq!((synced.bad, synced.asks, synced.state), (6, 6, State::Cancelled));
-    assert_eq!(b.count().unwrap().entries, 0);
+    assert_eq!((b.count().unwrap().entries, sessions(&mut b)), (0, (0, 0)));
+}
+
+#[test]
+fn an_answer_that_is_no_node() {
+    let offer = [&[1, 0, 0, 0, 7, 2, 0][..], &JUNK].concat();
+    let answer = [&[3, 0, 0, 0, 7, 0, 0, 0][..], &4u64.to_be_bytes(), b"junk"].concat();
+    let mut replica = replica();
+    assert_eq!(replica.sync(1, &offer, |_| vec![Some(answer.clone())]), Err(Refusal::NotCanonical));
+    assert_eq!(sessions(&mut replica), (0, 0));
 }
 
 #[test]
@@ -131,8 +167,7 @@ fn a_link_that_panics() {
     let (mut a, mut b) = (filled(30), replica());
     let panicked = catch_unwind(AssertUnwindSafe(|| sync_over(&mut b, &mut a, Bounds::default(), |_| panic!("link"))));
     assert!(panicked.is_err());
-    let counts = b.count().unwrap();
-    assert_eq!((counts.sessions, counts.open_sessions), (1, 0));
+    assert_eq!((sessions(&mut b), opened(&mut b, &offer_of(&mut a))), ((0, 0), 1));
 }
 
 #[test]
@@ -142,6 +177,7 @@ fn a_crowded_leaf_is_left() {
     b.accept(b"key", &live([(100, 1)], b"one more")).unwrap();
     let synced = sync(&mut b, &mut a).unwrap();
     assert_eq!((synced.accepted, synced.bad, synced.state), (300, 0, State::Cancelled));
+    assert_eq!(sessions(&mut b), (0, 0));
     let leaf = place(2, 0, b"key").unwrap().leaf;
     assert_eq!(synced.crowded.len(), 1);
     assert_eq!((synced.crowded[0][5], &synced.crowded[0][6..]), (3, &leaf.to_be_bytes()[..]));
@@ -151,7 +187,7 @@ fn a_crowded_leaf_is_left() {
 fn a_full_journal() {
     let mut small = with_limit(10);
     assert_eq!(sync(&mut small, &mut filled(300)), Err(Refusal::JournalFull));
-    assert_eq!(small.count().unwrap().open_sessions, 0);
+    assert_eq!(sessions(&mut small), (0, 0));
 }
 
 #[test]
