@@ -100,6 +100,7 @@ enum class Refusal : std::uint32_t {
     Empty = c::ANTIENTROPY_EMPTY,
     Held = c::ANTIENTROPY_HELD,
     NoVersion = c::ANTIENTROPY_NO_VERSION,
+    BadPosition = c::ANTIENTROPY_BAD_POSITION,
 };
 
 /// Why a checkpoint wasn't written or loaded.
@@ -258,7 +259,7 @@ public:
 /// Kinds of versions.
 enum class Kind : std::uint8_t { Live = c::ANTIENTROPY_LIVE, Tombstone = c::ANTIENTROPY_TOMBSTONE };
 
-/// Sources of an entry's version: a put here, a copy, a hint, or a partner in a session.
+/// Sources of an entry's version: a put here, a copy, a hint, or a partner in a session that is kept.
 enum class Source : std::uint64_t {
     Put = c::ANTIENTROPY_PUT,
     Copy = c::ANTIENTROPY_COPY,
@@ -333,12 +334,18 @@ struct Version {
     friend bool operator!=(const Version &first, const Version &second) { return !(first == second); }
 };
 
-/// An entry of a journal: an accepted version with its key, its source and its number from 0.
+/// An entry of a journal: an accepted version with its key, its source and its number from 0, over renewals too.
 struct Entry {
     std::uint64_t number;
     std::string key;
     Version version;
     Source source;
+};
+
+/// Some entries of a journal: their `bytes`, one after the other (docs/FORMATS.md), and the number after the last one.
+struct Packed {
+    std::string bytes;
+    std::uint64_t next;
 };
 
 /// A version that is kept for its owner, a node that is down. No number ever names two hints.
@@ -349,15 +356,21 @@ struct Hint {
     Version version;
 };
 
-/// The result of a put: the entry's `number`, and the node's `counter` in the new version's clock.
+/// The result of a put: the entry's `number`, which after a renewal may be that of another version, and the node's
+/// `counter` in the new version's clock.
 using Receipt = c::antientropy_receipt;
 
 /// The `range` and the `leaf` of a key.
 using Spot = c::antientropy_spot;
 
-/// Counts of a replica: `entries`, their `limit`, `dirty` nodes, `sessions` ever, and `open_sessions`. `front` is the
-/// number of entries at the last moment that was whole: 0 if there was none. `first` is 0.
+/// Counts of a replica: `entries`, with those before renewals, `dirty` nodes, `sessions` that are kept, and
+/// `open_sessions`. `first` is the number of the journal's first entry. `limit` is the maximum of `entries` less
+/// `first`. `front` is `entries` at the last moment that was whole: `first` if there was none since a renewal.
 using Counts = c::antientropy_counts;
+
+/// What a checkpoint or a log has to name: the `format` of a replica (1 or 2), the `bits` of its ring, the number of
+/// its `range`, and the count of its `entries`, which is the number of the next one.
+using About = struct c::antientropy_about;
 
 /// Counts of hints: `pending` and `delivered`.
 using HintCounts = c::antientropy_hint_counts;
@@ -681,6 +694,35 @@ inline Result<Entry> entry(ReplicaHandle *replica, std::uint64_t number) {
     return result(refused, Entry{number, std::move(*key), std::move(*held), static_cast<Source>(source)});
 }
 
+/// Bytes that a call gets for packed entries. If the first entry is longer, it gets as many as that one needs.
+inline constexpr std::uint64_t packed_room = 1 << 20;
+
+/// Refused, as `packed` is: BadPosition.
+inline Result<void> check_position(ReplicaHandle *replica, std::uint64_t start) {
+    std::uint8_t none = 0;
+    std::uint64_t need = 0, next = 0;
+    const auto number = c::antientropy_entries(replica, start, &none, 0, &need, &next);
+    return done(number == c::ANTIENTROPY_SMALL ? std::uint32_t(c::ANTIENTROPY_OK) : number);
+}
+
+inline Result<Packed> packed(ReplicaHandle *replica, std::uint64_t start) {
+    std::uint64_t need = packed_room, next = start;
+    std::uint32_t number = c::ANTIENTROPY_SMALL;
+    while (number == c::ANTIENTROPY_SMALL) {
+        const std::uint64_t length = need;
+        const std::unique_ptr<std::uint8_t[]> room(new std::uint8_t[length]); // without zeros
+        number = c::antientropy_entries(replica, start, room.get(), length, &need, &next);
+        if (number == c::ANTIENTROPY_OK) return Packed{text(room.get(), need), next};
+    }
+    return static_cast<Refusal>(number);
+}
+
+inline Result<About> about(ReplicaHandle *replica) {
+    About about = {};
+    const auto number = c::antientropy_about(replica, &about);
+    return result(number, about);
+}
+
 inline Result<std::optional<std::uint64_t>> hint_after(c::antientropy_hints *hints, std::uint64_t owner,
                                                        std::uint64_t after) {
     std::uint64_t id = 0;
@@ -823,6 +865,91 @@ inline FileResult<Head> read_head(std::istream &file) {
     return read;
 }
 
+// ---- packed entries (docs/FORMATS.md)
+
+/// A text that is read from its begin. A field that is longer than what is left has no bytes, and breaks it.
+class Text {
+public:
+    explicit Text(std::string_view left) : left_(left) {}
+
+    std::string_view bytes(std::uint64_t length) {
+        broken_ = broken_ || length > left_.size();
+        if (broken_) return {};
+        const auto bytes = left_.substr(0, length);
+        left_.remove_prefix(length);
+        return bytes;
+    }
+
+    std::uint64_t number(unsigned length) { return to_number(bytes(length)); }
+
+    /// What is left.
+    std::string_view left() const noexcept { return left_; }
+
+    bool broken() const noexcept { return broken_; }
+
+private:
+    std::string_view left_;
+    bool broken_ = false;
+};
+
+/// Reads the clock of an entry.
+inline Clock read_clock(Text &text) {
+    Clock clock;
+    for (auto left = text.number(1); left > 0; left--) {
+        const auto node = text.number(2);
+        clock.add(node, text.number(8));
+    }
+    return clock;
+}
+
+/// Reads the entry of a number, of a replica of a format. Refused: RowBroken (the text isn't an entry's).
+inline Result<Entry> read_entry(Text &text, std::uint64_t number, std::uint64_t format) {
+    const auto source = static_cast<Source>(text.number(1));
+    std::string key(text.bytes(text.number(2)));
+    const auto versions = text.number(2);
+    const auto kind = format == 1 ? Kind::Live : static_cast<Kind>(text.number(1));
+    auto clock = read_clock(text);
+    std::string value(text.bytes(text.number(4)));
+    if (text.broken() || versions != 1) return Refusal::RowBroken;
+    return Entry{number, std::move(key), {std::move(clock), kind, std::move(value)}, source};
+}
+
+/// The entries of a journal, one at a time, of which some are read at once.
+class Entries {
+public:
+    Entries(Shared<ReplicaHandle> replica, std::uint64_t start)
+        : replica_(std::move(replica)), packed_{{}, start}, number_(start) {}
+
+    Result<std::optional<Entry>> operator()() {
+        if (left_ == 0) {
+            const auto read = read_on();
+            if (!read) return read.refusal();
+        }
+        if (left_ == 0) return std::optional<Entry>();
+        Text text(std::string_view(packed_.bytes).substr(packed_.bytes.size() - left_));
+        auto entry = or_none(read_entry(text, number_++, format_));
+        left_ = text.left().size();
+        return entry;
+    }
+
+private:
+    Result<void> read_on() {
+        const auto of = about(replica_.get());
+        if (!of) return of.refusal();
+        auto read = packed(replica_.get(), packed_.next);
+        if (!read) return read.refusal();
+        format_ = of->format;
+        packed_ = *std::move(read);
+        left_ = packed_.bytes.size();
+        return {};
+    }
+
+    Shared<ReplicaHandle> replica_;
+    Packed packed_;
+    std::uint64_t number_, format_ = 0;
+    std::size_t left_ = 0;
+};
+
 } // namespace detail
 
 // ---- calls that need no replica
@@ -897,14 +1024,13 @@ public:
     /// Returns another snapshot of the same rows. Copies no row. Each thread that reads the rows has a snapshot of its
     /// own; the threads then need no lock. The rows are freed with the last one.
     Result<Snapshot> share() {
-        Snapshot made(format_, bits_, range_);
-        made.entries_ = entries_;
+        Snapshot made(about_);
         const auto number = c::antientropy_snapshot_share(at(), made.at());
         return detail::result(number, std::move(made));
     }
 
-    /// Number of the journal's entries at the moment of the snapshot.
-    std::uint64_t entries() const noexcept { return entries_; }
+    /// Number of entries at the moment of the snapshot: a log goes on there.
+    std::uint64_t entries() const noexcept { return about_.entries; }
 
     /// Returns the digest of the root: 32 bytes. Replicas of a range with equal roots hold the same versions.
     Result<std::string> root() {
@@ -953,13 +1079,13 @@ public:
         return Sequence<std::string>(detail::SnapshotLeafKeys(handle_.share(), leaf));
     }
 
-    /// Writes a checkpoint of the rows (docs/FORMATS.md), and returns the number of the journal's entries that are in
-    /// it. The caller brings the file to its disk. Errors: NotWritten, Refused.
+    /// Writes a checkpoint of the rows (docs/FORMATS.md), and returns the number of entries at its moment. The caller
+    /// brings the file to its disk. Errors: NotWritten, Refused.
     FileResult<std::uint64_t> save(std::ostream &file) {
         const auto error = write([&](const std::string &bytes) { return bool(file << bytes); });
         if (error) return *error;
         if (!file.flush()) return FileError{Fault::NotWritten, std::nullopt};
-        return entries_;
+        return entries();
     }
 
     /// Saves a checkpoint in place of the file at a path, and brings it to the disk. It is written first to a file of
@@ -971,14 +1097,13 @@ public:
         if (error && error->refusal) return *error;
         if (!error) file.take_place();
         if (file.error()) return FileError{Fault::NotWritten, std::nullopt, file.error()};
-        return entries_;
+        return entries();
     }
 
 private:
     friend class Replica;
 
-    Snapshot(std::uint64_t format, std::uint64_t bits, std::uint64_t range)
-        : format_(format), bits_(bits), range_(range) {}
+    explicit Snapshot(const About &about) : about_(about) {}
 
     c::antientropy_offered *at() { return handle_.get(); }
 
@@ -987,8 +1112,9 @@ private:
     std::optional<FileError> write(Write write) {
         auto digest = root();
         if (!digest) return FileError{Fault::Refused, digest.refusal()};
-        bool written = write(detail::to_bytes(detail::Head{format_, bits_, range_, std::move(*digest)}));
-        for (unsigned leaf = 0; leaf < detail::leaves_of(format_) && written; leaf++) {
+        const detail::Head head{about_.format, about_.bits, about_.range, std::move(*digest)};
+        bool written = write(detail::to_bytes(head));
+        for (unsigned leaf = 0; leaf < detail::leaves_of(about_.format) && written; leaf++) {
             const auto texts = rows(leaf);
             if (!texts) return FileError{Fault::Refused, texts.refusal()};
             written = write(detail::to_bytes(texts->size(), 8) + *texts);
@@ -998,7 +1124,7 @@ private:
     }
 
     detail::Owner<c::antientropy_offered, c::antientropy_snapshot_free> handle_;
-    std::uint64_t format_, bits_, range_, entries_ = 0;
+    About about_;
 };
 
 // ---- portions
@@ -1026,7 +1152,8 @@ private:
 // ---- sessions
 
 /// A session of a replica with a partner's offer. Its calls are calls of the replica. It stays valid if the replica is
-/// moved; once the replica is freed they are refused as Empty. The destructor cancels the session if it is open.
+/// moved; once the replica is freed they are refused as Empty. Once the session is dropped, by `Replica::drop_sessions`
+/// or at the end of a sync, they are refused as UnknownSession. The destructor cancels the session if it is open.
 /// `Replica::open` and `open_at_moment` make it.
 class Session {
 public:
@@ -1041,7 +1168,7 @@ public:
     }
     ~Session() { end(); }
 
-    /// Number of the session, from 0.
+    /// Number of the session, from 0. No other one of the replica has it, over renewals too.
     std::uint64_t number() const noexcept { return number_; }
 
     /// Number that the partner gave its offer.
@@ -1131,16 +1258,22 @@ struct NoLock {
     void unlock() {}
 };
 
-/// A sync in progress: a session, the lock of its replica, its partner, and the counts.
+/// A sync in progress: a replica, the session, the lock of the replica, the partner, and the counts. Another sync of
+/// the replica may drop the session once it has ended. So only its cancel follows the last answer.
 template <class Lock>
 class Run {
 public:
-    Run(Session session, Lock &lock, const Reach &reach, std::size_t in_flight, std::uint64_t most_bad)
-        : session_(std::move(session)), lock_(lock), reach_(reach), in_flight_(std::max<std::size_t>(in_flight, 1)),
-          most_bad_(most_bad) {}
+    Run(Shared<ReplicaHandle> replica, Session session, Lock &lock, const Reach &reach, std::size_t in_flight,
+        std::uint64_t most_bad)
+        : replica_(std::move(replica)), session_(std::move(session)), lock_(lock), reach_(reach),
+          in_flight_(std::max<std::size_t>(in_flight, 1)), most_bad_(most_bad) {
+        synced_.state = State::Open;
+    }
+    /// Cancels the session, unless it has ended, and drops it.
     ~Run() {
         const std::lock_guard<Lock> guard(lock_);
-        const Session ended = std::move(session_);
+        { const Session ended = std::move(session_); }
+        c::antientropy_drop_sessions(replica_.get());
     }
 
     Result<Synced> finish() {
@@ -1154,15 +1287,15 @@ public:
     }
 
 private:
-    bool gives_up() const { return synced_.bad > most_bad_; }
+    bool is_over() const { return synced_.state != State::Open || synced_.bad > most_bad_; }
 
     bool is_crowded(const std::string &ask) const {
         return std::find(synced_.crowded.begin(), synced_.crowded.end(), ask) != synced_.crowded.end();
     }
 
-    /// The asks for the nodes that may still be taken: none after too many bad answers.
+    /// The asks for the nodes that may still be taken: none after the last answer, or too many bad ones.
     Result<std::vector<std::string>> open_asks() {
-        if (gives_up()) return std::vector<std::string>();
+        if (is_over()) return std::vector<std::string>();
         auto asks = all_asks();
         if (!asks) return asks;
         const auto crowded = [&](const std::string &ask) { return is_crowded(ask); };
@@ -1177,7 +1310,7 @@ private:
 
     /// Exchanges all asks, `in_flight_` of them at a time.
     Result<void> exchange_all(const std::vector<std::string> &asks) {
-        for (std::size_t first = 0; first < asks.size() && !gives_up(); first += in_flight_) {
+        for (std::size_t first = 0; first < asks.size() && !is_over(); first += in_flight_) {
             const auto from = asks.begin() + static_cast<std::ptrdiff_t>(first);
             const auto count = std::min(in_flight_, asks.size() - first);
             const auto sent = exchange({from, from + static_cast<std::ptrdiff_t>(count)});
@@ -1207,6 +1340,7 @@ private:
         if (!taken) return pass(*answer, taken.refusal());
         synced_.accepted += taken->accepted;
         synced_.known += taken->known;
+        synced_.state = taken->state;
         return {};
     }
 
@@ -1238,17 +1372,24 @@ private:
     }
 
     Result<Synced> end() {
+        if (synced_.state == State::Open) {
+            const auto state = cancel();
+            if (!state) return state.refusal();
+            synced_.state = *state;
+        }
+        return std::move(synced_);
+    }
+
+    Result<State> cancel() {
         const std::lock_guard<Lock> guard(lock_);
         const auto cancelled = session_.cancel();
         if (!cancelled) return cancelled.refusal();
-        const auto state = session_.state();
-        if (!state) return state.refusal();
-        synced_.state = *state;
-        return std::move(synced_);
+        return session_.state();
     }
 
     static constexpr char ask_kind = 2;
 
+    Shared<ReplicaHandle> replica_;
     Session session_;
     Lock &lock_;
     const Reach &reach_;
@@ -1268,7 +1409,7 @@ public:
     /// with a journal of at most `limit` entries. Refused: BadRing (a number is outside its limits).
     static Result<Replica> make(std::uint64_t format = 2, std::uint64_t bits = 0, std::uint64_t range = 0,
                                 std::uint64_t limit = ANTIENTROPY_ENTRIES_MAX) {
-        Replica made(format, bits, range);
+        Replica made;
         const auto number = c::antientropy_new(made.at(), format, bits, range, limit);
         return detail::result(number, std::move(made));
     }
@@ -1278,20 +1419,20 @@ public:
     static Result<Replica> make_seeded(std::uint64_t first, std::uint64_t second, std::uint64_t format = 2,
                                        std::uint64_t bits = 0, std::uint64_t range = 0,
                                        std::uint64_t limit = ANTIENTROPY_ENTRIES_MAX) {
-        Replica made(format, bits, range);
+        Replica made;
         const auto number = c::antientropy_new_seeded(made.at(), format, bits, range, limit, first, second);
         return detail::result(number, std::move(made));
     }
 
-    /// Returns a new replica with the rows of a checkpoint, and a journal of at most `limit` entries. The root finds
-    /// damage, but no forged file. Check `format`, `bits` and `range` against the configuration.
+    /// Returns a new replica with the rows of a checkpoint, and a journal of at most `limit` entries, numbered from 0.
+    /// The root finds damage, but no forged file. Check what `about` returns against the configuration.
     /// Errors: NoCheckpoint, Truncated, Damaged, Refused.
     static FileResult<Replica> load(std::istream &file, std::uint64_t limit = ANTIENTROPY_ENTRIES_MAX) {
         const auto head = detail::read_head(file);
         if (!head) return head.error();
         auto loaded = make_for(*head, limit);
         if (!loaded) return loaded;
-        const auto error = loaded->load_leaves(file);
+        const auto error = loaded->load_leaves(file, head->format);
         if (error) return *error;
         const auto digest = loaded->root();
         if (!digest) return refused(digest.refusal());
@@ -1299,30 +1440,27 @@ public:
         return loaded;
     }
 
-    /// Format of the replica (1 or 2), bits of its ring, and number of its range.
-    std::uint64_t format() const noexcept { return format_; }
-    std::uint64_t bits() const noexcept { return bits_; }
-    std::uint64_t range() const noexcept { return range_; }
+    /// Returns the format, the range and the number of entries.
+    Result<About> about() { return detail::about(at()); }
 
     /// Frees the memory now.
     void close() noexcept { handle_.close(); }
 
-    /// Returns a new replica with the versions that are held: one entry for each, and no sessions. This one is left
-    /// unchanged: close it, and go on with the new one under the same node number.
-    /// Refused, in order: BadRing (the limit), JournalFull (more versions are held than the limit).
+    /// Returns a new replica with the versions that are held: one entry for each, as a copy, and no sessions. The
+    /// numbers of entries go on: both replicas count as many entries, and the next entry gets a number that was never
+    /// used. So do those of sessions. This one is left unchanged: close it, and go on with the new one under the same
+    /// node number.
+    /// Refused, in order: BadRing (the limit), JournalFull (more versions are held than the limit, or no numbers are
+    /// left).
     Result<Replica> renew(std::uint64_t limit = ANTIENTROPY_ENTRIES_MAX) {
-        Replica made(format_, bits_, range_);
+        Replica made;
         const auto number = c::antientropy_renew(at(), made.at(), limit);
         return detail::result(number, std::move(made));
     }
 
     /// Converts a replica of format 1 to format 2. All nodes become dirty, open sessions are cancelled, and the moment
     /// is dropped.
-    Result<void> migrate() {
-        const auto migrated = detail::done(c::antientropy_migrate(at()));
-        if (migrated) format_ = 2;
-        return migrated;
-    }
+    Result<void> migrate() { return detail::done(c::antientropy_migrate(at())); }
 
     /// Returns the counts of entries, dirty nodes and sessions.
     Result<Counts> count() {
@@ -1442,21 +1580,22 @@ public:
 
     // ---- the journal
 
-    /// Goes through the entries of the journal, from a number on. Entries are never changed. Refused: NoVersion (the
-    /// number is over that of entries, so it is one of a journal before a renewal). That finds only some old numbers,
-    /// since a renewal numbers the entries anew: begin at its count of entries.
+    /// Goes through the entries of the journal, from a number on, and reads about 1 MiB of them at once. A log reads
+    /// from the count of entries that it has. It lacks none after a renewal if it had all before.
+    /// Refused: BadPosition (the number is over the count of entries, or below that at the last renewal: entries were
+    /// missed, or it is another replica's number; read from `first` of the counts, which gives the whole journal).
     Result<Sequence<Entry>> entries(std::uint64_t start = 0) {
-        const auto counts = count();
-        if (!counts) return counts.refusal();
-        if (start > counts->entries) return Refusal::NoVersion;
-        const auto next = [replica = handle_.share(), number = start]() mutable {
-            return detail::or_none(detail::entry(replica.get(), number++));
-        };
-        return Sequence<Entry>(next);
+        const auto checked = detail::check_position(at(), start);
+        if (!checked) return checked.refusal();
+        return Sequence<Entry>(detail::Entries(handle_.share(), start));
     }
 
-    /// Returns the greatest counter of a node in the clocks of a key's versions among the first `entries` entries of
-    /// the journal, or 0. Refused: BadClock (the node is 0 or over 65,535).
+    /// Returns some entries of the journal, from a number on, packed: about 1 MiB, and at least one if any is left.
+    /// Refused: BadPosition, as `entries`.
+    Result<Packed> packed_entries(std::uint64_t start) { return detail::packed(at(), start); }
+
+    /// Returns the greatest counter of a node in the clocks of a key's versions among the journal's entries of numbers
+    /// below `entries`, or 0. Refused: BadClock (the node is 0 or over 65,535).
     Result<std::uint64_t> top_counter(std::uint64_t node, std::string_view key, std::uint64_t entries = UINT64_MAX) {
         std::uint64_t counter = 0;
         const auto number =
@@ -1464,7 +1603,7 @@ public:
         return detail::result(number, counter);
     }
 
-    /// Returns an entry of the journal, by its number from 0, or none.
+    /// Returns an entry of the journal, by its number, or none.
     Result<std::optional<Entry>> entry(std::uint64_t number) { return detail::or_none(detail::entry(at(), number)); }
 
     // ---- the tree, offers and checkpoints
@@ -1580,8 +1719,8 @@ public:
     // ---- sessions
 
     /// Opens a session with a partner's offer. Hashes the nodes that have no digest, and drops the moment, unless
-    /// `hash` is false. The partner's number is recorded. A session's record is never freed before its replica, so
-    /// compare roots first.
+    /// `hash` is false. The partner's number is recorded. A session is kept until `drop_sessions`, so compare roots
+    /// first.
     /// Refused, in order: BadMessage, BadClock (the partner is over 65,535), OtherFormat, OtherRange, SessionsFull,
     /// Dirty (`hash` is false).
     Result<Session> open(std::uint64_t partner, std::string_view offer, bool hash = true) {
@@ -1596,10 +1735,15 @@ public:
         return open_by([&](auto... in) { return c::antientropy_open_at_moment(at(), partner, in...); }, offer);
     }
 
+    /// Drops the sessions that have ended, and all that they keep: rows that later puts have changed, and texts. Open
+    /// ones are unchanged. Calls of a dropped one are refused as UnknownSession, and no later one has its number.
+    /// Entries of the source Partner have the source Copy then. `sync` and `sync_beside` drop sessions, too.
+    Result<void> drop_sessions() { return detail::done(c::antientropy_drop_sessions(at())); }
+
     /// Takes the versions of a partner's offer that this replica lacks. If the roots are equal it opens no session.
-    /// `reach` gets at most `in_flight` asks at once, and at least one. After more than `most_bad` bad or missing
-    /// answers the sync ends unfinished. A leaf with a crowded key is left. At a refusal the versions taken before it
-    /// stay.
+    /// Otherwise it drops all sessions that have ended, at its end, also if it is refused or `reach` throws. `reach`
+    /// gets at most `in_flight` asks at once, and at least one. After more than `most_bad` bad or missing answers the
+    /// sync ends unfinished. A leaf with a crowded key is left. At a refusal the versions taken before it stay.
     /// Refused, in order: BadMessage, BadClock (the partner is over 65,535), OtherFormat, OtherRange, SessionsFull;
     /// later NotCanonical or JournalFull.
     Result<Synced> sync(std::uint64_t partner, std::string_view offer, const Reach &reach, std::size_t in_flight = 256,
@@ -1609,7 +1753,8 @@ public:
     }
 
     /// Takes versions as `sync` does, of a replica that threads share by a lock: a std::mutex, say. The caller doesn't
-    /// hold it. It is free while nodes are hashed and while `reach` waits, so other threads put. Refused as `sync`.
+    /// hold it. It is free while nodes are hashed and while `reach` waits, so other threads put. Don't migrate the
+    /// replica meanwhile: that ends the session. Refused as `sync`.
     template <class Lock>
     Result<Synced> sync_beside(Lock &lock, std::uint64_t partner, std::string_view offer, const Reach &reach,
                                std::size_t in_flight = 256, std::uint64_t most_bad = 8) {
@@ -1617,15 +1762,14 @@ public:
         auto session = at_moment(lock, [&] { return open_unless_equal(partner, offer, here); });
         if (!session) return session.refusal();
         if (!*session) return Synced{};
-        return detail::Run<Lock>(std::move(**session), lock, reach, in_flight, most_bad).finish();
+        return detail::Run<Lock>(handle_.share(), std::move(**session), lock, reach, in_flight, most_bad).finish();
     }
 
 private:
     /// Maximum number of nodes in a portion.
     static constexpr std::uint64_t portion_max = 64;
 
-    Replica(std::uint64_t format, std::uint64_t bits, std::uint64_t range)
-        : format_(format), bits_(bits), range_(range) {}
+    Replica() = default;
 
     detail::ReplicaHandle *at() { return handle_.get(); }
 
@@ -1672,12 +1816,14 @@ private:
     /// Makes a snapshot. Its entries are one of the counts.
     template <class Call>
     Result<Snapshot> snapshot_by(Call call, std::uint64_t Counts::*entries) {
-        Snapshot made(format_, bits_, range_);
+        const auto of = about();
+        if (!of) return of.refusal();
+        Snapshot made(*of);
         const auto number = call(made.at());
         if (number != c::ANTIENTROPY_OK) return static_cast<Refusal>(number);
         const auto counts = count();
         if (!counts) return counts.refusal();
-        made.entries_ = *counts.*entries;
+        made.about_.entries = *counts.*entries;
         return made;
     }
 
@@ -1701,7 +1847,9 @@ private:
         if (!root) return root.refusal();
         const auto there = read_offer(offer);
         if (!there) return there.refusal();
-        if (there->format == format_ && there->range == range_ && there->root == *root) return std::optional<Session>();
+        const auto &about = here->about_;
+        const bool equal = there->format == about.format && there->range == about.range && there->root == *root;
+        if (equal) return std::optional<Session>();
         auto session = open_at_moment(partner, offer);
         if (!session) return session.refusal();
         return std::optional<Session>(std::move(*session));
@@ -1736,8 +1884,8 @@ private:
         return FileError{Fault::Damaged, Refusal::BadRing};
     }
 
-    std::optional<FileError> load_leaves(std::istream &file) {
-        for (unsigned leaf = 0; leaf < detail::leaves_of(format_); leaf++) {
+    std::optional<FileError> load_leaves(std::istream &file, std::uint64_t format) {
+        for (unsigned leaf = 0; leaf < detail::leaves_of(format); leaf++) {
             const auto rows = detail::read_leaf(file);
             if (!rows) return FileError{Fault::Truncated, std::nullopt};
             const auto error = load_leaf(*rows);
@@ -1760,7 +1908,6 @@ private:
     }
 
     detail::Owner<detail::ReplicaHandle, c::antientropy_free> handle_;
-    std::uint64_t format_, bits_, range_;
 };
 
 // ---- hints

@@ -102,13 +102,15 @@ void portion_outlives_its_replica() {
     REFUSED(Empty, closed.hash());
 }
 
-/// The lock of a replica that another thread changes whenever it is free: it puts, and it drops the first moment.
+/// The lock of a replica that another thread changes whenever it is free: it puts, it drops the sessions that have
+/// ended, and it drops the first moment.
 struct BusyLock {
     Replica &replica;
     int locked = 0;
 
     void lock() {
         sure(replica.put(2, std::to_string(++locked), ""));
+        sure(replica.drop_sessions());
         if (locked == 2) sure(replica.drop_moment());
     }
     void unlock() {}
@@ -185,7 +187,7 @@ void snapshots_and_syncs_while_a_thread_puts() {
     check_snapshots(b.replica, std::move(of_b));
 }
 
-/// A sync that ends early cancels its session under the lock.
+/// A sync that ends early cancels and drops its session under the lock.
 void reach_that_throws() {
     Store store;
     Replica partner = filled(50);
@@ -199,7 +201,7 @@ void reach_that_throws() {
         CHECK(false);
     } catch (int) {
         const Counts counts = sure(store.replica.count());
-        CHECK(counts.sessions == 1 && counts.open_sessions == 0 && counts.entries == 1);
+        CHECK(counts.sessions == 0 && counts.open_sessions == 0 && counts.entries == 1);
     }
 }
 

@@ -147,22 +147,107 @@ void journal() {
     CHECK(entries[1].version == Version{{{2, 5}}, Kind::Tombstone, ""});
     CHECK(all(sure(replica.entries(1))).size() == 1);
     CHECK(all(sure(replica.entries(2))).empty());
-    REFUSED(NoVersion, replica.entries(3));
+    REFUSED(BadPosition, replica.entries(3));
     CHECK(sure(replica.entry(0))->key == "a");
     CHECK(sure(replica.top_counter(2, "b")) == 5 && sure(replica.top_counter(2, "b", 1)) == 0);
 }
 
-/// A number of a journal before a renewal.
-void old_position() {
-    Replica replica = sure(Replica::make());
-    for (int n = 0; n < 200; n++) {
-        const Clock context = n == 0 ? Clock() : Clock{{1, static_cast<std::uint64_t>(n)}};
-        sure(replica.put(1, "cart", "milk", context));
+bool operator==(const Entry &first, const Entry &second) {
+    return first.number == second.number && first.key == second.key && first.version == second.version &&
+           first.source == second.source;
+}
+
+/// Puts all kinds of entries, and compares the entries with those that are read one by one.
+void check_entries(Replica replica) {
+    Clock large;
+    for (std::uint64_t node = 2; node <= 32; node++) large.add(node, node);
+    sure(replica.put(1, "cart", "milk", large));
+    const Version binary{{{1, 1}, {65'535, UINT64_MAX}}, Kind::Live, std::string(ANTIENTROPY_VALUE_MAX_1, '\xff')};
+    sure(replica.accept(std::string(ANTIENTROPY_KEY_MAX, '\xff'), binary));
+    sure(replica.accept("empty", {{{3, 1}}, Kind::Live, ""}));
+    if (sure(replica.about()).format == 2) sure(replica.put(2, "gone", std::nullopt));
+    const auto entries = all(sure(replica.entries()));
+    CHECK(entries.size() == sure(replica.count()).entries);
+    for (std::uint64_t number = 0; number < entries.size(); number++) {
+        CHECK(*sure(replica.entry(number)) == entries[number]);
     }
+}
+
+void entries_of_all_kinds() {
+    check_entries(sure(Replica::make(1)));
+    check_entries(sure(Replica::make(2)));
+    Replica migrated = sure(Replica::make(1));
+    sure(migrated.put(1, "before", "milk"));
+    sure(migrated.migrate());
+    check_entries(std::move(migrated));
+}
+
+/// The example of docs/FORMATS.md.
+void packed_entries() {
+    Replica replica = sure(Replica::make());
+    sure(replica.put(1, "a", "x"));
+    const Packed packed = sure(replica.packed_entries(0));
+    CHECK(packed.bytes == from_hex("0000016100010001000100000000000000010000000178") && packed.next == 1);
+    const Packed none = sure(replica.packed_entries(1));
+    CHECK(none.bytes.empty() && none.next == 1);
+    REFUSED(BadPosition, replica.packed_entries(2));
+}
+
+void entries_of_several_calls() {
+    Replica replica = sure(Replica::make());
+    const std::string value(ANTIENTROPY_VALUE_MAX_2, 'v');
+    for (int n = 10; n < 50; n++) sure(replica.put(1, std::to_string(n), value));
+    const Packed packed = sure(replica.packed_entries(0));
+    CHECK(packed.bytes.size() == 15 * (23 + value.size()) && packed.next == 15);
+    CHECK(sure(replica.packed_entries(38)).next == 40);
+    std::uint64_t number = 3;
+    for (const auto &entry : sure(replica.entries(3))) {
+        CHECK(entry.number == number && entry.key == std::to_string(10 + number));
+        number++;
+    }
+    CHECK(number == 40);
+}
+
+/// Puts a key some times, each after a read.
+void put_often(Replica &replica, std::string_view key, int puts) {
+    while (puts-- > 0) sure(replica.put(1, key, "milk", sure(merge(sure(replica.get(key))))));
+}
+
+/// The position of a log is the number of entries that it has, and is never changed otherwise.
+void a_log_goes_on_over_renewals() {
+    Replica replica = sure(Replica::make(2, 0, 0, 150)), restored = sure(Replica::make());
+    std::vector<Entry> log;
+    for (const char *key : {"a", "b", "c"}) {
+        put_often(replica, "cart", 100);
+        put_often(replica, key, 1);
+        for (auto &entry : sure(replica.entries(log.size()))) log.push_back(std::move(entry));
+        replica = sure(replica.renew(150));
+        CHECK(all(sure(replica.entries(log.size()))).empty());
+    }
+    CHECK(log.size() == 303);
+    for (std::uint64_t number = 0; number < log.size(); number++) {
+        CHECK(log[number].number == number);
+        CHECK(sure(restored.accept(log[number].key, log[number].version)) == Accepted::New);
+    }
+    CHECK(sure(restored.root()) == sure(replica.root()));
+}
+
+void bad_positions() {
+    Replica replica = sure(Replica::make());
+    put_often(replica, "cart", 10);
+    put_often(replica, "gift", 1);
     Replica renewed = sure(replica.renew());
-    sure(renewed.put(1, "gift", "wrapped"));
-    REFUSED(NoVersion, renewed.entries(200));
-    CHECK(all(sure(renewed.entries(1))).size() == 1);
+    put_often(renewed, "list", 1);
+    for (const std::uint64_t start : std::initializer_list<std::uint64_t>{0, 8, 10, 13, UINT64_MAX}) {
+        REFUSED(BadPosition, renewed.entries(start));
+        REFUSED(BadPosition, renewed.packed_entries(start));
+    }
+    CHECK(sure(renewed.count()).first == 9);
+    const auto whole = all(sure(renewed.entries(9)));
+    CHECK(whole.size() == 3 && whole[0].number == 9 && whole[2].number == 11 && whole[2].key == "list");
+    CHECK(whole[1].source == Source::Copy && whole[2].source == Source::Put);
+    CHECK(all(sure(renewed.entries(11))).size() == 1 && all(sure(renewed.entries(12))).empty());
+    CHECK(!sure(renewed.entry(8)) && sure(renewed.entry(9))->key == whole[0].key);
 }
 
 /// Of two clients that read the same versions, the second to put is refused, or replaces what the first has put.
@@ -214,8 +299,9 @@ void ranges() {
     REFUSED(BadRing, Replica::make(2, 0, 0, 0));
     const auto range = sure(place(2, 1, "cart")).range;
     Replica own = sure(Replica::make(2, 1, range)), other = sure(Replica::make(2, 1, 1 - range));
-    CHECK(own.format() == 2 && own.bits() == 1 && own.range() == range);
     sure(own.put(1, "cart", "milk"));
+    const About about = sure(own.about());
+    CHECK(about.format == 2 && about.bits == 1 && about.range == range && about.entries == 1);
     REFUSED(OtherRange, other.put(1, "cart", "milk"));
     REFUSED(OtherRange, other.load_rows(sure(own.row("cart"))));
 }
@@ -243,11 +329,12 @@ void renewal_and_migration() {
     sure(replica.put(1, "cart", "milk"));
     sure(replica.put(1, "cart", "eggs", {{1, 1}}));
     Replica renewed = sure(replica.renew(5));
-    CHECK(sure(renewed.count()).entries == 1 && sure(renewed.count()).limit == 5);
+    const Counts counts = sure(renewed.count());
+    CHECK(counts.entries == 2 && counts.first == 1 && counts.front == 1 && counts.limit == 5);
     CHECK(sure(renewed.root()) == sure(replica.root()));
     REFUSED(BadRing, replica.renew(0));
     sure(renewed.migrate());
-    CHECK(renewed.format() == 2 && sure(renewed.count()).dirty > 0);
+    CHECK(sure(renewed.about()).format == 2 && sure(renewed.count()).dirty > 0);
     REFUSED(Dirty, renewed.snapshot(false));
     sure(renewed.rehash());
     CHECK(sure(renewed.count()).dirty == 0 && renewed.snapshot(false));
@@ -296,6 +383,9 @@ void closed() {
     replica.close();
     REFUSED(Empty, ended(std::move(entries)));
     REFUSED(Empty, replica.entries());
+    REFUSED(Empty, replica.packed_entries(0));
+    REFUSED(Empty, replica.about());
+    REFUSED(Empty, replica.drop_sessions());
     REFUSED(Empty, replica.count());
     REFUSED(Empty, replica.renew());
     REFUSED(Empty, replica.root());
@@ -322,7 +412,7 @@ void checkpoints() {
     const auto covered = replica.save(file);
     CHECK(covered && *covered == 1);
     auto loaded = Replica::load(file);
-    CHECK(loaded && loaded->format() == 1 && *loaded->get("cart") == *replica.get("cart"));
+    CHECK(loaded && loaded->about()->format == 1 && *loaded->get("cart") == *replica.get("cart"));
     CHECK(saved(*loaded) == saved(replica));
     Replica other = sure(Replica::make(2, 8, 3));
     CHECK(load(saved(other)) == "loaded");
@@ -467,7 +557,11 @@ int main() {
                 {"large values", large_values},
                 {"keys", keys},
                 {"journal", journal},
-                {"old position", old_position},
+                {"entries of all kinds", entries_of_all_kinds},
+                {"packed entries", packed_entries},
+                {"entries of several calls", entries_of_several_calls},
+                {"a log goes on over renewals", a_log_goes_on_over_renewals},
+                {"bad positions", bad_positions},
                 {"two clients", two_clients},
                 {"rows", rows},
                 {"rows of a format", rows_of_a_format},

@@ -25,6 +25,16 @@ Synced sync(Replica &replica, Replica &partner) {
     return sure(replica.sync(9, sure(snapshot.offer(1)), reach(snapshot)));
 }
 
+/// The number of sessions that are kept. None of them is open.
+std::uint64_t kept(Replica &replica) {
+    const Counts counts = sure(replica.count());
+    CHECK(counts.open_sessions == 0);
+    return counts.sessions;
+}
+
+/// The number of sessions that were opened. Opens another one.
+std::uint64_t opened(Replica &replica, const std::string &offer) { return sure(replica.open(1, offer)).number(); }
+
 std::string ask_of(std::uint64_t leaf) {
     return std::string("\x02\0\0\0\x01\x03", 6) + static_cast<char>(leaf >> 8) + static_cast<char>(leaf);
 }
@@ -103,6 +113,35 @@ void session() {
     CHECK(sure(session.state()) == State::Finished);
 }
 
+void check_unknown(Session &session) {
+    REFUSED(UnknownSession, session.state());
+    REFUSED(UnknownSession, session.outstanding());
+    REFUSED(UnknownSession, session.ask());
+    REFUSED(UnknownSession, session.ask_at(0));
+    REFUSED(UnknownSession, session.asks());
+    REFUSED(UnknownSession, session.take(from_hex("03000000010000000000000000000000")));
+    REFUSED(UnknownSession, session.cancel());
+}
+
+void dropped_sessions() {
+    Replica a = filled(50), b = sure(Replica::make());
+    Snapshot offered = sure(a.snapshot());
+    const std::string offer = sure(offered.offer(1));
+    Session ended = sure(b.open(1, offer)), open = sure(b.open(1, offer));
+    sure(ended.cancel());
+    sure(b.drop_sessions());
+    check_unknown(ended);
+    CHECK(sure(b.count()).sessions == 1 && sure(b.count()).open_sessions == 1 && open.number() == 1);
+    while (const auto ask = sure(open.ask())) sure(open.take(sure(offered.serve(1, *ask))));
+    CHECK(sure(open.state()) == State::Finished && sure(b.entry(49))->source == Source::Partner);
+    sure(b.drop_sessions());
+    check_unknown(open);
+    CHECK(kept(b) == 0);
+    for (const auto &entry : sure(b.entries())) CHECK(entry.source == Source::Copy);
+    Replica renewed = sure(b.renew());
+    CHECK(opened(renewed, offer) == 2);
+}
+
 void bad_answers() {
     Replica a = filled(50), b = sure(Replica::make());
     Snapshot offered = sure(a.snapshot());
@@ -137,7 +176,7 @@ void empty_ranges() {
     const std::string offer = sure(sure(replica.snapshot()).offer(1));
     REFUSED(OtherFormat, first.sync(1, offer, nullptr));
     REFUSED(OtherRange, other.sync(1, offer, nullptr));
-    CHECK(sure(same.sync(1, offer, nullptr)).finished() && sure(same.count()).sessions == 0);
+    CHECK(sure(same.sync(1, offer, nullptr)).finished() && opened(same, offer) == 0);
 }
 
 void moved_sessions() {
@@ -172,11 +211,25 @@ void whole_sync() {
     const std::string offer = sure(snapshot.offer(1));
     const Synced synced = sure(b.sync(1, offer, counting, 10));
     CHECK(synced.finished() && synced.accepted == 300 && synced.bad == 0 && synced.crowded.empty() && most == 10);
-    CHECK(sure(a.root()) == sure(b.root()) && sure(b.count()).sessions == 1);
+    CHECK(sure(a.root()) == sure(b.root()) && kept(b) == 0);
     const Synced again = sure(b.sync(1, offer, nullptr));
-    CHECK(again.finished() && again.asks == 0 && sure(b.count()).sessions == 1);
+    CHECK(again.finished() && again.asks == 0 && opened(b, offer) == 1);
     sure(b.put(2, "other", ""));
     CHECK(sync(a, b).accepted == 1 && sync(b, a).asks == 0);
+}
+
+void forty_syncs() {
+    Replica a = filled(300), b = sure(Replica::make());
+    Session by_hand = sure(b.open(1, sure(sure(a.snapshot()).offer(1))));
+    for (int n = 0; n < 40; n++) {
+        sure(a.put(1, "later " + std::to_string(n), ""));
+        const Synced synced = sync(b, a);
+        CHECK(synced.finished() && synced.accepted == (n == 0 ? 301 : 1));
+        CHECK(sure(b.count()).sessions == 1);
+    }
+    for (const auto &entry : sure(b.entries())) CHECK(entry.source == Source::Copy);
+    CHECK(sure(by_hand.state()) == State::Open && by_hand.number() == 0);
+    CHECK(opened(b, sure(sure(a.snapshot()).offer(1))) == 41);
 }
 
 void one_ask_at_once() {
@@ -194,6 +247,7 @@ void crowded_leaf_is_passed() {
     const Asks left = {ask_of(sure(place(2, 0, "key")).leaf)};
     const Synced synced = sure(b.sync(1, offer, reach(snapshot)));
     CHECK(synced.accepted == 300 && synced.state == State::Cancelled && synced.crowded == left && synced.bad == 0);
+    CHECK(kept(b) == 0);
     const auto backwards = [&](const Asks &asks) { return serve(snapshot, Asks(asks.rbegin(), asks.rend())); };
     CHECK(sure(b.sync(1, offer, backwards)).crowded == left);
 }
@@ -223,7 +277,7 @@ void bad_partners_are_bounded() {
         return answers;
     };
     const Synced lied = sure(b.sync(1, offer, lies, 256, 5));
-    CHECK(lied.bad == 6 && lied.asks == 6 && lied.state == State::Cancelled);
+    CHECK(lied.bad == 6 && lied.asks == 6 && lied.state == State::Cancelled && kept(b) == 0);
     const Synced lost = sure(b.sync(1, offer, [](const Asks &) { return Answers(); }, 256, 3));
     CHECK(lost.bad == 4 && !lost.finished());
     const auto talks = [](const Asks &) { return Answers(5'000, ""); };
@@ -245,7 +299,8 @@ void not_canonical() {
     REFUSED(NotCanonical, session.take(answer));
     CHECK(sure(session.state()) == State::Failed && !sure(session.ask()));
     REFUSED(NotCanonical, replica.sync(1, offer, [&](const Asks &) { return Answers{answer}; }));
-    CHECK(sure(replica.count()).entries == 0);
+    CHECK(sure(replica.count()).entries == 0 && kept(replica) == 0);
+    check_unknown(session);
 }
 
 void a_sync_is_refused() {
@@ -253,13 +308,13 @@ void a_sync_is_refused() {
     Snapshot snapshot = sure(a.snapshot());
     const std::string offer = sure(snapshot.offer(1));
     REFUSED(JournalFull, small.sync(1, offer, reach(snapshot)));
-    CHECK(sure(small.count()).open_sessions == 0);
+    CHECK(kept(small) == 0);
     try {
         const Reach fails = [](const Asks &) -> Answers { throw 1; };
         (void)small.sync(1, offer, fails);
         CHECK(false);
     } catch (int) {
-        CHECK(sure(small.count()).open_sessions == 0);
+        CHECK(kept(small) == 0 && opened(small, offer) == 2);
     }
     const Reach closes = [&](const Asks &asks) {
         small.close();
@@ -284,11 +339,13 @@ int main() {
     return run({{"snapshots", snapshots},
                 {"shared snapshots", shared_snapshots},
                 {"session", session},
+                {"dropped sessions", dropped_sessions},
                 {"bad answers", bad_answers},
                 {"refused offers", refused_offers},
                 {"empty ranges", empty_ranges},
                 {"moved sessions", moved_sessions},
                 {"whole sync", whole_sync},
+                {"forty syncs", forty_syncs},
                 {"one ask at once", one_ask_at_once},
                 {"crowded leaf is passed", crowded_leaf_is_passed},
                 {"crowded answers end", crowded_answers_end},

@@ -45,8 +45,8 @@ void errors_of_checkpoints() {
 
 void values() {
     auto made = Replica::make();
-    made.value().put(1, "cart", "milk").value();
-    CHECK(std::as_const(made).value().format() == 2);
+    const auto receipt = made.value().put(1, "cart", "milk");
+    CHECK(receipt.value().counter == 1);
     for (const auto &version : made->get("cart").value()) CHECK(version.value == "milk");
     Replica moved = std::move(made).value();
     CHECK(moved.count_versions("cart").value() == 1);
