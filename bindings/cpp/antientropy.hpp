@@ -697,7 +697,7 @@ inline Result<Entry> entry(ReplicaHandle *replica, std::uint64_t number) {
 /// Bytes that a call gets for packed entries. If the first entry is longer, it gets as many as that one needs.
 inline constexpr std::uint64_t packed_room = 1 << 20;
 
-/// Refused, as `packed` is: BadPosition.
+/// Tests whether entries can be read from a number on. Refused: BadPosition.
 inline Result<void> check_position(ReplicaHandle *replica, std::uint64_t start) {
     std::uint8_t none = 0;
     std::uint64_t need = 0, next = 0;
@@ -705,6 +705,7 @@ inline Result<void> check_position(ReplicaHandle *replica, std::uint64_t start) 
     return done(number == c::ANTIENTROPY_SMALL ? std::uint32_t(c::ANTIENTROPY_OK) : number);
 }
 
+/// Some entries from a number on. Refused: BadPosition.
 inline Result<Packed> packed(ReplicaHandle *replica, std::uint64_t start) {
     std::uint64_t need = packed_room, next = start;
     std::uint32_t number = c::ANTIENTROPY_SMALL;

@@ -32,6 +32,12 @@ std::uint64_t kept(Replica &replica) {
     return counts.sessions;
 }
 
+/// True if all entries have a source.
+bool all_are(Source source, Replica &replica) {
+    const auto entries = all(sure(replica.entries()));
+    return std::all_of(entries.begin(), entries.end(), [&](const Entry &entry) { return entry.source == source; });
+}
+
 /// The number of sessions that were opened. Opens another one.
 std::uint64_t opened(Replica &replica, const std::string &offer) { return sure(replica.open(1, offer)).number(); }
 
@@ -133,11 +139,10 @@ void dropped_sessions() {
     check_unknown(ended);
     CHECK(sure(b.count()).sessions == 1 && sure(b.count()).open_sessions == 1 && open.number() == 1);
     while (const auto ask = sure(open.ask())) sure(open.take(sure(offered.serve(1, *ask))));
-    CHECK(sure(open.state()) == State::Finished && sure(b.entry(49))->source == Source::Partner);
+    CHECK(sure(open.state()) == State::Finished && all_are(Source::Partner, b));
     sure(b.drop_sessions());
     check_unknown(open);
-    CHECK(kept(b) == 0);
-    for (const auto &entry : sure(b.entries())) CHECK(entry.source == Source::Copy);
+    CHECK(kept(b) == 0 && all_are(Source::Copy, b));
     Replica renewed = sure(b.renew());
     CHECK(opened(renewed, offer) == 2);
 }
@@ -227,7 +232,7 @@ void forty_syncs() {
         CHECK(synced.finished() && synced.accepted == (n == 0 ? 301 : 1));
         CHECK(sure(b.count()).sessions == 1);
     }
-    for (const auto &entry : sure(b.entries())) CHECK(entry.source == Source::Copy);
+    CHECK(all_are(Source::Copy, b));
     CHECK(sure(by_hand.state()) == State::Open && by_hand.number() == 0);
     CHECK(opened(b, sure(sure(a.snapshot()).offer(1))) == 41);
 }

@@ -679,7 +679,7 @@ impl Replica {
     }
 
     /// Takes the versions of a partner's offer that this replica lacks. If the roots are equal it opens no session.
-    /// Otherwise it drops all sessions that have ended, at its end.
+    /// Otherwise it drops all sessions that have ended, at its end, also if it is refused or `reach` panics.
     ///
     /// `reach` sends asks to the partner, and returns the answers in their order: `None` for one that is missing.
     /// Answers that are missing at the end are left out: after a lost link it returns an empty list. The sync has the
