@@ -142,12 +142,7 @@ impl Replica {
             // SAFETY: as in `sys`.
             unsafe { sys::antientropy_about(self.handle.raw(), about) }
         })?;
-        Ok(About {
-            format: about.format as u8,
-            bits: about.bits as u8,
-            range: about.range as u16,
-            entries: about.entries,
-        })
+        Ok(about.into())
     }
 
     /// Returns the counts of entries, dirty nodes and sessions.
@@ -474,17 +469,17 @@ impl Replica {
 
     /// Returns a snapshot of the rows now. Refused as `Dirty` if a node has no digest.
     pub fn snapshot_if_clean(&mut self) -> Result<Snapshot, Refusal> {
-        let handle = self.snapshot_by(sys::antientropy_snapshot)?;
-        Ok(Snapshot::of(handle, self.about()?))
+        self.snapshot_by(sys::antientropy_snapshot)
     }
 
     /// Makes one of the two calls that make a snapshot.
-    fn snapshot_by(&mut self, call: SnapshotCall) -> Result<Owned, Refusal> {
+    fn snapshot_by(&mut self, call: SnapshotCall) -> Result<Snapshot, Refusal> {
         let from = self.handle.raw();
-        Owned::make(sys::antientropy_snapshot_free, |into| {
+        let handle = Owned::make(sys::antientropy_snapshot_free, |into| {
             // SAFETY: as in `sys`; `into` is empty and a local one.
             unsafe { call(from, into) }
-        })
+        })?;
+        Snapshot::of(handle)
     }
 
     /// Returns the digest of the root now. Replicas of a range with equal roots hold the same versions.
@@ -614,9 +609,7 @@ impl Replica {
 
     /// Returns a snapshot of the moment. Refused as `Dirty` if there is none, or if it isn't whole.
     pub fn moment(&mut self) -> Result<Snapshot, Refusal> {
-        let handle = self.snapshot_by(sys::antientropy_moment)?;
-        let entries = self.count()?.front;
-        Ok(Snapshot::of(handle, About { entries, ..self.about()? }))
+        self.snapshot_by(sys::antientropy_moment)
     }
 }
 

@@ -3,7 +3,7 @@
 use std::io::Write;
 
 use crate::checkpoint::{self, CheckpointError};
-use crate::handle::{bytes, Owned};
+use crate::handle::{bytes, written, Owned};
 use crate::refusal::{check, Refusal};
 use crate::rows::{row, Keys};
 use crate::sys;
@@ -30,9 +30,13 @@ pub struct Snapshot {
 }
 
 impl Snapshot {
-    /// Returns the snapshot of a handle. `about` is of its moment.
-    pub(crate) fn of(handle: Owned, about: About) -> Snapshot {
-        Snapshot { handle, about }
+    /// Returns the snapshot of a handle.
+    pub(crate) fn of(mut handle: Owned) -> Result<Snapshot, Refusal> {
+        let about: sys::About = written(|about| {
+            // SAFETY: as in `sys`.
+            unsafe { sys::antientropy_snapshot_about(handle.raw(), about) }
+        })?;
+        Ok(Snapshot { handle, about: about.into() })
     }
 
     /// Returns another snapshot of the same rows. Copies no row.
@@ -55,7 +59,7 @@ impl Snapshot {
             // SAFETY: as in `sys`; `into` is empty and a local one.
             unsafe { sys::antientropy_snapshot_share(from, into) }
         })?;
-        Ok(Snapshot::of(handle, self.about))
+        Ok(Snapshot { handle, about: self.about })
     }
 
     /// Returns the format of the rows.

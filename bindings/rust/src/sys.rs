@@ -250,6 +250,7 @@ extern "C" {
     pub fn antientropy_portion_free(portion: *mut Handle);
     pub fn antientropy_moment(replica: *mut Handle, snapshot: *mut Handle) -> u32;
     pub fn antientropy_snapshot(replica: *mut Handle, snapshot: *mut Handle) -> u32;
+    pub fn antientropy_snapshot_about(snapshot: *mut Handle, about: *mut About) -> u32;
     pub fn antientropy_snapshot_share(snapshot: *mut Handle, other: *mut Handle) -> u32;
     pub fn antientropy_snapshot_free(snapshot: *mut Handle);
     pub fn antientropy_snapshot_get(

@@ -3,6 +3,7 @@
 use std::fmt;
 
 use crate::refusal::Refusal;
+use crate::sys;
 
 /// A pair of a clock: a node and its counter.
 #[repr(C)]
@@ -292,7 +293,7 @@ pub struct Counts {
     pub front: u64,
 }
 
-/// The range of a replica, and the position of its journal: what a checkpoint or a log has to name.
+/// The range of a replica or a snapshot, and the position of its journal: what a checkpoint or a log has to name.
 #[derive(Clone, Copy, Debug, PartialEq, Eq, Hash)]
 pub struct About {
     /// Format of the tree: 1 or 2.
@@ -303,6 +304,13 @@ pub struct About {
     pub range: u16,
     /// Entries, with those before renewals: the number of the next entry.
     pub entries: u64,
+}
+
+impl From<sys::About> for About {
+    fn from(about: sys::About) -> About {
+        let sys::About { format, bits, range, entries } = about;
+        About { format: format as u8, bits: bits as u8, range: range as u16, entries }
+    }
 }
 
 /// Counts of hints.
