@@ -368,8 +368,8 @@ using Spot = c::antientropy_spot;
 /// `first`. `front` is `entries` at the last moment that was whole: `first` if there was none since a renewal.
 using Counts = c::antientropy_counts;
 
-/// What a checkpoint or a log has to name: the `format` of a replica (1 or 2), the `bits` of its ring, the number of
-/// its `range`, and the count of its `entries`, which is the number of the next one.
+/// What a checkpoint or a log has to name: the `format` of a replica or a snapshot (1 or 2), the `bits` of the ring,
+/// the number of the `range`, and the count of `entries`, which is the number of the next one.
 using About = struct c::antientropy_about;
 
 /// Counts of hints: `pending` and `delivered`.
@@ -1025,9 +1025,7 @@ public:
     /// Returns another snapshot of the same rows. Copies no row. Each thread that reads the rows has a snapshot of its
     /// own; the threads then need no lock. The rows are freed with the last one.
     Result<Snapshot> share() {
-        Snapshot made(about_);
-        const auto number = c::antientropy_snapshot_share(at(), made.at());
-        return detail::result(number, std::move(made));
+        return made_by([&](auto *into) { return c::antientropy_snapshot_share(at(), into); });
     }
 
     /// Number of entries at the moment of the snapshot: a log goes on there.
@@ -1104,7 +1102,16 @@ public:
 private:
     friend class Replica;
 
-    explicit Snapshot(const About &about) : about_(about) {}
+    Snapshot() = default;
+
+    /// The snapshot that a call makes.
+    template <class Call>
+    static Result<Snapshot> made_by(Call call) {
+        Snapshot made;
+        auto number = call(made.at());
+        if (number == c::ANTIENTROPY_OK) number = c::antientropy_snapshot_about(made.at(), &made.about_);
+        return detail::result(number, std::move(made));
+    }
 
     c::antientropy_offered *at() { return handle_.get(); }
 
@@ -1125,7 +1132,7 @@ private:
     }
 
     detail::Owner<c::antientropy_offered, c::antientropy_snapshot_free> handle_;
-    About about_;
+    About about_ = {};
 };
 
 // ---- portions
@@ -1625,7 +1632,7 @@ public:
     Result<Snapshot> snapshot(bool hash = true) {
         detail::NoLock none;
         if (hash) return snapshot_beside(none);
-        return snapshot_by([&](auto... into) { return c::antientropy_snapshot(at(), into...); }, &Counts::entries);
+        return Snapshot::made_by([&](auto *into) { return c::antientropy_snapshot(at(), into); });
     }
 
     /// Returns a snapshot as `snapshot` does, of a replica that threads share by a lock: a std::mutex, say. The caller
@@ -1714,7 +1721,7 @@ public:
 
     /// Returns a snapshot of the moment. Refused: Dirty (there is none, or it isn't whole).
     Result<Snapshot> moment() {
-        return snapshot_by([&](auto... into) { return c::antientropy_moment(at(), into...); }, &Counts::front);
+        return Snapshot::made_by([&](auto *into) { return c::antientropy_moment(at(), into); });
     }
 
     // ---- sessions
@@ -1812,20 +1819,6 @@ private:
         const auto held = hold();
         if (!held) return held.refusal();
         return take_portion(portion_max);
-    }
-
-    /// Makes a snapshot. Its entries are one of the counts.
-    template <class Call>
-    Result<Snapshot> snapshot_by(Call call, std::uint64_t Counts::*entries) {
-        const auto of = about();
-        if (!of) return of.refusal();
-        Snapshot made(*of);
-        const auto number = call(made.at());
-        if (number != c::ANTIENTROPY_OK) return static_cast<Refusal>(number);
-        const auto counts = count();
-        if (!counts) return counts.refusal();
-        made.about_.entries = *counts.*entries;
-        return made;
     }
 
     template <class Call>
