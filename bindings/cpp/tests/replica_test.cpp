@@ -222,6 +222,7 @@ void a_log_goes_on_over_renewals() {
         put_often(replica, key, 1);
         for (auto &entry : sure(replica.entries(log.size()))) log.push_back(std::move(entry));
         replica = sure(replica.renew(150));
+        CHECK(sure(replica.snapshot()).entries() == log.size());
         CHECK(all(sure(replica.entries(log.size()))).empty());
     }
     CHECK(log.size() == 303);

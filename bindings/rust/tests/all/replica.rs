@@ -134,6 +134,7 @@ fn a_log_goes_on_over_renewals() {
         put_often(&mut replica, &[round], 1);
         log.append(&mut entries_of(&mut replica, log.len() as u64));
         replica = replica.renew(150).unwrap();
+        assert_eq!(replica.snapshot().unwrap().entries(), log.len() as u64);
         assert_eq!(entries_of(&mut replica, log.len() as u64), []);
     }
     assert!(log.iter().map(|entry| entry.number).eq(0..303));
