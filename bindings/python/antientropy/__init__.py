@@ -12,12 +12,14 @@ from typing import Type
 from ._functions import compare, merge, place, read_offer
 from ._hints import Hints
 from ._library import load_library, refusal_class, version
+from ._packed import unpack_entries
 from ._refused import Refused
 from ._replica import Replica
 from ._session import Session
 from ._slots import Slots
 from ._snapshot import Snapshot
 from ._values import (
+    About,
     Clock,
     ClockLike,
     Counts,
@@ -28,6 +30,7 @@ from ._values import (
     Loaded,
     OfferParts,
     Order,
+    Packed,
     Receipt,
     SlotCounts,
     Source,
@@ -39,6 +42,7 @@ from ._values import (
 )
 
 __all__ = [
+    "About",
     "Clock",
     "ClockLike",
     "Counts",
@@ -50,6 +54,7 @@ __all__ = [
     "Loaded",
     "OfferParts",
     "Order",
+    "Packed",
     "Receipt",
     "Refused",
     "Replica",
@@ -68,6 +73,7 @@ __all__ = [
     "merge",
     "place",
     "read_offer",
+    "unpack_entries",
     "version",
 ]
 

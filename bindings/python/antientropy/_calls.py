@@ -19,6 +19,9 @@ CLOCK_MAX = 32
 #: Bytes of a digest.
 ROOT_LEN = 32
 
+#: Bytes of the longest packed entry.
+ENTRY_MAX = 66_122
+
 
 class HandleStruct(Structure):
     """A handle: hints have all of these fields, the other structs of the header the first two."""
@@ -46,6 +49,7 @@ CALLS: Dict[str, Tuple[Any, Tuple[Any, ...]]] = {
     "renew": (c_uint32, (*_HANDLE, *_HANDLE, c_uint64)),
     "migrate": (c_uint32, _HANDLE),
     "count": (c_uint32, (*_HANDLE, *_STRUCT)),
+    "about": (c_uint32, (*_HANDLE, *_STRUCT)),
     "put_read": (c_uint32, (*_HANDLE, c_uint64, *_BYTES, *_VERSION, *_STRUCT)),
     "put": (c_uint32, (*_HANDLE, c_uint64, *_BYTES, *_VERSION, *_STRUCT)),
     "accept": (c_uint32, (*_HANDLE, *_BYTES, *_VERSION, *_NUMBER)),
@@ -58,6 +62,7 @@ CALLS: Dict[str, Tuple[Any, Tuple[Any, ...]]] = {
     "key_next": (c_uint32, (*_HANDLE, c_uint64, *_OUT)),
     "compare": (c_uint32, (*_PAIRS, *_PAIRS, *_NUMBER)),
     "merge": (c_uint32, (*_PAIRS, *_PAIRS, *_OUT)),
+    "entries": (c_uint32, (*_HANDLE, c_uint64, *_OUT, *_NUMBER)),
     "entry_key": (c_uint32, (*_HANDLE, c_uint64, *_OUT)),
     "entry_value": (c_uint32, (*_HANDLE, c_uint64, *_KIND_OUT)),
     "entry_clock": (c_uint32, (*_HANDLE, c_uint64, *_OUT)),
@@ -93,6 +98,7 @@ CALLS: Dict[str, Tuple[Any, Tuple[Any, ...]]] = {
     "ask": (c_uint32, (*_HANDLE, c_uint64, c_uint32, *_OUT)),
     "take": (c_uint32, (*_HANDLE, c_uint64, c_uint32, *_BYTES, *_STRUCT)),
     "cancel": (c_uint32, (*_HANDLE, c_uint64)),
+    "drop_sessions": (c_uint32, _HANDLE),
     "session": (c_uint32, (*_HANDLE, c_uint64, *_NUMBER)),
     "hints_new": (c_uint32, _HANDLE),
     "hints_restore": (c_uint32, (*_HANDLE, c_uint64)),

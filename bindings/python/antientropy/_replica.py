@@ -2,25 +2,29 @@
 
 from __future__ import annotations
 
-from ctypes import byref, c_uint64
-from typing import BinaryIO, Callable, Iterable, Iterator, List, Optional, Sequence
+from ctypes import byref, c_uint64, create_string_buffer
+from typing import BinaryIO, Callable, Iterable, Iterator, List, Optional, Sequence, Tuple
 
 from . import _checkpoint, _sync
-from ._calls import CLOCK_MAX
+from ._calls import CLOCK_MAX, ENTRY_MAX
 from ._convert import fits, to_bytes, to_clock, to_kind, to_pairs, to_value
 from ._handle import Results
 from ._library import Library, current
+from ._packed import unpack_entries
 from ._puts import put_many
 from ._refused import class_of
 from ._rows import Rows
 from ._session import Session
 from ._snapshot import Snapshot
-from ._values import Clock, ClockLike, Counts, Entry, Loaded, Put, Receipt, Source, Synced, Version
+from ._values import About, Clock, ClockLike, Counts, Entry, Loaded, Packed, Put, Receipt, Source, Synced, Version
 
 _LIMIT = 1_000_000
 
-#: No journal has more entries.
+#: No entry has a greater number.
 _ALL = (1 << 64) - 1
+
+#: Bytes of packed entries that are read at once.
+_PACKED_ROOM = 1 << 20
 
 
 class Replica(Rows):
@@ -31,15 +35,8 @@ class Replica(Rows):
 
     _free, _get_row, _next_key = "free", "get", "key_next"
 
-    #: Format of the replica: 1 or 2.
-    format: int
-    #: Bits of the ring, which has 2^bits ranges.
-    bits: int
-    #: Number of the replica's range, from 0.
-    range: int
-
     def __init__(self, format: int = 2, bits: int = 0, range: int = 0, limit: int = _LIMIT) -> None:
-        self._prepare(current(), format, bits, range)
+        self._prepare(current())
         self._call("new", *(fits(number, 64) for number in (format, bits, range, limit)))
 
     @classmethod
@@ -52,25 +49,27 @@ class Replica(Rows):
         if a number is outside its limits.
         """
         made = cls.__new__(cls)
-        made._prepare(current(), format, bits, range)
+        made._prepare(current())
         made._call("new_seeded", *(fits(number, 64) for number in (format, bits, range, limit, first, second)))
         return made
 
-    def _prepare(self, library: Library, format: int, bits: int, range: int) -> None:
+    def _prepare(self, library: Library) -> None:
         super().__init__(library)
-        self.format, self.bits, self.range = format, bits, range
         #: The threads that are in calls at a moment, once for each call.
         self._moment_threads: List[int] = []
 
     def renew(self, limit: int = _LIMIT) -> Replica:
         """Returns a new replica with the versions that are held: one entry for each, and no sessions.
 
-        This one is left unchanged: close it, and go on with the new one under the same node number. Raises BadRing
-        (the limit) or JournalFull (more versions are held than the limit).
+        This one is left unchanged: close it, and go on with the new one under the same node number. The numbers of
+        entries go on: both count as many, and the next entry gets a number that was never used. The new journal begins
+        at `count().first`.
+
+        Raises BadRing (the limit) or JournalFull (more versions are held than the limit).
         """
         renewed = type(self).__new__(type(self))
         with self._lock:
-            renewed._prepare(self._library, self.format, self.bits, self.range)
+            renewed._prepare(self._library)
             self._call_held("renew", renewed._at, fits(limit, 64))
         return renewed
 
@@ -79,13 +78,30 @@ class Replica(Rows):
 
         All nodes become dirty, open sessions are cancelled, and the moment is dropped.
         """
-        with self._to_change():
-            self._call_held("migrate")
-            self.format = 2
+        self._call("migrate")
 
     def count(self) -> Counts:
         """Returns the counts of entries, dirty nodes and sessions, and of the entries at the last whole moment."""
         return Counts(*self._get_words(7, "count"))
+
+    def about(self) -> About:
+        """Returns what a checkpoint or a log has to name: format, bits and range, and the number of the next entry."""
+        return About(*self._get_words(4, "about"))
+
+    @property
+    def format(self) -> int:
+        """Format of the replica: 1 or 2."""
+        return self.about().format
+
+    @property
+    def bits(self) -> int:
+        """Bits of the ring, which has 2^bits ranges."""
+        return self.about().bits
+
+    @property
+    def range(self) -> int:
+        """Number of the replica's range, from 0."""
+        return self.about().range
 
     # ---- versions
 
@@ -206,27 +222,46 @@ class Replica(Rows):
 
     # ---- the journal
 
-    def entries(self, start: int = 0) -> Iterator[Entry]:
-        """Yields the entries of the journal, from a number on. Entries are never changed.
+    def entries(self, start: Optional[int] = None) -> Iterator[Entry]:
+        """Yields the entries of the journal, from a number on: without one, from the journal's first entry on.
 
-        Raises NoVersion if the number is over that of entries: then it is one of a journal before a renewal. That finds
-        only some old numbers, since a renewal numbers the entries anew: begin at its count of entries.
+        A log reads from the number of its next entry, and lacks none after a renewal if it had all before. Raises
+        BadPosition if entries were missed, or if the number isn't one of this journal: it is over the count of entries,
+        or below that at the last renewal and not `count().first`. Read the whole journal then.
         """
-        if start > self.count().entries:
-            raise self._library.refusal("entries", self._library.no_version)
-        return self._entries_from(start)
+        return self._entries_after(self.packed_entries(start))
 
-    def _entries_from(self, number: int) -> Iterator[Entry]:
-        while True:
-            try:
-                entry = self.entry(number)
-            except class_of("NoVersion"):
-                return
-            yield entry
-            number += 1
+    def _entries_after(self, packed: Packed) -> Iterator[Entry]:
+        while packed.data:
+            yield from unpack_entries(packed.data, packed.format, packed.first)
+            packed = self.packed_entries(packed.next)
+
+    def packed_entries(self, start: Optional[int] = None, room: int = _PACKED_ROOM) -> Packed:
+        """Returns entries as their texts, from a number on as `entries` yields them: go on at `next`.
+
+        They are as many as fit in `room` bytes, but at least one: there is none only if none follows. Raises
+        BadPosition as `entries` does. `unpack_entries` yields the entries of the texts.
+        """
+        with self._lock:
+            about = self.about()
+            first = self.count().first if start is None else fits(start, 64)
+            left = max(0, about.entries - first)
+            data, next_number = self._packed_held(first, min(room, left * ENTRY_MAX))
+        return Packed(data, first, next_number, about.format)
+
+    def _packed_held(self, first: int, room: int) -> Tuple[bytes, int]:
+        """Packed entries from a number on, and the number after them."""
+        call, data, need, next_number = self._library.entries, create_string_buffer(room), c_uint64(), c_uint64()
+        number = call(self._at, first, data, room, byref(need), byref(next_number))
+        if number == self._library.small:
+            data = create_string_buffer(need.value)
+            number = call(self._at, first, data, need.value, byref(need), byref(next_number))
+        if number:
+            raise self._library.refusal("entries", number)
+        return data[: need.value], next_number.value
 
     def entry(self, number: int) -> Entry:
-        """Returns an entry of the journal, by its number from 0. Raises NoVersion."""
+        """Returns an entry of the journal, by its number. Raises NoVersion."""
         fits(number, 64)
         with self._lock:
             key = self._bytes_held("entry_key", number)
@@ -238,8 +273,8 @@ class Replica(Rows):
     def top_counter(self, node: int, key: bytes, entries: Optional[int] = None) -> int:
         """Returns the greatest counter of a node in the clocks of a key's versions, or 0.
 
-        It is that of the first `entries` entries of the journal, or of all. Raises BadClock if the node is 0 or over
-        65,535.
+        It is that of the journal's entries of numbers below `entries`, or of all. Raises BadClock if the node is 0 or
+        over 65,535.
         """
         key, most = to_bytes(key), _ALL if entries is None else fits(entries, 64)
         return self._get_words(1, "top_counter", fits(node, 64), key, len(key), most)[0]
@@ -328,7 +363,7 @@ class Replica(Rows):
         return Loaded(*words[:2])
 
     def save(self, file: BinaryIO) -> int:
-        """Writes a checkpoint of the rows now (docs/FORMATS.md). Returns the number of entries that it covers.
+        """Writes a checkpoint of the rows now (docs/FORMATS.md). Returns the number of the first entry after it.
 
         Other threads may put meanwhile. The caller brings the file to its disk.
         """
@@ -347,7 +382,7 @@ class Replica(Rows):
     # ---- sessions
 
     def open(self, partner: int, offer: bytes, rehash: bool = True) -> Session:
-        """Opens a session with a partner's offer. It is never freed before its replica, so compare roots first.
+        """Opens a session with a partner's offer. It is kept until `drop_sessions`, so compare roots first.
 
         It compares the rows now, which are held as a moment and hashed while other threads put. If `rehash` is False it
         holds no moment, and raises Dirty if a node of the tree has no digest.
@@ -364,6 +399,13 @@ class Replica(Rows):
         with self._to_change():
             return Session._at_moment_held(self, partner, offer)
 
+    def drop_sessions(self) -> None:
+        """Drops the sessions that have ended, and the rows that they keep. Open ones stay, under their numbers.
+
+        Calls of a dropped session raise UnknownSession. Entries whose source is PARTNER have the source COPY then.
+        """
+        self._call("drop_sessions")
+
     def sync(
         self,
         partner: int,
@@ -374,7 +416,8 @@ class Replica(Rows):
     ) -> Synced:
         """Takes the versions of a partner's offer that this replica lacks. If the roots are equal it opens no session.
 
-        It compares the rows now, which are held as a moment and hashed while other threads put.
+        It compares the rows now, which are held as a moment and hashed while other threads put. At its end, also by an
+        exception, it drops the sessions that have ended, as `drop_sessions` does.
 
         `reach` sends at most `in_flight` asks to the partner, and returns the answers in their order: None for one
         that is missing. After more than `most_bad` bad or missing answers the sync ends unfinished. A leaf with a

@@ -2,11 +2,13 @@
 
 from __future__ import annotations
 
+from contextlib import suppress
 from typing import TYPE_CHECKING, List, Optional, Tuple
 
 from ._convert import fits, to_bytes
 from ._functions import read_offer
 from ._moment import at_moment
+from ._refused import class_of
 from ._values import State, Taken
 
 if TYPE_CHECKING:
@@ -16,12 +18,13 @@ if TYPE_CHECKING:
 class Session:
     """A session of a replica with a partner's offer. Its calls are calls of the replica.
 
-    As a context manager it cancels the session if it is still open.
+    As a context manager it cancels the session if it is still open. A session that has ended is kept until
+    `Replica.drop_sessions` or the end of a `Replica.sync`; its calls raise UnknownSession then.
     """
 
     #: Number that the partner gave its offer.
     offer_number: int
-    #: Number of the session, from 0.
+    #: Number of the session, which no other session of the replica gets.
     number: int
 
     def __init__(self, replica: Replica, partner: int, offer: bytes, rehash: bool = True) -> None:
@@ -53,7 +56,8 @@ class Session:
         return self
 
     def __exit__(self, *error: object) -> None:
-        self.cancel()
+        with suppress(class_of("UnknownSession")):
+            self.cancel()
 
     @property
     def state(self) -> State:

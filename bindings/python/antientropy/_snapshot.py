@@ -2,13 +2,14 @@
 
 from __future__ import annotations
 
-from typing import TYPE_CHECKING, BinaryIO, Union
+from typing import TYPE_CHECKING, BinaryIO
 
 from . import _checkpoint
 from ._convert import fits, to_bytes
 from ._handle import Handle
 from ._moment import at_moment
 from ._rows import Rows
+from ._values import About
 
 if TYPE_CHECKING:
     from ._replica import Replica
@@ -27,7 +28,7 @@ class Snapshot(Rows):
     format: int
     bits: int
     range: int
-    #: Number of the journal's entries at the moment of the snapshot.
+    #: Number of the replica's next entry at the moment of the snapshot: a log goes on there.
     entries: int
 
     def __init__(self, replica: Replica, rehash: bool = True) -> None:
@@ -37,7 +38,7 @@ class Snapshot(Rows):
         else:
             with replica._lock:
                 replica._call_held("snapshot", self._at)
-                self._describe_held(replica, replica.count().entries)
+                self._describe_held(replica.about())
 
     @classmethod
     def _of_moment_held(cls, replica: Replica) -> Snapshot:
@@ -54,11 +55,10 @@ class Snapshot(Rows):
             self._free_call(self._at)
             replica._call_held("moment", self._at)
             taken = front
-        self._describe_held(replica, front)
+        self._describe_held(replica.about()._replace(entries=front))
 
-    def _describe_held(self, rows: Union[Replica, Snapshot], entries: int) -> None:
-        self.format, self.bits, self.range = rows.format, rows.bits, rows.range
-        self.entries = entries
+    def _describe_held(self, about: About) -> None:
+        self.format, self.bits, self.range, self.entries = about
 
     def share(self) -> Snapshot:
         """Returns another snapshot of the same rows, with a lock of its own. It copies no row.
@@ -69,7 +69,7 @@ class Snapshot(Rows):
         Handle.__init__(shared, self._library)
         with self._lock:
             self._call_held("snapshot_share", shared._at)
-            shared._describe_held(self, self.entries)
+            shared._describe_held(About(self.format, self.bits, self.range, self.entries))
         return shared
 
     def root(self) -> bytes:

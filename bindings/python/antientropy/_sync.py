@@ -16,8 +16,8 @@ if TYPE_CHECKING:
 
 Reach = Callable[[List[bytes]], Sequence[Optional[bytes]]]
 
-#: Refusals of an answer after which the node is asked for again.
-_BAD_ANSWERS = ("BadMessage", "NotAsked", "WrongDigest")
+#: Refusals of a bad answer: the node is asked for again. UnknownSession means NotAsked, by a session that has ended.
+_BAD_ANSWERS = ("BadMessage", "NotAsked", "WrongDigest", "UnknownSession")
 
 
 def sync(replica: Replica, partner: int, offer: bytes, reach: Reach, in_flight: int, most_bad: int) -> Synced:
@@ -27,12 +27,14 @@ def sync(replica: Replica, partner: int, offer: bytes, reach: Reach, in_flight: 
     session = _open_unless_equal(replica, partner, offer)
     if session is None:
         return Synced(0, 0, 0, 0, [], State.FINISHED)
-    with session:
-        run = _Run(session, reach, most_bad)
+    run = _Run(session, reach, most_bad)
+    try:
         while asks := run.open_asks():
             for first in range(0, len(asks), in_flight):
                 run.exchange(asks[first : first + in_flight])
-    return Synced(run.accepted, run.known, run.asks, run.bad, run.crowded, session.state)
+    finally:
+        run.end()
+    return Synced(run.accepted, run.known, run.asks, run.bad, run.crowded, run.state)
 
 
 def _open_unless_equal(replica: Replica, partner: int, offer: bytes) -> Optional[Session]:
@@ -51,20 +53,29 @@ def _open_unless_equal(replica: Replica, partner: int, offer: bytes) -> Optional
 
 
 class _Run:
-    """The counts of a sync in progress."""
+    """A sync in progress: its counts, and the state of its session.
+
+    Each sync of a replica drops the sessions that have ended. So that of this one may be dropped as soon as it has
+    ended.
+    """
 
     def __init__(self, session: Session, reach: Reach, most_bad: int) -> None:
         self.session, self.reach, self.most_bad = session, reach, most_bad
+        self.state = State.OPEN
         self.accepted = self.known = self.asks = self.bad = 0
         self.crowded: List[bytes] = []
         self._bad_answers = tuple(class_of(name) for name in _BAD_ANSWERS)
         self._crowded_key = class_of("Crowded")
+        self._dropped = class_of("UnknownSession")
 
     def open_asks(self) -> List[bytes]:
         """Returns the asks for the nodes that may still be taken: none after too many bad answers."""
         if self.bad > self.most_bad:
             return []
-        return [ask for ask in self.session.asks() if ask not in self.crowded]
+        try:
+            return [ask for ask in self.session.asks() if ask not in self.crowded]
+        except self._dropped:
+            return []
 
     def exchange(self, asks: List[bytes]) -> None:
         """Sends some asks, and takes their answers."""
@@ -89,3 +100,16 @@ class _Run:
         else:
             self.accepted += taken.accepted
             self.known += taken.known
+            self.state = taken.state
+
+    def end(self) -> None:
+        """Cancels the session if it is open, reads its state, and drops it with the others that have ended."""
+        replica = self.session._replica
+        with replica._to_change():
+            try:
+                replica._call_held("cancel", self.session.number)
+                self.state = self.session.state
+            except self._dropped:
+                if self.state is State.OPEN:  # (no answer has ended it: a migration has cancelled it)
+                    self.state = State.CANCELLED
+            replica._call_held("drop_sessions")

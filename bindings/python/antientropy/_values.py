@@ -73,6 +73,18 @@ class Entry(NamedTuple):
         return Version(self.clock, self.value)
 
 
+class Packed(NamedTuple):
+    """Entries of a journal as their texts, one after the other (docs/FORMATS.md, "Row texts").
+
+    `first` is the number of the first one, `next` the number after the last one, and `format` that of the texts.
+    """
+
+    data: bytes
+    first: int
+    next: int
+    format: int
+
+
 class Hint(NamedTuple):
     """A version that is kept for its owner, a node that is down."""
 
@@ -95,7 +107,7 @@ Put = Union[Tuple[bytes, Optional[bytes]], Tuple[bytes, Optional[bytes], ClockLi
 class Receipt(NamedTuple):
     """The result of a put: the entry's number, and the node's counter in the new version's clock.
 
-    The new clock is `{**context, node: receipt.counter}`.
+    The new clock is `{**context, node: receipt.counter}`. After a renewal the number may be that of another version.
     """
 
     number: int
@@ -133,10 +145,22 @@ class Loaded(NamedTuple):
     known: int
 
 
-class Counts(NamedTuple):
-    """Counts of a replica. `first` is 0: it is reserved for journals that are trimmed.
+class About(NamedTuple):
+    """The range of a replica, with its format and the bits of the ring, and the number of its next entry."""
 
-    `front` is the number of entries at the last moment that was whole, or 0 if there was none.
+    format: int
+    bits: int
+    range: int
+    entries: int
+
+
+class Counts(NamedTuple):
+    """Counts of a replica.
+
+    `entries` is the number of the next entry, and `first` that of the journal's first one: 0 before the first renewal.
+    The journal is full if `entries - first` is `limit`. `sessions` are those that are kept: at 1,024 no other can be
+    opened until ended ones are dropped. `front` is `entries` at the last moment that was whole, or `first` if none was
+    since the renewal.
     """
 
     entries: int

@@ -14,7 +14,8 @@ SETUP = Path(__file__).resolve().parents[1] / "setup.cfg"
 TEXT = re.sub(r"/\*.*?\*/", "", HEADER.read_text(encoding="utf-8"), flags=re.S)
 SCALARS = {"uint8_t": c_uint8, "uint32_t": c_uint32, "uint64_t": c_uint64, "size_t": c_size_t, "bool": c_bool}
 STRUCTS = {"receipt": _values.Receipt, "spot": _values.Spot, "offer_parts": _values.OfferParts, "taken": _values.Taken,
-           "counts": _values.Counts, "hint_counts": _values.HintCounts, "slot_counts": _values.SlotCounts}
+           "counts": _values.Counts, "about": _values.About, "hint_counts": _values.HintCounts,
+           "slot_counts": _values.SlotCounts}
 
 
 def argument(text):
@@ -79,6 +80,7 @@ class HeaderTest(unittest.TestCase):
         self.assertEqual(_calls.CLOCK_MAX, numbers["CLOCK_MAX"])
         self.assertEqual(_calls.KEY_MAX, numbers["KEY_MAX"])
         self.assertEqual(_calls.ROOT_LEN, numbers["ROOT_LEN"])
+        self.assertEqual(_calls.ENTRY_MAX, numbers["ENTRY_MAX"])
         self.assertEqual(_checkpoint._LEAVES, {1: numbers["LEAVES_1"], 2: numbers["LEAVES_2"]})
         self.assertEqual(antientropy.version()[0], numbers["VERSION_MAJOR"])
 

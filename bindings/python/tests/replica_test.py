@@ -130,16 +130,6 @@ class ReplicaTest(ReplicaCase):
         self.assertEqual(list(self.replica.entries(2)), [])
         self.assertEqual([self.replica.top_counter(2, b"b", *most) for most in ((), (2,), (1,))], [3, 3, 0])
 
-    def test_entries_from_before_a_renewal(self):
-        for n in range(200):
-            self.replica.put(1, b"cart", b"milk", {1: n} if n else {})
-        with self.replica.renew() as renewed:
-            renewed.put(1, b"gift", b"wrapped")
-            with self.assertRaises(antientropy.NoVersion) as caught:
-                renewed.entries(200)
-            self.assertEqual(caught.exception.call, "entries")
-            self.assertEqual([entry.key for entry in renewed.entries(1)], [b"gift"])
-
     def test_two_clients(self):
         self.replica.put(1, b"cart", b"milk")
         self.replica.accept(b"cart", {2: 1}, b"eggs")
@@ -148,6 +138,17 @@ class ReplicaTest(ReplicaCase):
         self.assertEqual(self.replica.top_counter(1, b"cart"), 2)
         self.replica.put_unread(1, b"cart", b"tea", {1: 1, 2: 1})
         self.assertEqual(self.replica.get(b"cart"), [Version({1: 2, 2: 1}, b"tea")])
+
+    def test_about(self):
+        with Replica(1, 4, 9) as replica:
+            self.assertEqual(replica.about(), (1, 4, 9, 0))
+            replica.migrate()
+            replica.put(1, b"abc", b"x")
+            self.assertEqual(replica.about(), (2, 4, 9, 1))
+            self.assertEqual((replica.format, replica.bits, replica.range), (2, 4, 9))
+            with replica.renew() as renewed, Replica.seeded(1, 2, 1, 4, 9) as seeded:
+                self.assertEqual(renewed.about(), (2, 4, 9, 1))
+                self.assertEqual(seeded.about(), (1, 4, 9, 0))
 
     def test_counts_and_rehash(self):
         self.replica.rehash()
@@ -175,7 +176,7 @@ class ReplicaTest(ReplicaCase):
         self.replica.put(1, b"a", b"x")
         self.replica.put(1, b"a", b"y", {1: 1})
         with self.replica.renew(5) as renewed:
-            self.assertEqual(renewed.count()[:2], (1, 5))
+            self.assertEqual((renewed.count().limit, renewed.count().first, renewed.count().entries), (5, 1, 2))
             self.assertEqual(renewed.root(), self.replica.root())
             self.assertEqual((renewed.format, renewed.bits, renewed.range), (2, 0, 0))
 
@@ -311,7 +312,16 @@ class RefusalTest(ReplicaCase):
         self.refused("NoVersion", self.replica.value, b"k", 1)
         self.refused("NoVersion", self.replica.clock, b"k", 1)
         self.refused("NoVersion", self.replica.entry, 1)
-        self.refused("NoVersion", self.replica.entries, 2)
+
+    def test_bad_position(self):
+        """The number is over the count, also if no entry can have it."""
+        for start in (2, (1 << 64) - 1):
+            self.refused("BadPosition", self.replica.entries, start)
+            error = self.refused("BadPosition", self.replica.packed_entries, start)
+            self.assertEqual((error.number, error.call), (37, "entries"))
+        for start in (-1, 1 << 64):
+            with self.assertRaises(OverflowError):
+                self.replica.entries(start)
 
     def test_empty(self):
         self.replica.close()
@@ -323,6 +333,8 @@ class RefusalTest(ReplicaCase):
             (self.replica.drop_moment,), (self.replica.hash_moment, 1), (self.replica.moment,),
             (self.replica.count,), (self.replica.migrate,), (self.replica.renew,),
             (list, self.replica.keys()), (self.replica.entries,), (self.replica.top_counter, 1, b"k"),
+            (self.replica.entries, 0), (self.replica.packed_entries,), (self.replica.about,),
+            (self.replica.drop_sessions,), (lambda: self.replica.format,),
             (self.replica.put_unread, 1, b"k", b""), (self.replica.load_format, 2, b""),
         ):
             with self.subTest(call), self.assertRaises(antientropy.Empty):

@@ -79,6 +79,33 @@ class SessionTest(ReplicaCase):
             pass
         self.assertIs(session.state, State.CANCELLED)
 
+    def test_dropped_sessions(self):
+        ended, still_open = self.b.open(1, self.offer), self.b.open(1, self.offer)
+        while ended.outstanding:
+            for answer in self.answers(ended):
+                ended.take(answer)
+        with self.b.open(1, self.offer) as cancelled:
+            pass
+        self.assertEqual(self.b.count()[3:5], (3, 1))
+        self.b.drop_sessions()
+        self.assertEqual(self.b.count()[3:5], (1, 1))
+        for session in (ended, cancelled):
+            for call in (session.asks, session.ask, session.cancel, lambda: session.state, lambda: session.outstanding):
+                self.assert_refused("UnknownSession", self.b, call)
+        self.assertEqual({entry.source for entry in self.b.entries()}, {Source.COPY})
+        self.assertEqual((still_open.number, still_open.state), (1, State.OPEN))
+        for answer in self.answers(still_open):
+            still_open.take(answer)
+        with self.b.renew() as renewed:
+            self.assertEqual((renewed.count().sessions, renewed.open(1, self.offer).number), (0, 3))
+
+    def test_a_session_that_is_dropped_while_it_is_used(self):
+        with self.b.open(1, self.offer) as session:
+            session.cancel()
+            self.b.drop_sessions()
+        with self.assertRaises(antientropy.UnknownSession):
+            session.cancel()
+
     def test_gone_and_bad_message(self):
         session = self.b.open(1, self.offer)
         ask = session.ask()
@@ -137,6 +164,21 @@ class SessionTest(ReplicaCase):
                 call(*args)
 
 
+class Dropping:
+    """A library that drops the sessions that have ended after each answer."""
+
+    def __init__(self, library):
+        self._library = library
+
+    def __getattr__(self, name):
+        return getattr(self._library, name)
+
+    def take(self, at, *args):
+        number = self._library.take(at, *args)
+        self._library.drop_sessions(at)
+        return number
+
+
 class SyncTest(unittest.TestCase):
     def setUp(self):
         self.a, self.b = Replica(limit=10_000), Replica(limit=10_000)
@@ -168,7 +210,7 @@ class SyncTest(unittest.TestCase):
         self.sync()
         self.rounds.clear()
         self.assertEqual(self.sync(), (0, 0, 0, 0, [], State.FINISHED))
-        self.assertEqual((self.rounds, self.b.count().sessions), ([], 1))
+        self.assertEqual((self.rounds, self.b.count().sessions), ([], 0))
 
     def test_equal_roots_of_empty_ranges(self):
         with Replica(2, 1, 0) as empty, Replica(1, 1, 0) as first, Replica(2, 1, 1) as other, Replica(2, 1, 0) as same:
@@ -203,7 +245,7 @@ class SyncTest(unittest.TestCase):
 
         with self.assertRaises(ConnectionError):
             self.sync(fail)
-        self.assertEqual(self.b.count()[3:5], (1, 0))
+        self.assertEqual(self.b.count()[3:5], (0, 0))
 
     def test_crowded_leaf_is_left(self):
         crowd(self.a, b"key", first=1)
@@ -217,13 +259,53 @@ class SyncTest(unittest.TestCase):
         with Replica(limit=10) as small, self.a.snapshot() as snapshot:
             with self.assertRaises(antientropy.JournalFull):
                 small.sync(1, snapshot.offer(1), reach(snapshot))
-            self.assertEqual(small.count().open_sessions, 0)
+            self.assertEqual(small.count()[3:5], (0, 0))
 
     def test_no_asks_in_flight(self):
         for in_flight in (0, -1):
             with self.assertRaises(ValueError):
                 self.sync(in_flight=in_flight)
         self.assertEqual(self.b.count().sessions, 0)
+
+    def test_many_syncs(self):
+        """No session is left, and no renewal is needed."""
+        for n in range(40):
+            self.a.put(1, b"one more %d" % n, b"value")
+            self.assertEqual(self.sync().accepted, 301 if n == 0 else 1)
+            self.assertEqual(self.b.count()[3:5], (0, 0))
+        self.assertEqual({entry.source for entry in self.b.entries()}, {Source.COPY})
+        self.assertEqual(self.b.open(1, self.a.snapshot().offer(1)).number, 40)
+
+    def test_a_session_that_a_sync_leaves_open(self):
+        """One that another call has opened stays, under its number."""
+        with self.a.snapshot() as snapshot:
+            session = self.b.open(1, snapshot.offer(2))
+            self.assertTrue(self.sync().finished)
+            self.assertEqual((session.number, session.state, session.outstanding), (0, State.OPEN, 1))
+            self.assertEqual(self.b.count()[3:5], (1, 1))
+            session.take(snapshot.serve(2, session.ask()))
+
+    def test_a_session_that_another_sync_drops(self):
+        """It has ended, and the sync hasn't read its state yet."""
+        self.b._library = Dropping(self.b._library)
+        synced = self.sync(in_flight=7)
+        self.assertEqual((synced.accepted, synced.bad, synced.state), (300, 0, State.FINISHED))
+
+    def test_a_migration_meanwhile(self):
+        """It cancels the session, which another sync may drop then."""
+        for drop in (Replica.count, Replica.drop_sessions):
+            with Replica(format=1) as first, Replica(format=1) as other:
+                first.put(1, b"a", b"x")
+
+                def migrate(asks):
+                    other.migrate()
+                    drop(other)
+                    return reach(snapshot)(asks)
+
+                with first.snapshot() as snapshot:
+                    synced = other.sync(1, snapshot.offer(1), migrate)
+                self.assertEqual((synced.bad, synced.state), (1, State.CANCELLED))
+                self.assertEqual(other.count()[3:5], (0, 0))
 
     def test_both_ways(self):
         self.b.put(2, b"other", b"")

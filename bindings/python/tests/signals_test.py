@@ -46,6 +46,7 @@ def use(replica, hints):
     results += [sync(replica, partner), replica.get(b"cart"), replica.get(b"crowded"), replica.row(b"large")]
     results += [list(replica.keys()), list(replica.entries()), replica.value(b"cart", 1), replica.clock(b"cart", 0)]
     results += [replica.count().entries, replica.top_counter(1, b"cart"), replica.load_rows(replica.row(b"tea"))]
+    results += [replica.packed_entries(room=100), replica.about(), replica.drop_sessions()]
     with replica.snapshot() as snapshot, snapshot.share() as shared:
         results += [snapshot.entries, snapshot.root(), snapshot.offer(1), snapshot.rows(0), replica.renew().count()]
         results += [shared.entries, list(shared.keys()), shared.row(b"cart"), shared.digest(1, 0)]
@@ -109,6 +110,7 @@ class SignalsTest(unittest.TestCase):
             lambda: replica.load_rows(b""),
             lambda: replica.sync(1, offer, list),
             replica.hold,
+            replica.drop_sessions,
             replica.migrate,
             replica.close,
         ]
