@@ -37,7 +37,8 @@ class LineServer:
 
     So is an answer a line of JSON. Bytes are in hexadecimal, clocks are lists of pairs. A call that isn't made is
     answered by its cause, {"refused": "StaleContext"} say, or "BadLine" if the line isn't a request. Within a sync the
-    server writes a list of asks, and reads the list of the partner's answers: null for a missing one.
+    server writes a list of asks, and reads the list of the partner's answers: null for a missing one. Entries from null
+    on are the whole journal.
     """
 
     def __init__(self, store: SqliteStore, lines: Iterator[str], output: TextIO) -> None:
@@ -51,7 +52,7 @@ class LineServer:
             "offer": Call(self._offer, ()),
             "serve": Call(self._serve, (_read_asks,)),
             "sync": Call(self._sync, (_read_number, _read_bytes)),
-            "entries": Call(self._entries, (_read_number,)),
+            "entries": Call(self._entries, (_read_start,)),
             "renew": Call(store.renew, ()),
         }
 
@@ -90,7 +91,7 @@ class LineServer:
     def _get(self, key: bytes) -> List[Any]:
         return [_to_json(version) for version in self._store.get(key)]
 
-    def _entries(self, start: int) -> List[Any]:
+    def _entries(self, start: Optional[int]) -> List[Any]:
         return [[entry.number, entry.key.hex(), *_to_json(entry.version)] for entry in self._store.entries(start)]
 
     def _offer(self) -> str:
@@ -150,6 +151,10 @@ def _read_number(said: Any) -> int:
     if type(said) is not int or said < 0 or said >> 64:
         raise ValueError("this isn't a number of 64 bits")
     return said
+
+
+def _read_start(said: Any) -> Optional[int]:
+    return None if said is None else _read_number(said)
 
 
 def _read_clock(said: Any) -> Pairs:

@@ -30,9 +30,6 @@ Reach = Callable[[List[bytes]], Sequence[Optional[bytes]]]
 
 _LIMIT = 1_000_000
 
-#: A replica is renewed at so many sessions: at 1,024 it could open no more.
-_MOST_SESSIONS = 900
-
 
 class SqliteStore:
     """A replica of a node, with its journal in a file.
@@ -51,8 +48,10 @@ class SqliteStore:
         self._limit = limit
         #: Greatest counter of the node for each key.
         self._counters: Dict[bytes, int] = {}
-        #: Entries after the last renewal.
-        self._held = 0
+        #: Number of the next entry at the last renewal.
+        self._renewed = 0
+        #: Place of an entry in the file less its number in the journal.
+        self._offset = self._file.first
         try:
             self._replica = Replica(*self._file.ring, max(limit, self._file.rows))
             self._load()
@@ -113,8 +112,11 @@ class SqliteStore:
         """Returns all versions held for a key."""
         return self._read(lambda replica: replica.get(key))
 
-    def entries(self, start: int = 0) -> List[Entry]:
-        """Returns the entries from a number on: copies for other nodes, or hints. A renewal numbers them anew."""
+    def entries(self, start: Optional[int] = None) -> List[Entry]:
+        """Returns the entries from a number on, or all: copies for other nodes, or hints.
+
+        Their numbers go on over renewals, and begin at 0 at each start. Raises BadPosition as `Replica.entries` does.
+        """
         return self._read(lambda replica: list(replica.entries(start)))
 
     def snapshot(self) -> Snapshot:
@@ -125,7 +127,7 @@ class SqliteStore:
         return snapshot
 
     def renew(self) -> None:
-        """Drops the entries that others have replaced, from memory and from the file. Numbers begin again at 0."""
+        """Drops the entries that others have replaced, from memory and from the file. Numbers go on."""
         with self._turn:
             self._wait_for_writer()
             self._file.check_doubt()
@@ -172,7 +174,7 @@ class SqliteStore:
 
     def _save(self) -> None:
         """Returns when the file has all entries of now. One of the threads that wait writes those of all."""
-        end = self._file.first + self._replica.count().entries
+        end = self._offset + self._replica.count().entries
         while self._file.end < end:
             if self._is_writing:
                 self._turn.wait()
@@ -185,7 +187,7 @@ class SqliteStore:
         self._is_writing = True
         self._turn.release()
         try:
-            entries = list(replica.entries(self._file.end - self._file.first))
+            entries = list(replica.entries(self._file.end - self._offset))
             self._file.write(self._file.first, entries, self._find_lost(entries))
         finally:
             self._turn.acquire()
@@ -234,7 +236,7 @@ class SqliteStore:
         synced = None
         try:
             synced = replica.sync(partner, offer, reach)
-        except (antientropy.Empty, antientropy.JournalFull, antientropy.SessionsFull):
+        except (antientropy.Empty, antientropy.JournalFull):
             with self._turn:
                 if replica is self._replica and not self._is_renewal_due():
                     raise
@@ -247,11 +249,10 @@ class SqliteStore:
     # ---- renewals, and the start
 
     def _is_renewal_due(self) -> bool:
-        """True near a limit, unless little is gained: a replica that is full of held versions isn't renewed again."""
+        """True near the limit, unless little is gained: a replica that is full of held versions isn't renewed again."""
         count = self._replica.count()
-        grown = count.entries - self._held
-        is_near = 10 * count.entries >= 9 * self._limit and 20 * grown >= self._limit
-        return is_near or count.sessions >= _MOST_SESSIONS
+        kept, grown = count.entries - count.first, count.entries - self._renewed
+        return 10 * kept >= 9 * self._limit and 20 * grown >= self._limit
 
     def _renew(self) -> None:
         """Goes on with a new replica. No other thread writes meanwhile.
@@ -260,10 +261,11 @@ class SqliteStore:
         """
         old = self._replica
         renewed = old.renew(self._limit)
-        first = self._file.first + old.count().entries
-        lost = self._find_lost(old.entries(self._file.end - self._file.first))
+        count = renewed.count()
+        first = self._offset + old.count().entries
+        lost = self._find_lost(old.entries(self._file.end - self._offset))
         self._file.write(first, renewed.entries(), lost)
-        self._replica, self._held = renewed, renewed.count().entries
+        self._replica, self._renewed, self._offset = renewed, count.entries, first - count.first
         old.close()
         self._turn.notify_all()
 
@@ -280,7 +282,8 @@ class SqliteStore:
     def _fit(self) -> None:
         """Renews a replica that has more entries than the limit."""
         with self._replica.renew(self._file.rows) as renewed:
-            held = renewed.count().entries
+            count = renewed.count()
+        held = count.entries - count.first
         if held > self._limit:
             raise ValueError(f"{held} versions are held, but the limit is {self._limit}")
         self.renew()

@@ -82,7 +82,7 @@ REFUSED = [
     ('["put", "61", "62", [[0, 1]]]', "BadClock"),
     ('["put", "61", "62", [[1, 1], [1, 2]]]', "BadClock"),
     ('["accept", "61", [[70000, 1]], "62"]', "BadClock"),
-    ('["entries", 9]', "NoVersion"),
+    ('["entries", 9]', "BadPosition"),
     ('["serve", ["61"]]', "NoOffer"),
     ('["sync", 2, "61"]', "BadMessage"),
     ('["sync", 70000, "OFFER"]', "BadClock"),

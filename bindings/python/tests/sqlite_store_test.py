@@ -80,7 +80,7 @@ class Node:
 
     def journal(self):
         """The entries of the store."""
-        said = self.process.ask("entries", 0)
+        said = self.process.ask("entries", None)
         entries = [(number, bytes.fromhex(key), *to_version(version)) for number, key, *version in said]
         for _, key, *version in entries:
             self.ledger.note(key, Version(*version))
@@ -261,8 +261,24 @@ class StoreTest(StoreCase):
         store.put(b"b", b"x")
         store.renew()
         self.assertEqual(sorted(row[1:] for row in rows_of(self.path)), [(b"a", {1: 10}, b"9"), (b"b", {1: 1}, b"x")])
-        self.assertEqual(store.put(b"a", b"y", {1: 10}), (2, 11))
+        self.assertEqual(store.put(b"a", b"y", {1: 10}), (11, 11))
         self.assertEqual(rows_of(self.path)[2], (2, b"a", {1: 11}, b"y"))
+
+    def test_entries_over_renewals(self):
+        """A position goes on. That of a reader who has missed entries is refused."""
+        store, read = self.open(), []
+        for n in range(10):
+            store.put(b"a", b"%d" % n, {1: n} if n else {})
+            store.put(b"%d" % n, b"x")
+            read += store.entries(len(read))
+            if n % 4 == 3:
+                store.renew()
+        self.assertEqual([entry.number for entry in read], list(range(20)))
+        self.assertEqual(store.entries(20), [])
+        for start in (15, 21):
+            with self.assertRaises(antientropy.BadPosition):
+                store.entries(start)
+        self.assertEqual(len(store.entries()), len(rows_of(self.path)))
 
     def test_a_full_journal_is_renewed(self):
         store = self.open(limit=3)

@@ -256,12 +256,17 @@ class ThreadsTest(StoreCase):
             store.put(b"a", b"", {1: n} if n else {})
         self.assertIn(disk.count("DELETE FROM entry"), range(5, 15))
 
-    def test_sessions_are_renewed(self):
-        store = self.open()
-        for _ in range(900):
-            store._replica.open(2, self.offered.offer(1)).cancel()
-        store.put(b"a", b"x")
-        self.assertEqual(store._replica.count().sessions, 0)
+    def test_syncs_need_no_renewal(self):
+        store = self.open(limit=1000)
+        disk = Disk(store)
+        disk.go.set()
+        for n in range(40):
+            self.partner.put(2, b"one more %d" % n, b"")
+            with self.partner.snapshot() as offered:
+                self.assertTrue(store.sync(2, offered.offer(1), reach(offered)).finished)
+            self.assertEqual(store._replica.count().sessions, 0)
+        self.assertEqual(disk.count("DELETE FROM entry"), 0)
+        self.assert_has_all(store)
 
 
 if __name__ == "__main__":
