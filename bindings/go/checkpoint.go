@@ -23,8 +23,8 @@ type checkpointHead struct {
 	Root   Root
 }
 
-// Save writes a checkpoint of the rows now (docs/FORMATS.md). It returns the number of entries that the checkpoint
-// covers: a log goes on at the entry of that number. The caller brings the file to its disk.
+// Save writes a checkpoint of the rows now (docs/FORMATS.md). It returns the number of the first entry that isn't in
+// the checkpoint: a log goes on there. The caller brings the file to its disk.
 func (r *Replica) Save(file io.Writer) (entries uint64, err error) {
 	snapshot, err := r.Snapshot()
 	if err != nil {

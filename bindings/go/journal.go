@@ -21,13 +21,13 @@ func (s Source) String() string {
 
 // An Entry is an entry of a journal: an accepted version, with its key and its source.
 type Entry struct {
-	Number  uint64 // number of the entry, from 0
+	Number  uint64 // number of the entry; the numbers go on over renewals
 	Key     []byte // key of the version
 	Version Version
 	Source  Source // source of the version
 }
 
-// Entry returns an entry of the journal, by its number from 0.
+// Entry returns an entry of the journal, by its number.
 func (r *Replica) Entry(number uint64) (entry Entry, found bool, err error) {
 	held := r.at.locked()
 	defer held.lock.Unlock()
@@ -42,28 +42,27 @@ func (r *Replica) Entry(number uint64) (entry Entry, found bool, err error) {
 	return entry, true, nil
 }
 
-// Entries returns a scanner of the journal's entries, from a number on. Entries are never changed.
+// Entries returns a scanner of the journal's entries, from a number on. The whole journal begins at First of the counts.
+// A log reads on from the number of its next entry, and lacks none after a renewal if it had all before.
 //
-// Its error is [ErrNoVersion] if the number is over that of entries: then it is one of a journal before a renewal. That
-// finds only some old numbers, since a renewal numbers the entries anew: begin at its count of entries.
+// Its error is [ErrBadPosition] if entries were missed, or if the number isn't one of this journal: it is over the
+// count of entries, or below that at the last renewal and not First of the counts. Read the whole journal then.
 func (r *Replica) Entries(start uint64) *Scanner[Entry] {
-	number := start
+	packed, texts := Packed{Next: start}, new(unpacker)
 	return scan(func() (Entry, bool, error) {
-		entry, found, err := r.Entry(number)
-		if found || err != nil {
-			number++
-			return entry, found, err
+		if len(texts.rest) == 0 {
+			var err error
+			if packed, err = r.pack(packed.Next, packed.Bytes[:cap(packed.Bytes)]); err != nil {
+				return Entry{}, false, err
+			}
+			texts = packed.unpacker()
 		}
-		counts, err := r.Count()
-		if err == nil && number > counts.Entries {
-			err = ErrNoVersion
-		}
-		return Entry{}, false, err
+		return texts.next()
 	})
 }
 
-// TopCounter returns the greatest counter of a node in the clocks of a key's versions, or 0. It is that of the first
-// `entries` entries of the journal (all, if there are fewer). Refused as [ErrBadClock] if the node is 0.
+// TopCounter returns the greatest counter of a node in the clocks of a key's versions, or 0. It is that of the
+// journal's entries of numbers below `entries` (all, if there are fewer). Refused as [ErrBadClock] if the node is 0.
 func (r *Replica) TopCounter(node uint16, key []byte, entries uint64) (uint64, error) {
 	var counter C.uint64_t
 	held := r.at.locked()

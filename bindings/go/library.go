@@ -28,7 +28,7 @@ const (
 	NodeMax         = C.ANTIENTROPY_NODE_MAX          // the greatest node number
 	BitsMax         = C.ANTIENTROPY_BITS_MAX          // bits of a range's number
 	EntriesMax      = C.ANTIENTROPY_ENTRIES_MAX       // entries of a journal
-	SessionsMax     = C.ANTIENTROPY_SESSIONS_MAX      // sessions of a replica, ever
+	SessionsMax     = C.ANTIENTROPY_SESSIONS_MAX      // sessions that a replica keeps
 	OpenSessionsMax = C.ANTIENTROPY_OPEN_SESSIONS_MAX // open sessions of a replica
 	Leaves1         = C.ANTIENTROPY_LEAVES_1          // leaves of a tree of format 1
 	Leaves2         = C.ANTIENTROPY_LEAVES_2          // leaves of a tree of format 2
@@ -38,6 +38,7 @@ const (
 	OfferLen        = C.ANTIENTROPY_OFFER_LEN
 	AskLen          = C.ANTIENTROPY_ASK_LEN
 	RowMax          = C.ANTIENTROPY_ROW_MAX   // the text of a row
+	EntryMax        = C.ANTIENTROPY_ENTRY_MAX // the text of an entry
 	HintsMax        = C.ANTIENTROPY_HINTS_MAX // pending hints of a carrier
 	SlotsMax        = C.ANTIENTROPY_SLOTS_MAX // the greatest ceiling of slots
 )

@@ -30,7 +30,7 @@ func TestAMoment(t *testing.T) {
 	}
 	equal(t, must(r.Count()).Front, uint64(20))
 	moment := must(r.Moment())
-	equal(t, []any{moment.Entries(), moment.Config()}, []any{uint64(20), r.Config()})
+	equal(t, []any{moment.Entries(), moment.Config()}, []any{uint64(20), antientropy.Config{Format: 2, Limit: 20_000}})
 	equal(t, must(moment.Root()), must(copyOf(r, 20).Root()))
 	session := must(r.OpenAtMoment(2, offer))
 	want := []any{uint32(7), uint64(0), uint64(1)}

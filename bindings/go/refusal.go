@@ -27,7 +27,7 @@ const (
 	ErrWrongDigest    Refusal = C.ANTIENTROPY_WRONG_DIGEST    // the text's digest isn't the expected one
 	ErrNotCanonical   Refusal = C.ANTIENTROPY_NOT_CANONICAL   // the text isn't a node's: the session has failed
 	ErrOtherFormat    Refusal = C.ANTIENTROPY_OTHER_FORMAT    // the offer is of another format
-	ErrSessionsFull   Refusal = C.ANTIENTROPY_SESSIONS_FULL   // 64 sessions are open, or there are 1,024
+	ErrSessionsFull   Refusal = C.ANTIENTROPY_SESSIONS_FULL   // 64 sessions are open, or 1,024 are kept: drop ended ones
 	ErrNoSlot         Refusal = C.ANTIENTROPY_NO_SLOT         // no slot is free, or none is lent
 	ErrClockBack      Refusal = C.ANTIENTROPY_CLOCK_BACK      // the moment is before the greatest accepted one
 	ErrUnknownHint    Refusal = C.ANTIENTROPY_UNKNOWN_HINT    // no pending hint has this number
@@ -41,6 +41,7 @@ const (
 	ErrEmpty          Refusal = C.ANTIENTROPY_EMPTY           // the handle holds nothing: it was closed
 	ErrHeld           Refusal = C.ANTIENTROPY_HELD            // the handle holds one: no method returns it
 	ErrNoVersion      Refusal = C.ANTIENTROPY_NO_VERSION      // nothing is found: methods return false instead
+	ErrBadPosition    Refusal = C.ANTIENTROPY_BAD_POSITION    // no entry is to be read from this number on
 )
 
 // Name returns the library's name of the cause, such as "StaleContext": no letters if the library has none.

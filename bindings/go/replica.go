@@ -26,30 +26,37 @@ type Replica struct {
 type replica struct {
 	lock   sync.Mutex
 	handle C.struct_antientropy_replica
-	config Config
 	room   room
 }
 
 // Counts are the counts of a replica.
 type Counts struct {
-	Entries      uint64 // entries of the journal
-	Limit        uint64 // maximum number of entries
+	Entries      uint64 // entries, with those before renewals: the number of the next entry
+	Limit        uint64 // maximum of Entries less First: there the journal is full
 	Dirty        uint64 // nodes of the tree that have no digest
-	Sessions     uint64 // sessions, ever: at 1,024 no other can be opened
+	Sessions     uint64 // sessions that are kept: at 1,024 no other can be opened until ended ones are dropped
 	OpenSessions uint64 // open sessions: at 64 no other can be opened until one has ended
-	First        uint64 // 0; reserved for journals that are trimmed
-	Front        uint64 // entries of the journal at the last moment that was whole: 0 if there was none
+	First        uint64 // number of the journal's first entry: 0 before the first renewal
+	Front        uint64 // Entries at the last moment that was whole; First if there was none since a renewal
+}
+
+// About has what a checkpoint or a log has to name: the range of a replica, and the position of its journal.
+type About struct {
+	Format  uint8  // format of the tree: 1 or 2
+	Bits    uint8  // bits of the ring
+	Range   uint16 // number of the range
+	Entries uint64 // number of the next entry, as in the counts
 }
 
 // A Receipt is the result of a put.
 type Receipt struct {
-	Number  uint64 // number of the entry in the journal: Replica.Entry returns the version for copies
+	Number  uint64 // number of the entry, for [Replica.Entry]; after a renewal it may be that of another version
 	Counter uint64 // the node's counter in the new version's clock; the other counters are those of the context
 }
 
 // NewReplica makes an empty replica. Refused as [ErrBadRing] if a number is outside its limits.
 func NewReplica(config Config) (*Replica, error) {
-	made := &replica{config: config}
+	made := new(replica)
 	bits, number, limit := C.uint64_t(config.Bits), C.uint64_t(config.Range), C.uint64_t(config.Limit)
 	if err := check(C.antientropy_new(&made.handle, C.uint64_t(config.Format), bits, number, limit)); err != nil {
 		return nil, err
@@ -61,7 +68,7 @@ func NewReplica(config Config) (*Replica, error) {
 // for clients to choose keys with equal hashes, which are slow to find. Refused as [ErrBadRing] if a number is outside
 // its limits.
 func NewSeededReplica(config Config, first, second uint64) (*Replica, error) {
-	made := &replica{config: config}
+	made := new(replica)
 	format, bits, number := C.uint64_t(config.Format), C.uint64_t(config.Bits), C.uint64_t(config.Range)
 	limit, low, high := C.uint64_t(config.Limit), C.uint64_t(first), C.uint64_t(second)
 	if err := check(C.antientropy_new_seeded(&made.handle, format, bits, number, limit, low, high)); err != nil {
@@ -103,13 +110,15 @@ func (r *replica) close() {
 
 // Renew returns a new replica with the versions that are held: one entry for each, and no sessions.
 //
-// This one is left unchanged: close it, and go on with the new one under the same node number. Refused as [ErrBadRing]
-// (the limit) or [ErrJournalFull] (more versions are held than the limit).
+// This one is left unchanged: close it, and go on with the new one under the same node number. The numbers of entries
+// go on: both count as many, and the next entry gets a number that was never used. The new journal begins at First of
+// the counts.
+//
+// Refused as [ErrBadRing] (the limit) or [ErrJournalFull] (more versions are held than the limit).
 func (r *Replica) Renew(limit uint64) (*Replica, error) {
 	held := r.at.locked()
 	defer held.lock.Unlock()
-	renewed := &replica{config: held.config}
-	renewed.config.Limit = limit
+	renewed := new(replica)
 	if err := check(C.antientropy_renew(&held.handle, &renewed.handle, C.uint64_t(limit))); err != nil {
 		return nil, err
 	}
@@ -126,18 +135,44 @@ func (r *replica) memory() *C.antientropy_go_handle {
 func (r *Replica) Migrate() error {
 	held := r.at.locked()
 	defer held.lock.Unlock()
-	if err := check(C.antientropy_migrate(&held.handle)); err != nil {
-		return err
-	}
-	held.config.Format = 2
-	return nil
+	return check(C.antientropy_migrate(&held.handle))
 }
 
-// Config returns the numbers of the replica. Its format is 2 after [Replica.Migrate].
+// Config returns the numbers of the replica: zeros after [Replica.Close]. Its format is 2 after [Replica.Migrate].
 func (r *Replica) Config() Config {
 	held := r.at.locked()
 	defer held.lock.Unlock()
-	return held.config
+	config, _, _ := held.describe()
+	return config
+}
+
+// About returns the range of the replica, and the number of its next entry.
+func (r *Replica) About() (About, error) {
+	held := r.at.locked()
+	defer held.lock.Unlock()
+	return held.about()
+}
+
+// about returns the range of the replica. The caller holds the lock.
+func (r *replica) about() (About, error) {
+	var about C.struct_antientropy_about
+	err := check(C.antientropy_about(&r.handle, &about))
+	return About{
+		Format:  uint8(about.format),
+		Bits:    uint8(about.bits),
+		Range:   uint16(about._range),
+		Entries: uint64(about.entries),
+	}, err
+}
+
+// describe returns the numbers and the counts of the replica. The caller holds the lock.
+func (r *replica) describe() (Config, Counts, error) {
+	about, err := r.about()
+	if err != nil {
+		return Config{}, Counts{}, err
+	}
+	counts, err := r.count()
+	return Config{Format: about.Format, Bits: about.Bits, Range: about.Range, Limit: counts.Limit}, counts, err
 }
 
 // Count returns the counts of entries, dirty nodes and sessions, and of the entries at the last whole moment.

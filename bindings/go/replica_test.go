@@ -131,24 +131,6 @@ func TestKeysAndEntries(t *testing.T) {
 	equal(t, last, []antientropy.Entry{want})
 }
 
-// A number of a journal before a renewal is refused if the new one has fewer entries.
-func TestEntriesFromBeforeARenewal(t *testing.T) {
-	r := newReplica()
-	for n := uint64(1); n <= 200; n++ {
-		context := clock(1, n-1)
-		if n == 1 {
-			context = nil
-		}
-		must(r.Put(1, []byte("cart"), []byte("milk"), context))
-	}
-	equal(t, len(must(r.Entries(200).All())), 0)
-	renewed := must(r.Renew(1000))
-	put(renewed, "gift", "wrapped")
-	_, err := renewed.Entries(200).All()
-	refused(t, err, antientropy.ErrNoVersion)
-	equal(t, string(must(renewed.Entries(1).All())[0].Key), "gift")
-}
-
 // Of two clients that read the same versions, the second to put is refused, or replaces what the first has put.
 func TestTwoClients(t *testing.T) {
 	r, key, both := newReplica(), []byte("cart"), clock(1, 1, 2, 1)
@@ -193,11 +175,26 @@ func TestCountsAndRenewal(t *testing.T) {
 	check(r.Rehash())
 	equal(t, must(r.Count()), antientropy.Counts{Entries: 2, Limit: 10})
 	renewed := must(r.Renew(5))
-	equal(t, must(renewed.Count()), antientropy.Counts{Entries: 1, Limit: 5})
+	equal(t, must(renewed.Count()), antientropy.Counts{Entries: 2, Limit: 5, First: 1, Front: 1})
 	equal(t, renewed.Config(), antientropy.Config{Format: 2, Limit: 5})
 	equal(t, must(renewed.Get([]byte("cart"))), must(r.Get([]byte("cart"))))
 	_, err := r.Renew(0)
 	refused(t, err, antientropy.ErrBadRing)
+}
+
+func TestAbout(t *testing.T) {
+	config := antientropy.Config{Format: 1, Bits: 4, Range: 9, Limit: 10}
+	r := must(antientropy.NewReplica(config))
+	equal(t, must(r.About()), antientropy.About{Format: 1, Bits: 4, Range: 9})
+	put(r, "abc", "x")
+	check(r.Migrate())
+	about := antientropy.About{Format: 2, Bits: 4, Range: 9, Entries: 1}
+	equal(t, []any{must(r.About()), must(must(r.Renew(10)).About())}, []any{about, about})
+	seeded := must(antientropy.NewSeededReplica(config, 1, 2))
+	equal(t, must(seeded.About()), antientropy.About{Format: 1, Bits: 4, Range: 9})
+	equal(t, r.Config(), antientropy.Config{Format: 2, Bits: 4, Range: 9, Limit: 10})
+	check(r.Close())
+	equal(t, r.Config(), antientropy.Config{})
 }
 
 func TestMigration(t *testing.T) {

@@ -56,3 +56,34 @@ func TestResultsAroundTheLengthOfARoom(t *testing.T) {
 		}
 	}
 }
+
+// A room for packed entries takes as many whole ones as fit. If the first one doesn't fit, another room is made.
+func TestRoomsOfPackedEntries(t *testing.T) {
+	r, err := NewReplica(Config{Format: 2, Limit: 3})
+	if err != nil {
+		t.Fatal(err)
+	}
+	for _, key := range []string{"a", "b", "c"} {
+		if _, err := r.Put(1, []byte(key), []byte("value"), nil); err != nil {
+			t.Fatal(err)
+		}
+	}
+	const entryLen = 27
+	for length := 1; length <= 3*entryLen+8; length++ {
+		memory := bytes.Repeat([]byte{0xa5}, length+guardLen)
+		packed, err := r.pack(0, memory[:length:length])
+		want := length / entryLen
+		if want == 0 {
+			want = 1
+		}
+		if want > 3 {
+			want = 3
+		}
+		if err != nil || packed.Next != uint64(want) || len(packed.Bytes) != want*entryLen {
+			t.Errorf("in a room of %d bytes there are %d of %d entries, and the error %v", length, packed.Next, want, err)
+		}
+		if bytes.Count(memory[length:], []byte{0xa5}) != guardLen {
+			t.Errorf("bytes are written after a room of %d", length)
+		}
+	}
+}

@@ -27,7 +27,8 @@ type Taken struct {
 }
 
 // A Session is a session of a replica with a partner's offer. Its calls are calls of the replica, so others, even puts,
-// may come between.
+// may come between. A session that has ended is kept until [Replica.DropSessions], or the end of a [Replica.Sync]: its
+// calls are refused as [ErrUnknownSession] then.
 type Session struct {
 	replica *replica
 	number  uint64
@@ -35,7 +36,7 @@ type Session struct {
 }
 
 // Open opens a session with a partner's offer. It compares the rows now, which are held as a moment and hashed while
-// other goroutines put. A session is never freed before its replica, so compare roots first.
+// other goroutines put. A session is kept until [Replica.DropSessions], so compare roots first.
 //
 // Refused as [ErrBadMessage], [ErrOtherFormat], [ErrOtherRange] or [ErrSessionsFull].
 func (r *Replica) Open(partner uint16, offer []byte) (*Session, error) {
@@ -109,7 +110,20 @@ func (r *replica) open(offer []byte, call func(number *C.uint64_t) C.uint32_t) (
 	return &Session{replica: r, number: uint64(number), offer: parts.Number}, nil
 }
 
-// Number returns the number of the session in its replica, from 0.
+// DropSessions drops the sessions that have ended, and the rows that they keep. Open ones stay, under their numbers.
+// Entries of the source [SourcePartner] have [SourceCopy] then.
+func (r *Replica) DropSessions() error {
+	held := r.at.locked()
+	defer held.lock.Unlock()
+	return held.dropSessions()
+}
+
+// dropSessions drops the sessions that have ended. The caller holds the lock.
+func (r *replica) dropSessions() error {
+	return check(C.antientropy_drop_sessions(&r.handle))
+}
+
+// Number returns the number of the session, which no other session of the replica gets.
 func (s *Session) Number() uint64 {
 	return s.number
 }
@@ -121,10 +135,15 @@ func (s *Session) OfferNumber() uint32 {
 
 // State returns the state of the session.
 func (s *Session) State() (State, error) {
-	var state C.uint64_t
 	held := s.replica.locked()
 	defer held.lock.Unlock()
-	err := check(C.antientropy_session(&held.handle, C.uint64_t(s.number), &state))
+	return held.state(s.number)
+}
+
+// state returns the state of a session. The caller holds the lock.
+func (r *replica) state(session uint64) (State, error) {
+	var state C.uint64_t
+	err := check(C.antientropy_session(&r.handle, C.uint64_t(session), &state))
 	return State(state), err
 }
 
@@ -189,5 +208,18 @@ func (s *Session) Take(answer []byte) (Taken, error) {
 func (s *Session) Cancel() error {
 	held := s.replica.locked()
 	defer held.lock.Unlock()
-	return check(C.antientropy_cancel(&held.handle, C.uint64_t(s.number)))
+	return held.cancel(s.number)
+}
+
+// cancel cancels a session if it is open. The caller holds the lock.
+func (r *replica) cancel(session uint64) error {
+	return check(C.antientropy_cancel(&r.handle, C.uint64_t(session)))
+}
+
+// end cancels a session if it is open, and returns its state. The caller holds the lock.
+func (r *replica) end(session uint64) (State, error) {
+	if err := r.cancel(session); err != nil {
+		return StateOpen, err
+	}
+	return r.state(session)
 }

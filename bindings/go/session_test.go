@@ -99,6 +99,38 @@ func TestACancelledSession(t *testing.T) {
 	equal(t, must(session.State()), antientropy.StateCancelled)
 }
 
+// takeAll takes the answers to all asks of a session for the offer of number 7.
+func takeAll(session *antientropy.Session, snapshot *antientropy.Snapshot) {
+	for asks := must(session.Asks()); len(asks) > 0; asks = must(session.Asks()) {
+		for _, ask := range asks {
+			must(session.Take(must(snapshot.Serve(7, ask))))
+		}
+	}
+}
+
+// Sessions that have ended are dropped, and open ones stay under their numbers, which aren't used again.
+func TestDroppedSessions(t *testing.T) {
+	snapshot, offer := offered()
+	r := newReplica()
+	finished, open, cancelled := must(r.Open(1, offer)), must(r.Open(1, offer)), must(r.Open(1, offer))
+	takeAll(finished, snapshot)
+	check(cancelled.Cancel())
+	check(r.DropSessions())
+	counts := must(r.Count())
+	equal(t, []uint64{counts.Sessions, counts.OpenSessions}, []uint64{1, 1})
+	for _, session := range []*antientropy.Session{finished, cancelled} {
+		unchanged(t, r, antientropy.ErrUnknownSession, session.Cancel)
+		unchanged(t, r, antientropy.ErrUnknownSession, func() error { _, err := session.State(); return err })
+	}
+	for _, entry := range must(r.Entries(0).All()) {
+		equal(t, entry.Source, antientropy.SourceCopy)
+	}
+	equal(t, []any{open.Number(), must(open.State())}, []any{uint64(1), antientropy.StateOpen})
+	takeAll(open, snapshot)
+	equal(t, must(open.State()), antientropy.StateFinished)
+	equal(t, must(must(r.Renew(100)).Open(1, offer)).Number(), uint64(3))
+}
+
 func TestRefusedAsks(t *testing.T) {
 	snapshot, offer := offered()
 	ask := asked(must(newReplica().Open(1, offer)))

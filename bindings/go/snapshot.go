@@ -35,22 +35,22 @@ func (r *Replica) Snapshot() (*Snapshot, error) {
 func (r *Replica) SnapshotIfClean() (*Snapshot, error) {
 	held := r.at.locked()
 	defer held.lock.Unlock()
-	counts, err := held.count()
+	config, counts, err := held.describe()
 	if err != nil {
 		return nil, err
 	}
 	made := new(snapshot)
-	return made.owned(held.config, counts.Entries, C.antientropy_snapshot(&held.handle, &made.handle))
+	return made.owned(config, counts.Entries, C.antientropy_snapshot(&held.handle, &made.handle))
 }
 
 // moment returns a snapshot of the moment. The caller holds the lock.
 func (r *replica) moment() (*Snapshot, error) {
-	counts, err := r.count()
+	config, counts, err := r.describe()
 	if err != nil {
 		return nil, err
 	}
 	made := new(snapshot)
-	return made.owned(r.config, counts.Front, C.antientropy_moment(&r.handle, &made.handle))
+	return made.owned(config, counts.Front, C.antientropy_moment(&r.handle, &made.handle))
 }
 
 // owned returns the snapshot, unless the call that makes it was refused. The garbage collector closes it, once no copy
@@ -100,7 +100,7 @@ func (s *Snapshot) Config() Config {
 	return s.config
 }
 
-// Entries returns the number of the journal's entries at the moment of the snapshot: a log goes on there.
+// Entries returns the number of the next entry at the moment of the snapshot: a log goes on there.
 func (s *Snapshot) Entries() uint64 {
 	return s.entries
 }

@@ -112,7 +112,8 @@ type held struct {
 
 // stateOf returns all that a replica holds.
 func stateOf(r *antientropy.Replica) held {
-	state := held{counts: must(r.Count()), entries: must(r.Entries(0).All())}
+	counts := must(r.Count())
+	state := held{counts: counts, entries: must(r.Entries(counts.First).All())}
 	for _, key := range must(r.Keys().All()) {
 		row, _, err := r.Row(key)
 		check(err)

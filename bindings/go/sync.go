@@ -43,7 +43,7 @@ func (s Synced) Finished() bool {
 //
 // A leaf with a crowded key is left. Refused as [Replica.Open], and as [ErrNotCanonical] or [ErrJournalFull]; without a
 // reach as [ErrNoReach], before anything else. After a refusal, or an error of reach, the versions that were taken
-// stay: the result has their number.
+// stay: the result has their number. However it ends, it drops the sessions that have ended, as [Replica.DropSessions].
 func (r *Replica) Sync(partner uint16, offer []byte, reach Reach) (Synced, error) {
 	return r.SyncWithin(DefaultBounds(), partner, offer, reach)
 }
@@ -60,12 +60,11 @@ func (r *Replica) SyncWithin(bounds Bounds, partner uint16, offer []byte, reach 
 	if session == nil {
 		return Synced{State: StateFinished}, nil
 	}
-	defer session.Cancel() // if reach panics
 	run := syncRun{session: session, bounds: bounds, reach: reach}
 	return run.finish()
 }
 
-// A syncRun is a sync in progress.
+// A syncRun is a sync in progress. The sync of another goroutine drops its session if that has ended.
 type syncRun struct {
 	session *Session
 	bounds  Bounds
@@ -73,18 +72,32 @@ type syncRun struct {
 	synced  Synced
 }
 
-// finish goes on to the end of the sync. It returns the first error of the exchange, of the cancel and of the state.
-func (s *syncRun) finish() (Synced, error) {
-	err := s.exchangeAll()
-	if cancelled := s.session.Cancel(); err == nil {
-		err = cancelled
-	}
-	state, unknown := s.session.State()
-	if err == nil {
-		err = unknown
-	}
-	s.synced.State = state
+// finish goes on to the end of the sync. It returns the first error of the exchange and of the end.
+func (s *syncRun) finish() (synced Synced, err error) {
+	defer func() { // even if reach panics
+		if ended := s.end(); err == nil {
+			err = ended
+		}
+		synced = s.synced
+	}()
+	err = s.exchangeAll()
 	return s.synced, err
+}
+
+// end cancels the session if it is open, notes its state, and drops it with the others that have ended.
+func (s *syncRun) end() error {
+	held := s.session.replica.locked()
+	defer held.lock.Unlock()
+	state, err := held.end(s.session.number)
+	switch {
+	case err == nil:
+		s.synced.State = state
+	case err != ErrUnknownSession:
+		return err
+	case s.synced.State == StateOpen:
+		s.synced.State = StateCancelled // no answer has ended it, so a migration has cancelled it
+	}
+	return held.dropSessions()
 }
 
 // exchangeAll sends asks until there are none, or too many answers were bad.
@@ -110,6 +123,9 @@ func (s *syncRun) openAsks() ([][]byte, error) {
 		return nil, nil
 	}
 	asks, err := s.session.Asks()
+	if err == ErrUnknownSession {
+		return nil, nil // it has ended, and was dropped
+	}
 	open := asks[:0]
 	for _, ask := range asks {
 		if !s.isCrowded(ask) {
@@ -161,10 +177,14 @@ func (s *syncRun) take(ask, answer []byte) error {
 	case nil:
 		s.synced.Accepted += taken.Accepted
 		s.synced.Known += taken.Known
+		s.synced.State = taken.State
 	case ErrCrowded:
 		s.synced.Crowded = append(s.synced.Crowded, ask)
-	case ErrBadMessage, ErrNotAsked, ErrWrongDigest:
+	case ErrBadMessage, ErrNotAsked, ErrWrongDigest, ErrUnknownSession: // of a dropped session no node is asked either
 		s.synced.Bad++
+	case ErrNotCanonical:
+		s.synced.State = StateFailed
+		return err
 	default:
 		return err
 	}

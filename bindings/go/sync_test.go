@@ -1,7 +1,10 @@
 package antientropy_test
 
 import (
+	"bytes"
+	"crypto/sha256"
 	"errors"
+	"fmt"
 	"testing"
 
 	"antientropy"
@@ -29,6 +32,13 @@ func (l *link) reach(asks [][]byte) ([][]byte, error) {
 func (l *link) sync(r, partner *antientropy.Replica, bounds antientropy.Bounds) (antientropy.Synced, error) {
 	l.snapshot = must(partner.Snapshot())
 	return r.SyncWithin(bounds, 9, must(l.snapshot.Offer(1)), l.reach)
+}
+
+// noSession checks that a replica keeps no session.
+func noSession(t *testing.T, r *antientropy.Replica) {
+	t.Helper()
+	counts := must(r.Count())
+	equal(t, []uint64{counts.Sessions, counts.OpenSessions}, []uint64{0, 0})
 }
 
 // syncFrom takes what a partner has.
@@ -99,7 +109,7 @@ func TestEqualRoots(t *testing.T) {
 	must(syncFrom(b, a))
 	synced := must(l.sync(b, a, antientropy.DefaultBounds()))
 	equal(t, synced, antientropy.Synced{State: antientropy.StateFinished})
-	equal(t, []any{len(l.rounds), must(b.Count()).Sessions}, []any{0, uint64(1)})
+	equal(t, []any{len(l.rounds), must(b.Count()).Sessions}, []any{0, uint64(0)})
 }
 
 func TestAnswersInAnotherOrder(t *testing.T) {
@@ -160,7 +170,7 @@ func TestALinkThatFails(t *testing.T) {
 	synced, err := l.sync(b, filled(300), antientropy.DefaultBounds())
 	refused(t, err, lost)
 	equal(t, []any{synced.Asks, synced.State}, []any{17, antientropy.StateCancelled})
-	equal(t, must(b.Count()).OpenSessions, uint64(0))
+	noSession(t, b)
 }
 
 func TestALinkThatPanics(t *testing.T) {
@@ -170,8 +180,7 @@ func TestALinkThatPanics(t *testing.T) {
 		defer func() { equal(t, recover(), "link") }()
 		must(l.sync(b, filled(30), antientropy.DefaultBounds()))
 	}()
-	counts := must(b.Count())
-	equal(t, []uint64{counts.Sessions, counts.OpenSessions}, []uint64{1, 0})
+	noSession(t, b)
 }
 
 func TestACrowdedLeafIsLeft(t *testing.T) {
@@ -189,7 +198,63 @@ func TestAFullJournal(t *testing.T) {
 	small := withLimit(10)
 	_, err := syncFrom(small, filled(300))
 	refused(t, err, antientropy.ErrJournalFull)
-	equal(t, must(small.Count()).OpenSessions, uint64(0))
+	noSession(t, small)
+}
+
+// A sync whose partner's text isn't a node's fails, and leaves no session.
+func TestASyncThatFails(t *testing.T) {
+	digest := sha256.Sum256([]byte("junk"))
+	offer := bytes.Join([][]byte{{1, 0, 0, 0, 1, 2, 0}, digest[:]}, nil)
+	answer := bytes.Join([][]byte{{3, 0, 0, 0, 1, 0, 0, 0, 0, 0, 0, 0, 0, 0, 0, 4}, []byte("junk")}, nil)
+	b := newReplica()
+	synced, err := b.Sync(9, offer, func([][]byte) ([][]byte, error) { return [][]byte{answer}, nil })
+	refused(t, err, antientropy.ErrNotCanonical)
+	equal(t, synced, antientropy.Synced{Asks: 1, State: antientropy.StateFailed})
+	noSession(t, b)
+}
+
+// Each sync drops its session, so that any number of syncs needs no renewal.
+func TestManySyncs(t *testing.T) {
+	a, b := newReplica(), newReplica()
+	for n := 0; n < 40; n++ {
+		put(a, fmt.Sprint("key ", n), "value")
+		equal(t, must(syncFrom(b, a)).Accepted, uint64(1))
+		noSession(t, b)
+	}
+	for _, entry := range must(b.Entries(0).All()) {
+		equal(t, entry.Source, antientropy.SourceCopy)
+	}
+	equal(t, must(b.Open(9, must(must(filled(1).Snapshot()).Offer(1)))).Number(), uint64(40))
+}
+
+// A session that the program has opened stays, under its number.
+func TestASyncLeavesOpenSessions(t *testing.T) {
+	snapshot, offer := offered()
+	b := newReplica()
+	session := must(b.Open(1, offer))
+	must(syncFrom(b, filled(5)))
+	equal(t, []any{must(b.Count()).Sessions, must(session.State())}, []any{uint64(1), antientropy.StateOpen})
+	takeAll(session, snapshot)
+	equal(t, must(session.State()), antientropy.StateFinished)
+}
+
+// A migration cancels the session of a sync, and another goroutine drops it: answers are bad then, and the sync ends.
+func TestAMigrationMeanwhile(t *testing.T) {
+	for _, isDropped := range []bool{false, true} {
+		config := antientropy.Config{Format: 1, Limit: 10}
+		a, b := must(antientropy.NewReplica(config)), must(antientropy.NewReplica(config))
+		put(a, "key", "value")
+		l := link{change: func(answers [][]byte) ([][]byte, error) {
+			check(b.Migrate())
+			if isDropped {
+				check(b.DropSessions())
+			}
+			return answers, nil
+		}}
+		synced := must(l.sync(b, a, antientropy.DefaultBounds()))
+		equal(t, synced, antientropy.Synced{Asks: 1, Bad: 1, State: antientropy.StateCancelled})
+		noSession(t, b)
+	}
 }
 
 func TestSyncOfNoOffer(t *testing.T) {
