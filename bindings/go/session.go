@@ -135,15 +135,10 @@ func (s *Session) OfferNumber() uint32 {
 
 // State returns the state of the session.
 func (s *Session) State() (State, error) {
+	var state C.uint64_t
 	held := s.replica.locked()
 	defer held.lock.Unlock()
-	return held.state(s.number)
-}
-
-// state returns the state of a session. The caller holds the lock.
-func (r *replica) state(session uint64) (State, error) {
-	var state C.uint64_t
-	err := check(C.antientropy_session(&r.handle, C.uint64_t(session), &state))
+	err := check(C.antientropy_session(&held.handle, C.uint64_t(s.number), &state))
 	return State(state), err
 }
 
@@ -214,12 +209,4 @@ func (s *Session) Cancel() error {
 // cancel cancels a session if it is open. The caller holds the lock.
 func (r *replica) cancel(session uint64) error {
 	return check(C.antientropy_cancel(&r.handle, C.uint64_t(session)))
-}
-
-// end cancels a session if it is open, and returns its state. The caller holds the lock.
-func (r *replica) end(session uint64) (State, error) {
-	if err := r.cancel(session); err != nil {
-		return StateOpen, err
-	}
-	return r.state(session)
 }

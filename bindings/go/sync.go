@@ -84,18 +84,15 @@ func (s *syncRun) finish() (synced Synced, err error) {
 	return s.synced, err
 }
 
-// end cancels the session if it is open, notes its state, and drops it with the others that have ended.
+// end cancels the session if no answer has ended it, and drops it with the others that have ended.
 func (s *syncRun) end() error {
 	held := s.session.replica.locked()
 	defer held.lock.Unlock()
-	state, err := held.end(s.session.number)
-	switch {
-	case err == nil:
-		s.synced.State = state
-	case err != ErrUnknownSession:
-		return err
-	case s.synced.State == StateOpen:
-		s.synced.State = StateCancelled // no answer has ended it, so a migration has cancelled it
+	if s.synced.State == StateOpen {
+		if err := held.cancel(s.session.number); err != nil && err != ErrUnknownSession {
+			return err
+		}
+		s.synced.State = StateCancelled // if the session was unknown, a migration has cancelled it
 	}
 	return held.dropSessions()
 }

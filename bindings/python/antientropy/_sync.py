@@ -2,6 +2,7 @@
 
 from __future__ import annotations
 
+from contextlib import suppress
 from typing import TYPE_CHECKING, Callable, List, Optional, Sequence, Tuple
 
 from ._functions import read_offer
@@ -103,13 +104,11 @@ class _Run:
             self.state = taken.state
 
     def end(self) -> None:
-        """Cancels the session if it is open, reads its state, and drops it with the others that have ended."""
+        """Cancels the session if no answer has ended it, and drops it with the others that have ended."""
         replica = self.session._replica
         with replica._to_change():
-            try:
-                replica._call_held("cancel", self.session.number)
-                self.state = self.session.state
-            except self._dropped:
-                if self.state is State.OPEN:  # (no answer has ended it: a migration has cancelled it)
-                    self.state = State.CANCELLED
+            if self.state is State.OPEN:
+                with suppress(self._dropped):  # (a migration has cancelled it)
+                    replica._call_held("cancel", self.session.number)
+                self.state = State.CANCELLED
             replica._call_held("drop_sessions")
