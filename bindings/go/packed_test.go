@@ -87,6 +87,17 @@ func TestEntriesOfSeveralRooms(t *testing.T) {
 	equal(t, []any{count, scanner.Err()}, []any{21, nil})
 }
 
+func TestAMigrationWhileEntriesAreScanned(t *testing.T) {
+	r := must(antientropy.NewReplica(antientropy.Config{Format: 1, Limit: 2}))
+	put(r, "a", "x")
+	scanner := r.Entries(0)
+	equal(t, []any{scanner.Next(), scanner.Item().Version}, []any{true, live(1, 1, "x")})
+	check(r.Migrate())
+	must(r.PutTombstone(1, []byte("b"), nil))
+	gone := antientropy.Version{Clock: clock(1, 1), Value: []byte{}, Kind: antientropy.Tombstone}
+	equal(t, []any{scanner.Next(), scanner.Item().Version, scanner.Next()}, []any{true, gone, false})
+}
+
 func TestBytesThatAreNoEntries(t *testing.T) {
 	for format := uint8(1); format <= 2; format++ {
 		packed := must(journalOf(format).PackedEntries(0))

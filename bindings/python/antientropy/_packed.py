@@ -22,7 +22,7 @@ def unpack_entries(data: bytes, format: int, number: int = 0) -> Iterator[Entry]
     The first one gets the number. Raises ValueError if the bytes aren't whole entries: a log needs checksums, too.
     """
     data = to_bytes(data)
-    # (what the loop uses is local, and an entry of one pair needs few calls: others cost more time than all the rest)
+    # (names are local, and an entry of one pair makes few calls, for speed)
     head, head_size, tails = _HEAD.unpack_from, _HEAD.size, [(tail.unpack_from, tail.size) for tail in _TAILS]
     sources, tombstone, new = tuple(Source), int(Kind.TOMBSTONE), tuple.__new__
     at, end, has_kind = 0, len(data), format == 2

@@ -17,7 +17,8 @@ if TYPE_CHECKING:
 
 Reach = Callable[[List[bytes]], Sequence[Optional[bytes]]]
 
-#: Refusals of a bad answer: the node is asked for again. UnknownSession means NotAsked, by a session that has ended.
+#: Refusals of an answer after which the node is asked for again. A session that has ended refuses it as NotAsked, and
+#: one that was dropped then as UnknownSession.
 _BAD_ANSWERS = ("BadMessage", "NotAsked", "WrongDigest", "UnknownSession")
 
 

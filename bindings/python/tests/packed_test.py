@@ -83,6 +83,15 @@ class PackedTest(ReplicaCase):
         self.replica.put(1, b"b", b"x")
         self.assertEqual([(entry.number, entry.key) for entry in entries], [(1, b"b")])
 
+    def test_a_migration_between_pieces(self):
+        with Replica(1) as replica:
+            replica.put(1, b"a", b"x")
+            entries = replica.entries()
+            self.assertEqual(next(entries), (0, b"a", {1: 1}, b"x", Source.PUT))
+            replica.migrate()
+            replica.put(1, b"b", None)
+            self.assertEqual(list(entries), [(1, b"b", {1: 1}, None, Source.PUT)])
+
     def test_bytes_that_are_no_entries(self):
         for format in (1, 2):
             with Replica(format) as replica:
