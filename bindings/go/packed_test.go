@@ -67,7 +67,8 @@ func TestEntriesOfAllKinds(t *testing.T) {
 	}
 }
 
-// A journal of more bytes than are read at once, and entries that are accepted while it is scanned.
+// A journal of more bytes than are read at once, and an entry that is accepted while it is scanned. Entries are copies,
+// which later reads leave unchanged.
 func TestEntriesOfSeveralRooms(t *testing.T) {
 	r := newReplica()
 	value := func(n int) string { return strings.Repeat(string(rune('a'+n)), antientropy.ValueMax2) }
@@ -76,15 +77,17 @@ func TestEntriesOfSeveralRooms(t *testing.T) {
 	}
 	first := must(r.PackedEntries(0))
 	equal(t, []bool{len(first.Bytes) <= 1<<20, first.Next > 10, first.Next < 20}, []bool{true, true, true})
-	scanner, count := r.Entries(0), 0
-	for ; scanner.Next(); count++ {
-		entry := scanner.Item()
-		equal(t, []any{entry.Number, string(entry.Version.Value) == value(count)}, []any{uint64(count), true})
-		if count == 19 {
-			put(r, "later", value(20))
+	scanner, entries := r.Entries(0), []antientropy.Entry(nil)
+	for scanner.Next() {
+		if entries = append(entries, scanner.Item()); len(entries) == 20 {
+			put(r, "20", value(20))
 		}
 	}
-	equal(t, []any{count, scanner.Err()}, []any{21, nil})
+	for n, entry := range entries {
+		got := []any{entry.Number, string(entry.Key), string(entry.Version.Value) == value(n)}
+		equal(t, got, []any{uint64(n), fmt.Sprint(n), true})
+	}
+	equal(t, []any{len(entries), scanner.Err()}, []any{21, nil})
 }
 
 func TestAMigrationWhileEntriesAreScanned(t *testing.T) {
