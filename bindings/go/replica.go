@@ -40,7 +40,7 @@ type Counts struct {
 	Front        uint64 // Entries at the last moment that was whole; First if there was none since a renewal
 }
 
-// About has what a checkpoint or a log has to name: the range of a replica, and the position of its journal.
+// About has what a checkpoint or a log has to name: the range of a replica or a snapshot, and its position.
 type About struct {
 	Format  uint8  // format of the tree: 1 or 2
 	Bits    uint8  // bits of the ring
@@ -156,13 +156,17 @@ func (r *Replica) About() (About, error) {
 // about returns the range of the replica. The caller holds the lock.
 func (r *replica) about() (About, error) {
 	var about C.struct_antientropy_about
-	err := check(C.antientropy_about(&r.handle, &about))
+	return aboutOf(C.antientropy_about(&r.handle, &about), &about)
+}
+
+// aboutOf returns the result of a call that names a range.
+func aboutOf(number C.uint32_t, about *C.struct_antientropy_about) (About, error) {
 	return About{
 		Format:  uint8(about.format),
 		Bits:    uint8(about.bits),
 		Range:   uint16(about._range),
 		Entries: uint64(about.entries),
-	}, err
+	}, check(number)
 }
 
 // describe returns the numbers and the counts of the replica. The caller holds the lock.

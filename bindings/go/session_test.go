@@ -28,6 +28,7 @@ func TestSnapshots(t *testing.T) {
 	root := must(snapshot.Root())
 	config := antientropy.Config{Format: 2, Limit: 20_000}
 	equal(t, []any{snapshot.Config(), snapshot.Entries()}, []any{config, uint64(50)})
+	equal(t, must(snapshot.About()), antientropy.About{Format: 2, Entries: 50})
 	put(r, "later", "")
 	equal(t, must(r.Root()) == root, false)
 	check(r.Close())

@@ -100,6 +100,14 @@ func (s *Snapshot) Config() Config {
 	return s.config
 }
 
+// About returns the range of the rows, and the number of the next entry at the moment of the snapshot.
+func (s *Snapshot) About() (About, error) {
+	var about C.struct_antientropy_about
+	held := s.at.locked()
+	defer held.lock.Unlock()
+	return aboutOf(C.antientropy_snapshot_about(&held.handle, &about), &about)
+}
+
 // Entries returns the number of the next entry at the moment of the snapshot: a log goes on there.
 func (s *Snapshot) Entries() uint64 {
 	return s.entries

@@ -80,6 +80,7 @@ CALLS: Dict[str, Tuple[Any, Tuple[Any, ...]]] = {
     "moment": (c_uint32, (*_HANDLE, *_HANDLE)),
     "snapshot": (c_uint32, (*_HANDLE, *_HANDLE)),
     "snapshot_share": (c_uint32, (*_HANDLE, *_HANDLE)),
+    "snapshot_about": (c_uint32, (*_HANDLE, *_STRUCT)),
     "snapshot_free": (None, _HANDLE),
     "snapshot_get": (c_uint32, (*_HANDLE, *_BYTES, *_OUT)),
     "snapshot_key_next": (c_uint32, (*_HANDLE, c_uint64, *_OUT)),

@@ -16,7 +16,7 @@ from ._refused import class_of
 from ._rows import Rows
 from ._session import Session
 from ._snapshot import Snapshot
-from ._values import About, Clock, ClockLike, Counts, Entry, Loaded, Packed, Put, Receipt, Source, Synced, Version
+from ._values import Clock, ClockLike, Counts, Entry, Loaded, Packed, Put, Receipt, Source, Synced, Version
 
 _LIMIT = 1_000_000
 
@@ -33,7 +33,7 @@ class Replica(Rows):
     Raises BadRing if a number is outside its limits. Several threads may use a replica.
     """
 
-    _free, _get_row, _next_key = "free", "get", "key_next"
+    _free, _get_row, _next_key, _get_about = "free", "get", "key_next", "about"
 
     def __init__(self, format: int = 2, bits: int = 0, range: int = 0, limit: int = _LIMIT) -> None:
         self._prepare(current())
@@ -83,10 +83,6 @@ class Replica(Rows):
     def count(self) -> Counts:
         """Returns the counts of entries, dirty nodes and sessions, and of the entries at the last whole moment."""
         return Counts(*self._get_words(7, "count"))
-
-    def about(self) -> About:
-        """Returns what a checkpoint or a log has to name: format, bits and range, and the number of the next entry."""
-        return About(*self._get_words(4, "about"))
 
     @property
     def format(self) -> int:

@@ -9,6 +9,7 @@ from ._calls import KEY_MAX
 from ._convert import fits, to_bytes
 from ._handle import Handle
 from ._refused import class_of
+from ._values import About
 
 
 class Rows(Handle):
@@ -18,6 +19,12 @@ class Rows(Handle):
     _get_row = ""
     #: Name of the call that lists the keys of a leaf.
     _next_key = ""
+    #: Name of the call that returns the range and the position.
+    _get_about = ""
+
+    def about(self) -> About:
+        """Returns what a checkpoint or a log has to name: format, bits and range, and the number of the next entry."""
+        return About(*self._get_words(4, self._get_about))
 
     def row(self, key: bytes) -> bytes:
         """Returns the text of the row of a key (docs/FORMATS.md), or no bytes if none is held. Raises BadKey."""

@@ -9,7 +9,6 @@ from ._convert import fits, to_bytes
 from ._handle import Handle
 from ._moment import at_moment
 from ._rows import Rows
-from ._values import About
 
 if TYPE_CHECKING:
     from ._replica import Replica
@@ -23,6 +22,7 @@ class Snapshot(Rows):
     """
 
     _free, _get_row, _next_key = "snapshot_free", "snapshot_get", "snapshot_key_next"
+    _get_about = "snapshot_about"
 
     #: Format, bits of the ring and range of the rows.
     format: int
@@ -38,7 +38,7 @@ class Snapshot(Rows):
         else:
             with replica._lock:
                 replica._call_held("snapshot", self._at)
-                self._describe_held(replica.about())
+                self._describe_held()
 
     @classmethod
     def _of_moment_held(cls, replica: Replica) -> Snapshot:
@@ -49,16 +49,11 @@ class Snapshot(Rows):
         return made
 
     def _take_moment_held(self, replica: Replica) -> None:
-        """Takes the moment, and once more if a signal handler has held another one in between."""
-        taken = None
-        while taken != (front := replica.count().front):
-            self._free_call(self._at)
-            replica._call_held("moment", self._at)
-            taken = front
-        self._describe_held(replica.about()._replace(entries=front))
+        replica._call_held("moment", self._at)
+        self._describe_held()
 
-    def _describe_held(self, about: About) -> None:
-        self.format, self.bits, self.range, self.entries = about
+    def _describe_held(self) -> None:
+        self.format, self.bits, self.range, self.entries = self.about()
 
     def share(self) -> Snapshot:
         """Returns another snapshot of the same rows, with a lock of its own. It copies no row.
@@ -69,7 +64,7 @@ class Snapshot(Rows):
         Handle.__init__(shared, self._library)
         with self._lock:
             self._call_held("snapshot_share", shared._at)
-            shared._describe_held(About(self.format, self.bits, self.range, self.entries))
+        shared._describe_held()
         return shared
 
     def root(self) -> bytes:

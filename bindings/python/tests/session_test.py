@@ -48,6 +48,7 @@ class SessionTest(ReplicaCase):
             self.a.put(1, b"later", b"")
             self.assertEqual((list(shared.keys()), list(shared.keys_of(leaf))), (keys, list(self.a.keys_of(leaf))))
             self.assertEqual((shared.entries, shared.format, shared.bits, shared.range), (50, 2, 0, 0))
+            self.assertEqual(shared.about(), (2, 0, 0, 50))
             self.assertEqual((shared.root(), shared.digest(0, 0)), (root, root))
             self.assertNotEqual(shared.digest(3, leaf), shared.digest(3, leaf ^ 1))
             self.assertEqual(shared.row(b"later"), b"")
@@ -55,7 +56,9 @@ class SessionTest(ReplicaCase):
             self.assert_refused("BadMessage", self.a, list, shared.keys_of(4096))
             for depth, index in ((3, 4096), (4, 0), (0, 1 << 32)):
                 self.assert_refused("BadMessage", self.a, shared.digest, depth, index)
-        for call, *args in ((shared.share,), (shared.row, b"key 3"), (list, shared.keys()), (shared.digest, 0, 0)):
+        for call, *args in (
+            (shared.share,), (shared.row, b"key 3"), (list, shared.keys()), (shared.digest, 0, 0), (shared.about,),
+        ):
             self.assert_refused("Empty", self.a, call, *args)
 
     def test_session(self):
