@@ -18,7 +18,7 @@
     X(close, 1, LONG)                                                                                                  \
     X(renew, 2, LONG)                                                                                                  \
     X(migrate, 1, LONG)                                                                                                \
-    X(info, 1, SHORT)                                                                                                  \
+    X(about, 1, SHORT)                                                                                                 \
     X(count, 1, SHORT)                                                                                                 \
     X(rehash, 1, LONG)                                                                                                 \
     X(rehash_some, 2, LONG)                                                                                            \
@@ -42,6 +42,7 @@
     X(row, 2, SHORT)                                                                                                   \
     X(key_after, 3, SHORT)                                                                                             \
     X(entry, 2, SHORT)                                                                                                 \
+    X(packed_entries, 2, SHORT)                                                                                        \
     X(top_counter, 4, LONG)                                                                                            \
     X(snapshot, 1, LONG)                                                                                               \
     X(snapshot_share, 1, SHORT)                                                                                        \
@@ -62,6 +63,8 @@
     X(asks, 3, SHORT)                                                                                                  \
     X(take, 4, SHORT)                                                                                                  \
     X(cancel, 2, SHORT)                                                                                                \
+    X(close_session, 2, LONG)                                                                                          \
+    X(drop_sessions, 1, LONG)                                                                                          \
     X(hints_new, 0, SHORT)                                                                                             \
     X(hints_restore, 1, SHORT)                                                                                         \
     X(hints_close, 1, LONG)                                                                                            \

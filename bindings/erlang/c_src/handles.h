@@ -12,14 +12,6 @@
 
 enum kind { REPLICA, SNAPSHOT, HINTS, SLOTS, KINDS };
 
-/* The numbers of a replica or of a snapshot that the library doesn't return. */
-struct range {
-    uint64_t format;
-    uint64_t bits;
-    uint64_t number;
-    uint64_t entries; /* of a snapshot alone: entries of the journal when it was made */
-};
-
 struct resource {
     ErlNifMutex *lock;
     union {
@@ -28,7 +20,7 @@ struct resource {
         struct antientropy_hints hints;
         struct antientropy_slots slots;
     };
-    struct range range;
+    struct antientropy_about about; /* of a snapshot alone: its range, and the entries that its rows have */
 };
 
 /* A function of the NIF library. */

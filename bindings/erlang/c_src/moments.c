@@ -86,12 +86,12 @@ static uint32_t fill(struct resource *at, void *of)
     struct antientropy_counts counts;
     uint32_t number = antientropy_moment(&at->replica, &made->snapshot);
     if (number == ANTIENTROPY_OK)
+        number = antientropy_about(&at->replica, &made->about);
+    if (number == ANTIENTROPY_OK)
         number = antientropy_count(&at->replica, &counts);
-    if (number != ANTIENTROPY_OK)
-        return number;
-    made->range = at->range;
-    made->range.entries = counts.front;
-    return ANTIENTROPY_OK;
+    if (number == ANTIENTROPY_OK)
+        made->about.entries = counts.front;
+    return number;
 }
 
 /* moment(Replica) -> {ok, Snapshot} */
@@ -150,10 +150,13 @@ static uint32_t compare_roots(struct resource *at, const struct antientropy_offe
 static uint32_t compare(struct resource *at, struct opening *opening)
 {
     struct antientropy_offer_parts parts;
+    struct antientropy_about about;
     uint32_t number = antientropy_read_offer(opening->offer.data, opening->offer.size, &parts);
+    if (number == ANTIENTROPY_OK)
+        number = antientropy_about(&at->replica, &about);
     if (number != ANTIENTROPY_OK)
         return number;
-    if (parts.format != at->range.format || parts.range != at->range.number)
+    if (parts.format != about.format || parts.range != about.range)
         return ANTIENTROPY_OK;
     return compare_roots(at, &parts, opening);
 }

@@ -5,34 +5,27 @@
 /* new(Format, Bits, Range, Limit) -> {ok, Replica} */
 FUNCTION(new)
 {
-    struct range range = {0};
-    uint64_t limit;
-    if (!get_u64(env, argv[0], &range.format) || !get_u64(env, argv[1], &range.bits)
-        || !get_u64(env, argv[2], &range.number) || !get_u64(env, argv[3], &limit))
+    uint64_t format, bits, range, limit;
+    if (!get_u64(env, argv[0], &format) || !get_u64(env, argv[1], &bits) || !get_u64(env, argv[2], &range)
+        || !get_u64(env, argv[3], &limit))
         return enif_make_badarg(env);
     struct resource *made = make_resource(REPLICA);
     if (made == NULL)
         return refused(env, ANTIENTROPY_NO_MEMORY);
-    made->range = range;
-    uint32_t number = antientropy_new(&made->replica, range.format, range.bits, range.number, limit);
-    return handle_result(env, made, number);
+    return handle_result(env, made, antientropy_new(&made->replica, format, bits, range, limit));
 }
 
 /* new_seeded(Format, Bits, Range, Limit, First, Second) -> {ok, Replica} */
 FUNCTION(new_seeded)
 {
-    struct range range = {0};
-    uint64_t limit, first, second;
-    if (!get_u64(env, argv[0], &range.format) || !get_u64(env, argv[1], &range.bits)
-        || !get_u64(env, argv[2], &range.number) || !get_u64(env, argv[3], &limit) || !get_u64(env, argv[4], &first)
-        || !get_u64(env, argv[5], &second))
+    uint64_t format, bits, range, limit, first, second;
+    if (!get_u64(env, argv[0], &format) || !get_u64(env, argv[1], &bits) || !get_u64(env, argv[2], &range)
+        || !get_u64(env, argv[3], &limit) || !get_u64(env, argv[4], &first) || !get_u64(env, argv[5], &second))
         return enif_make_badarg(env);
     struct resource *made = make_resource(REPLICA);
     if (made == NULL)
         return refused(env, ANTIENTROPY_NO_MEMORY);
-    made->range = range;
-    uint32_t number =
-        antientropy_new_seeded(&made->replica, range.format, range.bits, range.number, limit, first, second);
+    uint32_t number = antientropy_new_seeded(&made->replica, format, bits, range, limit, first, second);
     return handle_result(env, made, number);
 }
 
@@ -52,30 +45,26 @@ CALL(REPLICA, renew)
     struct resource *made = make_resource(REPLICA);
     if (made == NULL)
         return refused(env, ANTIENTROPY_NO_MEMORY);
-    made->range = at->range;
     return handle_result(env, made, antientropy_renew(&at->replica, &made->replica, limit));
 }
 
 /* migrate(Replica) -> ok */
 CALL(REPLICA, migrate)
 {
-    uint32_t number = antientropy_migrate(&at->replica);
-    if (number == ANTIENTROPY_OK)
-        at->range.format = 2;
-    return done(env, number);
+    return done(env, antientropy_migrate(&at->replica));
 }
 
-/* info(Replica) -> {ok, Info} */
-CALL(REPLICA, info)
+/* about(Replica) -> {ok, About} */
+CALL(REPLICA, about)
 {
-    struct antientropy_counts counts;
-    uint32_t number = antientropy_count(&at->replica, &counts);
+    struct antientropy_about about;
+    uint32_t number = antientropy_about(&at->replica, &about);
     if (number != ANTIENTROPY_OK)
         return refused(env, number);
-    const ERL_NIF_TERM keys[] = {atoms.format, atoms.bits, atoms.range};
-    const ERL_NIF_TERM values[] = {enif_make_uint64(env, at->range.format), enif_make_uint64(env, at->range.bits),
-                                   enif_make_uint64(env, at->range.number)};
-    return ok(env, make_map(env, 3, keys, values));
+    const ERL_NIF_TERM keys[] = {atoms.format, atoms.bits, atoms.range, atoms.entries};
+    const ERL_NIF_TERM values[] = {enif_make_uint64(env, about.format), enif_make_uint64(env, about.bits),
+                                   enif_make_uint64(env, about.range), enif_make_uint64(env, about.entries)};
+    return ok(env, make_map(env, 4, keys, values));
 }
 
 /* count(Replica) -> {ok, Counts} */

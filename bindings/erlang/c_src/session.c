@@ -132,3 +132,22 @@ CALL(REPLICA, cancel)
         return enif_make_badarg(env);
     return done(env, antientropy_cancel(&at->replica, session));
 }
+
+/* close_session(Replica, Session) -> ok. Cancels a session if it is open, and drops it with the others that have ended,
+ * before the lock is free. Another call may have dropped it already. */
+CALL(REPLICA, close_session)
+{
+    uint64_t session;
+    if (!get_u64(env, argv[1], &session))
+        return enif_make_badarg(env);
+    uint32_t number = antientropy_cancel(&at->replica, session);
+    if (number == ANTIENTROPY_OK || number == ANTIENTROPY_UNKNOWN_SESSION)
+        number = antientropy_drop_sessions(&at->replica);
+    return done(env, number);
+}
+
+/* drop_sessions(Replica) -> ok */
+CALL(REPLICA, drop_sessions)
+{
+    return done(env, antientropy_drop_sessions(&at->replica));
+}

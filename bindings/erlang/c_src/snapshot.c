@@ -5,13 +5,8 @@
 /* Makes a snapshot of the rows now, with the number of its entries. */
 static uint32_t fill(struct resource *made, struct resource *at)
 {
-    struct antientropy_counts counts;
-    uint32_t number = antientropy_count(&at->replica, &counts);
-    if (number != ANTIENTROPY_OK)
-        return number;
-    made->range = at->range;
-    made->range.entries = counts.entries;
-    return antientropy_snapshot(&at->replica, &made->snapshot);
+    uint32_t number = antientropy_about(&at->replica, &made->about);
+    return number == ANTIENTROPY_OK ? antientropy_snapshot(&at->replica, &made->snapshot) : number;
 }
 
 /* snapshot(Replica) -> {ok, Snapshot} */
@@ -26,7 +21,7 @@ CALL(REPLICA, snapshot)
 /* Makes another handle of the rows of a snapshot. */
 static uint32_t share(struct resource *made, struct resource *at)
 {
-    made->range = at->range;
+    made->about = at->about;
     return antientropy_snapshot_share(&at->snapshot, &made->snapshot);
 }
 
@@ -61,8 +56,8 @@ CALL(SNAPSHOT, snapshot_info)
     if (number != ANTIENTROPY_OK)
         return refused(env, number);
     const ERL_NIF_TERM keys[] = {atoms.format, atoms.bits, atoms.range, atoms.entries, atoms.root};
-    const ERL_NIF_TERM values[] = {enif_make_uint64(env, at->range.format), enif_make_uint64(env, at->range.bits),
-                                   enif_make_uint64(env, at->range.number), enif_make_uint64(env, at->range.entries),
+    const ERL_NIF_TERM values[] = {enif_make_uint64(env, at->about.format), enif_make_uint64(env, at->about.bits),
+                                   enif_make_uint64(env, at->about.range), enif_make_uint64(env, at->about.entries),
                                    make_bytes(env, root, sizeof root)};
     return ok(env, make_map(env, 5, keys, values));
 }

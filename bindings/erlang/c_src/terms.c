@@ -304,6 +304,12 @@ bool grows(struct room *room, uint32_t *number)
     return true;
 }
 
+void trim_room(struct room *room, uint32_t *number)
+{
+    if (*number == ANTIENTROPY_OK && room->at != room->few && !enif_realloc_binary(&room->many, room->need))
+        *number = ANTIENTROPY_NO_MEMORY;
+}
+
 ERL_NIF_TERM room_bytes(ErlNifEnv *env, struct room *room)
 {
     if (room->at == room->few)

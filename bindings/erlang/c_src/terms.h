@@ -15,6 +15,7 @@
     X(apart, "apart")                                                                                                  \
     X(before, "before")                                                                                                \
     X(bits, "bits")                                                                                                    \
+    X(bytes, "bytes")                                                                                                  \
     X(cancelled, "cancelled")                                                                                          \
     X(clock, "clock")                                                                                                  \
     X(copy, "copy")                                                                                                    \
@@ -30,6 +31,7 @@
     X(first, "first")                                                                                                  \
     X(format, "format")                                                                                                \
     X(free, "free")                                                                                                    \
+    X(from, "from")                                                                                                    \
     X(front, "front")                                                                                                  \
     X(hint, "hint")                                                                                                    \
     X(key, "key")                                                                                                      \
@@ -39,6 +41,7 @@
     X(limit, "limit")                                                                                                  \
     X(more, "more")                                                                                                    \
     X(new, "new")                                                                                                      \
+    X(next, "next")                                                                                                    \
     X(no, "false")                                                                                                     \
     X(none, "none")                                                                                                    \
     X(number, "number")                                                                                                \
@@ -165,6 +168,9 @@ void open_room(struct room *room);
 
 /* Returns true if a call found too little room: make it again. Without memory `number` becomes NO_MEMORY. */
 bool grows(struct room *room, uint32_t *number);
+
+/* Gives back the room that a call has left over. Without memory `number` becomes NO_MEMORY. */
+void trim_room(struct room *room, uint32_t *number);
 
 /* Returns the bytes as a binary. The room is used up. */
 ERL_NIF_TERM room_bytes(ErlNifEnv *env, struct room *room);

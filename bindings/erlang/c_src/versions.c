@@ -7,6 +7,9 @@
 /* Versions that are read in far less than a millisecond, even with the longest values. */
 enum { FEW_VERSIONS = 4 };
 
+/* Room for entries, if they don't fit in FEW_BYTES. */
+enum { ENTRIES_BYTES = 1 << 20 };
+
 /* Puts a version: after a read by the put that checks, or by the other one. */
 static ERL_NIF_TERM put_by(ErlNifEnv *env, struct resource *at, const ERL_NIF_TERM argv[], bool after_read)
 {
@@ -262,6 +265,37 @@ CALL(REPLICA, entry)
                                    make_clock(env, pairs, clock_len), room_value(env, &room, kind),
                                    source_atom(env, source)};
     return ok(env, make_map(env, 5, keys, values));
+}
+
+/* Returns entries from a number on, one after the other: all if they fit in FEW_BYTES, or as many as fit in
+ * ENTRIES_BYTES. packed_entries(Replica, From) -> {ok, Packed} */
+CALL(REPLICA, packed_entries)
+{
+    uint64_t from, next;
+    struct antientropy_about about;
+    struct room room;
+    if (!get_u64(env, argv[1], &from))
+        return enif_make_badarg(env);
+    uint32_t number = antientropy_about(&at->replica, &about);
+    if (number != ANTIENTROPY_OK)
+        return refused(env, number);
+    open_room(&room);
+    do {
+        number = antientropy_entries(&at->replica, from, room.at, room.len, &room.need, &next);
+        if (number == ANTIENTROPY_OK && next < about.entries && room.at == room.few)
+            number = ANTIENTROPY_SMALL;
+        if (number == ANTIENTROPY_SMALL && on_normal_scheduler())
+            return ELSEWHERE;
+        if (number == ANTIENTROPY_SMALL && room.need < ENTRIES_BYTES)
+            room.need = ENTRIES_BYTES;
+    } while (grows(&room, &number));
+    trim_room(&room, &number);
+    if (number != ANTIENTROPY_OK)
+        return room_result(env, &room, number);
+    const ERL_NIF_TERM keys[] = {atoms.format, atoms.from, atoms.next, atoms.bytes};
+    const ERL_NIF_TERM values[] = {enif_make_uint64(env, about.format), enif_make_uint64(env, from),
+                                   enif_make_uint64(env, next), room_bytes(env, &room)};
+    return ok(env, make_map(env, 4, keys, values));
 }
 
 /* top_counter(Replica, Node, Key, Entries) -> {ok, Counter} */

@@ -13,15 +13,16 @@
 -module(antientropy).
 
 -export([version/0, name/1, place/3, compare/2, merge/1, read_offer/1]).
--export([new/0, new/1, new_seeded/3, close/1, renew/1, renew/2, migrate/1, info/1, count/1]).
+-export([new/0, new/1, new_seeded/3, close/1, renew/1, renew/2, migrate/1, about/1, info/1, count/1]).
 -export([put/4, put/5, put_unread/5, accept/3, get/2, read/3, count_versions/2, value/3, clock/3, row/2]).
 -export([key_after/3, keys/1, keys/2, fold_keys/3, entry/2, entries/2, fold_entries/4, top_counter/3, top_counter/4]).
+-export([packed_entries/2, unpack_entries/1]).
 -export([root/1, snapshot/1, snapshot/2, load_rows/2, load_format/3, save/2, load/1, load/2]).
 -export([hold/1, hash_moment/2, moment/1, drop_moment/1, rehash/1, rehash_some/2]).
--export([open/3, open/4, open_at_moment/3, sync/4, sync/5]).
+-export([open/3, open/4, open_at_moment/3, drop_sessions/1, sync/4, sync/5]).
 
 -export_type([replica/0, options/0, clock/0, clock_like/0, value/0, value_like/0, version/0, version_like/0]).
--export_type([entry/0, order/0, refused/0]).
+-export_type([entry/0, packed/0, order/0, refused/0]).
 
 -define(OPTIONS, #{format => 2, bits => 0, range => 0, limit => 1000000}).
 -define(LIMIT, 1000000).
@@ -49,6 +50,11 @@
     value := value(),
     source := put | copy | hint | partner
 }.
+-type packed() :: #{
+    format := 1 | 2, from := non_neg_integer(), next := non_neg_integer(), bytes := binary()
+}.
+%% Packed entries, without a gap (docs/FORMATS.md): their format, the number of the first one and that after the last
+%% one, and their texts.
 -type order() :: before | 'after' | equal | apart.
 -type refused() :: {error, Name :: atom()}.
 
@@ -138,8 +144,10 @@ renew(Replica) ->
 
 %% @doc Makes a new replica with the versions that are held: one entry for each, and no sessions.
 %%
-%% The old one is left unchanged: close it, and go on with the new one under the same node number. Refused: `bad_ring'
-%% (the limit), `journal_full' (more versions are held than the limit).
+%% The old one is left unchanged: close it, and go on with the new one under the same node number. The numbers of
+%% entries go on: both replicas count as many entries, and the next one gets a number that was never used. So a log goes
+%% on at its position if it has all entries of the old one. Refused: `bad_ring' (the limit), `journal_full' (more
+%% versions are held than the limit, or no numbers are left).
 -spec renew(replica(), Limit :: pos_integer()) -> {ok, replica()} | refused().
 renew(Replica, Limit) ->
     antientropy_nif:renew(Replica, Limit).
@@ -149,15 +157,29 @@ renew(Replica, Limit) ->
 migrate(Replica) ->
     antientropy_nif:migrate(Replica).
 
-%% @doc Returns the format, the bits of the ring, and the range.
+%% @doc Returns the format, the bits of the ring, the range, and the number of entries: what a checkpoint or a log has
+%% to name.
+-spec about(replica()) -> {ok, About} | refused() when
+    About :: #{
+        format := 1 | 2, bits := non_neg_integer(), range := non_neg_integer(), entries := non_neg_integer()
+    }.
+about(Replica) ->
+    antientropy_nif:about(Replica).
+
+%% @doc Returns what {@link about/1} does, without the number of entries.
 -spec info(replica()) -> {ok, Info} | refused() when
     Info :: #{format := 1 | 2, bits := non_neg_integer(), range := non_neg_integer()}.
 info(Replica) ->
-    antientropy_nif:info(Replica).
+    case about(Replica) of
+        {ok, About} -> {ok, maps:remove(entries, About)};
+        Refused -> Refused
+    end.
 
 %% @doc Returns the counts of entries, dirty nodes and sessions.
 %%
-%% `front' is the number of entries at the last moment that was whole: 0 if there was none. `first' is 0.
+%% `entries' is the number of the next entry, over all renewals, and `first' that of the journal's first one: the
+%% journal is full when `entries' less `first' reaches `limit'. `front' is `entries' at the last moment that was whole,
+%% or `first' if there was none since a renewal. `sessions' are those that are kept: see {@link drop_sessions/1}.
 -spec count(replica()) -> {ok, Counts} | refused() when
     Counts :: #{
         entries := non_neg_integer(),
@@ -264,7 +286,7 @@ keys(Replica, Leaf) ->
 fold_keys(Fun, Acc, Replica) ->
     antientropy_keys:fold(Fun, Acc, fun key_after/3, Replica).
 
-%% @doc Returns an entry of the journal, by its number from 0. Refused: `no_version'.
+%% @doc Returns an entry of the journal, by its number. Refused: `no_version'.
 -spec entry(replica(), Number :: non_neg_integer()) -> {ok, entry()} | refused().
 entry(Replica, Number) ->
     antientropy_nif:entry(Replica, Number).
@@ -274,24 +296,25 @@ entry(Replica, Number) ->
 entries(Replica, From) ->
     reversed(fold_entries(fun prepend/2, [], Replica, From)).
 
-%% @doc Folds over the entries of the journal, from a number on. Entries are never changed.
-%%
-%% Refused: `no_version' (the number is over that of entries, so it is one of a journal before a renewal). That finds
-%% only some old numbers, since a renewal numbers the entries anew: begin at its count of entries.
+%% @doc Folds over the entries of the journal, from a number on: those that {@link packed_entries/2} returns.
 -spec fold_entries(fun((entry(), Acc) -> Acc), Acc, replica(), From :: non_neg_integer()) -> {ok, Acc} | refused().
 fold_entries(Fun, Acc, Replica, From) ->
-    case count(Replica) of
-        {ok, #{entries := Entries}} when is_integer(From), From > Entries -> {error, no_version};
-        {ok, _} -> fold_entries_on(Fun, Acc, Replica, From);
-        Refused -> Refused
-    end.
+    antientropy_entries:fold(Fun, Acc, Replica, From).
 
-fold_entries_on(Fun, Acc, Replica, From) ->
-    case entry(Replica, From) of
-        {ok, Entry} -> fold_entries_on(Fun, Fun(Entry, Acc), Replica, From + 1);
-        {error, no_version} -> {ok, Acc};
-        Refused -> Refused
-    end.
+%% @doc Returns packed entries, from a number on: as many as fit in 1 MiB, and none if none is left. Go on at `next'.
+%%
+%% A log reads from its position, the number of entries that it has, and lacks none after a renewal. Refused:
+%% `bad_position' (the number is over that of entries; or it is below the number of entries at the last renewal, and
+%% isn't `first' of {@link count/1}: read from `first' then, which gives all versions that are held, and the entries
+%% since).
+-spec packed_entries(replica(), From :: non_neg_integer()) -> {ok, packed()} | refused().
+packed_entries(Replica, From) ->
+    antientropy_nif:packed_entries(Replica, From).
+
+%% @doc Returns the entries in what {@link packed_entries/2} returned. Bytes that aren't entries are `badarg'.
+-spec unpack_entries(packed()) -> [entry()].
+unpack_entries(Packed) ->
+    antientropy_entries:unpack(Packed).
 
 %% @doc Returns the greatest counter of a node in the clocks of the versions of a key, of all entries: see {@link
 %% top_counter/4}.
@@ -299,9 +322,9 @@ fold_entries_on(Fun, Acc, Replica, From) ->
 top_counter(Replica, Node, Key) ->
     top_counter(Replica, Node, Key, ?ALL).
 
-%% @doc Returns the greatest counter of a node in the clocks of the versions of a key, of the first entries, or 0.
+%% @doc Returns the greatest counter of a node in the clocks of the versions of a key, or 0.
 %%
-%% Refused: `bad_clock' (the node is 0 or over 65,535).
+%% It looks at the journal's entries of numbers below `Entries'. Refused: `bad_clock' (the node is 0 or over 65,535).
 -spec top_counter(replica(), Node :: non_neg_integer(), Key :: binary(), Entries :: non_neg_integer()) ->
     {ok, non_neg_integer()} | refused().
 top_counter(Replica, Node, Key, Entries) ->
@@ -372,7 +395,8 @@ load_rows(Replica, Rows) ->
 load_format(Replica, Format, Rows) ->
     antientropy_nif:load_format(Replica, Format, Rows).
 
-%% @doc Writes a checkpoint of the rows now (docs/FORMATS.md), and returns the number of entries that it covers.
+%% @doc Writes a checkpoint of the rows now (docs/FORMATS.md), and returns the number of entries that it covers: the
+%% position of a log that goes on from it.
 %%
 %% It makes a snapshot, as {@link snapshot/1} does, so other processes may put meanwhile. The file is open for writing
 %% in mode `binary'; the caller brings it to its disk.
@@ -404,8 +428,8 @@ load(File) ->
 
 %% @doc Makes a replica with the rows of a checkpoint. The file is open for reading in mode `binary'.
 %%
-%% The root finds damage, but no forged file. Check {@link info/1} against the configuration. Refused: `bad_ring' (the
-%% limit, or the bits and the range of the file), `journal_full'.
+%% Its entries are numbered from 0, leaf by leaf. The root finds damage, but no forged file. Check {@link info/1}
+%% against the configuration. Refused: `bad_ring' (the limit, or the bits and the range of the file), `journal_full'.
 -spec load(file:io_device(), Limit :: pos_integer()) ->
     {ok, replica()} | refused() | antientropy_checkpoint:failed().
 load(File, Limit) ->
@@ -461,8 +485,9 @@ rehash_some(Replica, Most) ->
 %% @doc Opens a session with a partner's offer: see {@link antientropy_session}.
 %%
 %% It compares the rows of a moment, which it holds and hashes as {@link snapshot/1} does. So it may ask for leaves that
-%% differ only because the replica has gone on. A session is never freed before its replica, so compare roots first.
-%% Refused: `bad_clock' (the partner is over 65,535), `bad_message', `other_format', `other_range', `sessions_full'.
+%% differ only because the replica has gone on. A session is kept until {@link drop_sessions/1}, so compare roots first.
+%% Refused: `bad_clock' (the partner is over 65,535), `bad_message', `other_format', `other_range', `sessions_full' (64
+%% sessions are open, or 1,024 are kept).
 -spec open(replica(), Partner :: non_neg_integer(), Offer :: iodata()) ->
     {ok, antientropy_session:session()} | refused().
 open(Replica, Partner, Offer) ->
@@ -490,6 +515,14 @@ open_at_moment(Replica, Partner, Offer) ->
 opened({ok, Number}, Replica, Offer) -> {ok, antientropy_session:of_number(Replica, Offer, Number)};
 opened(Refused, _, _) -> Refused.
 
+%% @doc Drops the sessions that have ended, and all that they keep: rows that later puts have changed, and texts.
+%%
+%% {@link sync/4} does so at its end: call it after a session of {@link open/3}. Open sessions are unchanged. Calls of
+%% one that was dropped are refused as `unknown_session'. Entries of the source `partner' have the source `copy' then.
+-spec drop_sessions(replica()) -> ok | refused().
+drop_sessions(Replica) ->
+    antientropy_nif:drop_sessions(Replica).
+
 %% @doc Syncs with 256 asks at once and at most 8 bad answers: see {@link sync/5}.
 -spec sync(replica(), Partner :: non_neg_integer(), Offer :: iodata(), antientropy_sync:reach()) ->
     {ok, antientropy_sync:synced()} | refused().
@@ -500,8 +533,9 @@ sync(Replica, Partner, Offer, Reach) ->
 %%
 %% It compares a moment with the offer, as {@link open/3} does, so other processes may put meanwhile. `Reach' sends at
 %% most `in_flight' asks to the partner, and returns the answers in their order. After more than `most_bad' bad or
-%% missing answers the sync ends unfinished. A leaf with a crowded key is left. Refused: what {@link open/3} refuses,
-%% `not_canonical', `journal_full'.
+%% missing answers the sync ends unfinished. A leaf with a crowded key is left. At its end, also if it is refused or
+%% `Reach' raises an exception, it cancels its session and calls {@link drop_sessions/1}. Refused: what {@link open/3}
+%% refuses, `not_canonical', `journal_full'.
 -spec sync(replica(), Partner :: non_neg_integer(), Offer :: iodata(), antientropy_sync:reach(), Bounds) ->
     {ok, antientropy_sync:synced()} | refused() when
     Bounds :: #{in_flight => pos_integer(), most_bad => non_neg_integer()}.

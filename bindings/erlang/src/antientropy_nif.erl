@@ -5,13 +5,14 @@
 
 -export([
     version/0, name/1, place/3, compare/2, merge/2, read_offer/1, new/4, new_seeded/6, close/1, renew/2, migrate/1,
-    info/1, count/1, rehash/1, rehash_some/2, hold/1, drop_moment/1, hash_moment/2, moment/1, snapshot_of_moment/3,
+    about/1, count/1, rehash/1, rehash_some/2, hold/1, drop_moment/1, hash_moment/2, moment/1, snapshot_of_moment/3,
     open_at_moment/3, open_of_moment/6, load_rows/2, load_format/3, put/5, put_unread/5, accept/3, get/2, read/3,
-    count_versions/2, value/3, clock/3, row/2, key_after/3, entry/2, top_counter/4, snapshot/1, snapshot_share/1,
-    snapshot_close/1, snapshot_info/1, snapshot_row/2, snapshot_key_after/3, root/1, digest/3, offer/2, serve/3, rows/2,
-    open/3, session/2, outstanding/2, ask/3, ask_at/4, asks/3, take/4, cancel/2, hints_new/0, hints_restore/1,
-    hints_close/1, hint_keep/4, hint_next/3, hint/2, hint_confirm/3, hints_renew/1, hints_count/1, slots_new/3,
-    slots_close/1, slot_lend/1, slot_give_back/1, slots_sample/3, slots_adjust/2, slots_set_target/2, slots_count/1
+    count_versions/2, value/3, clock/3, row/2, key_after/3, entry/2, packed_entries/2, top_counter/4, snapshot/1,
+    snapshot_share/1, snapshot_close/1, snapshot_info/1, snapshot_row/2, snapshot_key_after/3, root/1, digest/3,
+    offer/2, serve/3, rows/2, open/3, session/2, outstanding/2, ask/3, ask_at/4, asks/3, take/4, cancel/2,
+    close_session/2, drop_sessions/1, hints_new/0, hints_restore/1, hints_close/1, hint_keep/4, hint_next/3, hint/2,
+    hint_confirm/3, hints_renew/1, hints_count/1, slots_new/3, slots_close/1, slot_lend/1, slot_give_back/1,
+    slots_sample/3, slots_adjust/2, slots_set_target/2, slots_count/1
 ]).
 
 -define(NOT_LOADED, erlang:nif_error(not_loaded)).
@@ -33,7 +34,7 @@ new_seeded(_Format, _Bits, _Range, _Limit, _First, _Second) -> ?NOT_LOADED.
 close(_Replica) -> ?NOT_LOADED.
 renew(_Replica, _Limit) -> ?NOT_LOADED.
 migrate(_Replica) -> ?NOT_LOADED.
-info(_Replica) -> ?NOT_LOADED.
+about(_Replica) -> ?NOT_LOADED.
 count(_Replica) -> ?NOT_LOADED.
 rehash(_Replica) -> ?NOT_LOADED.
 rehash_some(_Replica, _Most) -> ?NOT_LOADED.
@@ -57,6 +58,7 @@ clock(_Replica, _Key, _Index) -> ?NOT_LOADED.
 row(_Replica, _Key) -> ?NOT_LOADED.
 key_after(_Replica, _Leaf, _Key) -> ?NOT_LOADED.
 entry(_Replica, _Number) -> ?NOT_LOADED.
+packed_entries(_Replica, _From) -> ?NOT_LOADED.
 top_counter(_Replica, _Node, _Key, _Entries) -> ?NOT_LOADED.
 snapshot(_Replica) -> ?NOT_LOADED.
 snapshot_share(_Snapshot) -> ?NOT_LOADED.
@@ -77,6 +79,8 @@ ask_at(_Replica, _Session, _Place, _Number) -> ?NOT_LOADED.
 asks(_Replica, _Session, _Number) -> ?NOT_LOADED.
 take(_Replica, _Session, _Number, _Answer) -> ?NOT_LOADED.
 cancel(_Replica, _Session) -> ?NOT_LOADED.
+close_session(_Replica, _Session) -> ?NOT_LOADED.
+drop_sessions(_Replica) -> ?NOT_LOADED.
 hints_new() -> ?NOT_LOADED.
 hints_restore(_First) -> ?NOT_LOADED.
 hints_close(_Hints) -> ?NOT_LOADED.

@@ -1,9 +1,11 @@
 %% @doc A session of a replica with a partner's offer. Its calls are calls of the replica.
 %%
-%% {@link antientropy:sync/4} makes all calls of a session. Cancel a session that isn't finished: at most 64 are open.
+%% {@link antientropy:sync/4} makes all calls of a session. Cancel a session that isn't finished: at most 64 are open. A
+%% session that has ended is kept until {@link antientropy:drop_sessions/1}. After that its calls are refused as
+%% `unknown_session'. A sync drops the ended sessions of others too.
 -module(antientropy_session).
 
--export([of_number/3, state/1, outstanding/1, ask/1, ask_at/2, asks/1, take/2, cancel/1]).
+-export([of_number/3, state/1, outstanding/1, ask/1, ask_at/2, asks/1, take/2, cancel/1, close/1]).
 
 -export_type([session/0, state/0, taken/0]).
 
@@ -64,3 +66,9 @@ take(#session{replica = Replica, number = Number, offer = Offer}, Answer) ->
 -spec cancel(session()) -> ok | antientropy:refused().
 cancel(#session{replica = Replica, number = Number}) ->
     antientropy_nif:cancel(Replica, Number).
+
+%% @private
+%% @doc Cancels a session if it is open, and drops it and the others that have ended, in one call of the replica.
+-spec close(session()) -> ok | antientropy:refused().
+close(#session{replica = Replica, number = Number}) ->
+    antientropy_nif:close_session(Replica, Number).

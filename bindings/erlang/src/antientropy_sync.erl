@@ -30,7 +30,9 @@
     known = 0 :: non_neg_integer(),
     asks = 0 :: non_neg_integer(),
     bad = 0 :: non_neg_integer(),
-    crowded = [] :: [binary()]
+    crowded = [] :: [binary()],
+    %% The state after the last answer. Once the session has ended, others may drop it.
+    state = open :: antientropy_session:state()
 }).
 
 %% @private
@@ -53,45 +55,49 @@ sync(Replica, Partner, Offer, Reach, #{in_flight := InFlight, most_bad := MostBa
 sync(_, _, _, _, _) ->
     error(badarg).
 
-%% Runs a sync, and cancels the session if it is still open.
+%% Runs a sync, cancels the session if it is still open, and drops it.
 run_to_end(#run{session = Session} = Begun) ->
     try run(Begun) of
-        {ok, Run} -> result(Run);
+        {ok, Run} -> {ok, result(Run)};
         Refused -> Refused
     after
-        antientropy_session:cancel(Session)
+        antientropy_session:close(Session)
     end.
 
-result(#run{session = Session} = Run) ->
-    ok = antientropy_session:cancel(Session),
-    {ok, State} = antientropy_session:state(Session),
-    #run{accepted = Accepted, known = Known, asks = Asks, bad = Bad, crowded = Crowded} = Run,
-    {ok, #{
+result(#run{accepted = Accepted, known = Known, asks = Asks, bad = Bad, crowded = Crowded, state = State}) ->
+    #{
         accepted => Accepted,
         known => Known,
         asks => Asks,
         bad => Bad,
         crowded => lists:reverse(Crowded),
-        state => State
-    }}.
+        state => closed(State)
+    }.
+
+closed(open) -> cancelled;
+closed(Ended) -> Ended.
 
 %% Asks for all outstanding nodes, again and again, until none is left that may be taken.
-run(Run) ->
+run(#run{state = open} = Run) ->
     case open_asks(Run) of
         {ok, []} -> {ok, Run};
         {ok, Asks} -> continue(exchange(Asks, Run), fun run/1);
         Refused -> Refused
-    end.
+    end;
+run(Run) ->
+    {ok, Run}.
 
 continue({ok, Run}, Next) -> Next(Run);
 continue(Refused, _) -> Refused.
 
-%% Returns the asks for the nodes that may still be taken: none after too many bad answers.
+%% Returns the asks for the nodes that may still be taken: none after too many bad answers, or if a migration has ended
+%% the session, and maybe another process has dropped it then.
 open_asks(#run{bad = Bad, most_bad = MostBad}) when Bad > MostBad ->
     {ok, []};
 open_asks(#run{session = Session, crowded = Crowded}) ->
     case antientropy_session:asks(Session) of
         {ok, Asks} -> {ok, [Ask || Ask <- Asks, not lists:member(Ask, Crowded)]};
+        {error, unknown_session} -> {ok, []};
         Refused -> Refused
     end.
 
@@ -119,11 +125,11 @@ take([Ask | Asks], [{ok, Answer} | Answers], Run) ->
 take_one(Ask, Answer, #run{session = Session} = Run) ->
     #run{accepted = Accepted, known = Known, bad = Bad, crowded = Crowded} = Run,
     case antientropy_session:take(Session, Answer) of
-        {ok, #{accepted := More, known := MoreKnown}} ->
-            {ok, Run#run{accepted = Accepted + More, known = Known + MoreKnown}};
+        {ok, #{accepted := More, known := MoreKnown, state := State}} ->
+            {ok, Run#run{accepted = Accepted + More, known = Known + MoreKnown, state = State}};
         {error, crowded} ->
             {ok, Run#run{crowded = [Ask | Crowded]}};
-        {error, Name} when Name =:= bad_message; Name =:= not_asked; Name =:= wrong_digest ->
+        {error, Name} when Name =:= bad_message; Name =:= not_asked; Name =:= wrong_digest; Name =:= unknown_session ->
             {ok, Run#run{bad = Bad + 1}};
         Refused ->
             Refused

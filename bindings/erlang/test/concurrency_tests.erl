@@ -143,6 +143,7 @@ long_texts_go_elsewhere() ->
     Answer = last_answer(Session, Snapshot),
     {ok, _} = elsewhere(fun() -> antientropy:get(Replica, <<"great">>) end),
     {ok, Row} = elsewhere(fun() -> antientropy:row(Replica, <<"great">>) end),
+    {ok, #{next := 15}} = elsewhere(fun() -> antientropy:packed_entries(Replica, 0) end),
     {ok, Row} = elsewhere(fun() -> antientropy_snapshot:rows(Snapshot, Leaf) end),
     {ok, Row} = elsewhere(fun() -> antientropy_snapshot:row(Snapshot, <<"great">>) end),
     {ok, Answer} = elsewhere(fun() -> antientropy_snapshot:serve(Snapshot, 1, <<2, 1:32, 3, Leaf:16>>) end),

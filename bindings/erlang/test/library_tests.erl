@@ -11,8 +11,8 @@ version_test() ->
 
 name_test() ->
     ?assertEqual(
-        [bad_clock, bad_key, stale_context, no_memory, no_version],
-        [antientropy:name(Number) || Number <- [1, 4, 6, 32, 36]]
+        [bad_clock, bad_key, stale_context, no_memory, no_version, bad_position],
+        [antientropy:name(Number) || Number <- [1, 4, 6, 32, 36, 37]]
     ),
     ?assertEqual([undefined, undefined], [antientropy:name(Number) || Number <- [255, 1 bsl 32 - 1]]).
 

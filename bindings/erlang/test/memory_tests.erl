@@ -48,6 +48,7 @@ results_test_() ->
         {ok, _} = antientropy:value(Replica, <<"k">>, 0),
         {ok, _} = antientropy:row(Replica, <<"k">>),
         {ok, _} = antientropy:entry(Replica, 0),
+        {ok, _} = antientropy:packed_entries(Replica, 0),
         {ok, _} = antientropy_snapshot:rows(Snapshot, Leaf),
         {ok, _} = antientropy_snapshot:row(Snapshot, <<"k">>),
         {ok, _} = antientropy_snapshot:serve(Snapshot, 1, <<2, 1:32, 3, Leaf:16>>)

@@ -24,6 +24,7 @@ refusals_test_() ->
             fun row_broken/1,
             fun bad_message/1,
             fun no_version/1,
+            fun bad_position/1,
             fun empty/1,
             fun wrong_types/1,
             fun long_values/1,
@@ -150,9 +151,23 @@ no_version(Replica) ->
     refused(no_version, Replica, value, [Replica, <<"k">>, 1]),
     refused(no_version, Replica, clock, [Replica, <<"k">>, 1]),
     refused(no_version, Replica, entry, [Replica, 1]),
-    refused(no_version, Replica, entries, [Replica, 2]),
     {ok, #{leaf := Leaf}} = antientropy:place(2, 0, <<"k">>),
     refused(no_version, Replica, key_after, [Replica, Leaf, <<"k">>]).
+
+%% Numbers over the count, and those before the last renewal but for that of the first entry.
+bad_position(Replica) ->
+    {ok, #{counter := 2}} = antientropy:put(Replica, 1, <<"k">>, <<"w">>, #{1 => 1}),
+    {ok, new} = antientropy:accept(Replica, <<"k">>, live(#{2 => 1}, <<"other">>)),
+    {ok, Renewed} = antientropy:renew(Replica),
+    {ok, _} = antientropy:put(Renewed, 1, <<"other">>, <<>>),
+    [
+        begin
+            refused(bad_position, Of, entries, [Of, From]),
+            refused(bad_position, Of, packed_entries, [Of, From])
+        end
+     || {Of, From} <- [{Replica, 4}, {Renewed, 0}, {Renewed, 2}, {Renewed, 5}, {Renewed, 1 bsl 64 - 1}]
+    ],
+    [{ok, _} = antientropy:entries(Renewed, From) || From <- [1, 3, 4]].
 
 empty(Replica) ->
     ok = antientropy:close(Replica),
@@ -175,6 +190,8 @@ empty(Replica) ->
             {keys, [0]},
             {entry, [0]},
             {entries, [0]},
+            {packed_entries, [0]},
+            {about, []},
             {info, []},
             {count, []},
             {rehash, []},
@@ -194,6 +211,7 @@ empty(Replica) ->
             {open, [1, <<>>]},
             {open, [1, <<>>, #{rehash => false}]},
             {open_at_moment, [1, <<>>]},
+            {drop_sessions, []},
             {sync, [1, <<>>, fun(_) -> [] end]}
         ]
     ].
@@ -231,6 +249,11 @@ wrong_types(Replica) ->
             {hash_moment, [Replica, none]},
             {sync, [Replica, 1, <<>>, none]},
             {entries, [Replica, none]},
+            {entries, [Replica, -1]},
+            {packed_entries, [Replica, none]},
+            {unpack_entries, [#{}]},
+            {unpack_entries, [#{format => 3, from => 0, next => 0, bytes => <<>>}]},
+            {unpack_entries, [#{format => 2, from => 0, next => 1, bytes => <<0, 1:16, "k">>}]},
             {load_rows, [Replica, none]}
         ]
     ],

@@ -125,14 +125,57 @@ entries_test() ->
     ?assertEqual({ok, 3}, antientropy:top_counter(Replica, 2, <<"b">>)),
     ?assertEqual({ok, 0}, antientropy:top_counter(Replica, 2, <<"b">>, 1)).
 
-entries_from_before_a_renewal_test() ->
+%% The example of docs/FORMATS.md. An entry of format 1 has no kind.
+packed_entries_test() ->
+    [
+        begin
+            Replica = replica(#{format => Format}),
+            {ok, _} = antientropy:put(Replica, 1, <<"a">>, <<"x">>),
+            {ok, new} = antientropy:accept(Replica, <<"b">>, live(#{2 => 3, 65_535 => 1}, <<>>)),
+            {ok, #{bytes := Bytes} = Packed} = antientropy:packed_entries(Replica, 0),
+            ?assertMatch(#{format := Format, from := 0, next := 2}, Packed),
+            Length = byte_size(Text),
+            ?assertMatch(<<Text:Length/binary, _/binary>>, support:hex(Bytes)),
+            ?assertEqual(antientropy:entries(Replica, 0), {ok, antientropy:unpack_entries(Packed)}),
+            [_, Second] = antientropy:unpack_entries(Packed),
+            ?assertMatch(#{number := 1, source := copy, clock := #{2 := 3, 65_535 := 1}}, Second),
+            None = #{format => Format, from => 2, next => 2, bytes => <<>>},
+            ?assertEqual({ok, None}, antientropy:packed_entries(Replica, 2)),
+            ?assertEqual([], antientropy:unpack_entries(None))
+        end
+     || {Format, Text} <- [
+            {1, <<"00000161000101000100000000000000010000000178">>},
+            {2, <<"0000016100010001000100000000000000010000000178">>}
+        ]
+    ].
+
+%% Entries that don't fit into the room of one call.
+many_entries_test() ->
+    Replica = replica(),
+    Values = [binary:copy(<<Number>>, 65_536) || Number <- lists:seq(1, 40)],
+    [{ok, _} = antientropy:put(Replica, 1, <<"k", Number>>, Value) || <<Number, _/binary>> = Value <- Values],
+    {ok, Entries} = antientropy:entries(Replica, 0),
+    ?assertEqual(Values, [Value || #{value := Value} <- Entries]),
+    ?assertEqual(lists:seq(0, 39), [Number || #{number := Number} <- Entries]),
+    {ok, #{next := Next, bytes := Bytes}} = antientropy:packed_entries(Replica, 0),
+    ?assertEqual({15, true}, {Next, byte_size(Bytes) =< 1 bsl 20}).
+
+%% A log that reads on at its position has all entries, whatever is renewed between.
+position_test() ->
     Replica = replica(),
     Contexts = [#{} | [#{1 => Counter} || Counter <- lists:seq(1, 199)]],
     [{ok, _} = antientropy:put(Replica, 1, <<"cart">>, <<"milk">>, Context) || Context <- Contexts],
+    {ok, #{next := 200}} = antientropy:packed_entries(Replica, 0),
     {ok, Renewed} = antientropy:renew(Replica),
-    {ok, _} = antientropy:put(Renewed, 1, <<"gift">>, <<"wrapped">>),
-    ?assertEqual({error, no_version}, antientropy:entries(Renewed, 200)),
-    ?assertMatch({ok, [#{key := <<"gift">>}]}, antientropy:entries(Renewed, 1)).
+    ?assertMatch({ok, [#{number := 199, key := <<"cart">>, source := copy}]}, antientropy:entries(Renewed, 199)),
+    ?assertEqual({ok, []}, antientropy:entries(Renewed, 200)),
+    {ok, #{number := 200}} = antientropy:put(Renewed, 1, <<"gift">>, <<"wrapped">>),
+    ?assertMatch({ok, [#{number := 200, key := <<"gift">>, source := put}]}, antientropy:entries(Renewed, 200)),
+    {ok, Again} = antientropy:renew(Renewed),
+    {ok, #{number := 201}} = antientropy:put(Again, 1, <<"tea">>, <<"green">>),
+    ?assertMatch({ok, [#{number := 201, key := <<"tea">>}]}, antientropy:entries(Again, 201)),
+    ?assertMatch({ok, #{entries := 202, first := 199}}, antientropy:count(Again)),
+    ?assertEqual({ok, 3}, antientropy:fold_entries(fun(_, Count) -> Count + 1 end, 0, Again, 199)).
 
 two_clients_test() ->
     Replica = replica(),
@@ -181,9 +224,9 @@ renew_test() ->
     {ok, _} = antientropy:put(Replica, 1, <<"a">>, <<"x">>),
     {ok, _} = antientropy:put(Replica, 1, <<"a">>, <<"y">>, #{1 => 1}),
     {ok, Renewed} = antientropy:renew(Replica, 5),
-    ?assertMatch({ok, #{entries := 1, limit := 5}}, antientropy:count(Renewed)),
+    ?assertMatch({ok, #{entries := 2, first := 1, front := 1, limit := 5}}, antientropy:count(Renewed)),
     ?assertEqual(antientropy:root(Replica), antientropy:root(Renewed)),
-    ?assertEqual({ok, #{format => 2, bits => 0, range => 0}}, antientropy:info(Renewed)),
+    ?assertEqual({ok, #{format => 2, bits => 0, range => 0, entries => 2}}, antientropy:about(Renewed)),
     {ok, Large} = antientropy:renew(Renewed),
     ?assertMatch({ok, #{limit := 1_000_000}}, antientropy:count(Large)).
 

@@ -22,6 +22,7 @@ sessions_test_() ->
             fun shared_snapshot/1,
             fun session/1,
             fun session_is_cancelled/1,
+            fun sessions_are_dropped/1,
             fun gone_and_bad_message/1,
             fun not_asked_and_wrong_digest/1,
             fun not_canonical/1,
@@ -134,6 +135,23 @@ session_is_cancelled(Pair) ->
     ok = antientropy_session:cancel(Session),
     ?assertEqual({ok, cancelled}, antientropy_session:state(Session)),
     ?assertEqual({ok, 0}, antientropy_session:outstanding(Session)).
+
+%% An open session keeps its number. That of a dropped one is never used again, also after a renewal.
+sessions_are_dropped(#pair{b = B, offer = Offer} = Pair) ->
+    [First, Second, Third] = [open(Pair) || _ <- [first, second, third]],
+    ?assertEqual(50, take_all(Pair, Second, 0)),
+    ok = antientropy_session:cancel(Third),
+    ok = antientropy:drop_sessions(B),
+    ?assertMatch({ok, #{sessions := 1, open_sessions := 1}}, antientropy:count(B)),
+    [?assertEqual({error, unknown_session}, antientropy_session:state(Dropped)) || Dropped <- [Second, Third]],
+    {ok, Entries} = antientropy:entries(B, 0),
+    ?assertEqual([copy], lists:usort([Source || #{source := Source} <- Entries])),
+    ?assertEqual(0, take_all(Pair, First, 0)),
+    ?assertEqual({ok, finished}, antientropy_session:state(First)),
+    ok = antientropy:drop_sessions(B),
+    {ok, Renewed} = antientropy:renew(B),
+    {ok, Session} = antientropy:open(Renewed, 1, Offer),
+    ?assertEqual(3, element(3, Session)).
 
 gone_and_bad_message(#pair{a = A, b = B, snapshot = Snapshot} = Pair) ->
     Session = open(Pair),

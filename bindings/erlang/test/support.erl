@@ -48,7 +48,9 @@ key(Number) ->
 %% @doc Returns all that a replica holds.
 state(Replica) ->
     {ok, Keys} = antientropy:keys(Replica),
-    {antientropy:count(Replica), antientropy:entries(Replica, 0), [antientropy:row(Replica, Key) || Key <- Keys]}.
+    {ok, #{first := First} = Counts} = antientropy:count(Replica),
+    {ok, Entries} = antientropy:entries(Replica, First),
+    {Counts, Entries, [antientropy:row(Replica, Key) || Key <- Keys]}.
 
 %% @doc A call is refused by a cause, and leaves a replica unchanged.
 refused(Name, Replica, Call) ->

@@ -21,7 +21,10 @@ syncs_test_() ->
             fun crowded_leaf_is_left/1,
             fun journal_full/1,
             fun bounds/1,
-            fun both_ways/1
+            fun both_ways/1,
+            fun forty_syncs/1,
+            fun syncs_at_once/1,
+            fun migration_meanwhile/1
         ]
     ]}.
 
@@ -60,7 +63,7 @@ equal_roots({_, B} = Pair) ->
     sync(Pair),
     Nothing = #{accepted => 0, known => 0, asks => 0, bad => 0, crowded => [], state => finished},
     ?assertEqual({{ok, Nothing}, []}, sync(Pair)),
-    ?assertMatch({ok, #{sessions := 1, open_sessions := 0}}, antientropy:count(B)).
+    ?assertMatch({ok, #{sessions := 0, open_sessions := 0}}, antientropy:count(B)).
 
 %% The roots of empty replicas are equal, whatever their format and range.
 empty_ranges(_) ->
@@ -99,7 +102,7 @@ a_link_that_loses(Pair) ->
 
 a_link_that_fails({_, B} = Pair) ->
     ?assertExit(noconnection, sync(Pair, fun(_) -> exit(noconnection) end)),
-    ?assertMatch({ok, #{sessions := 1, open_sessions := 0}}, antientropy:count(B)).
+    ?assertMatch({ok, #{sessions := 0, open_sessions := 0}}, antientropy:count(B)).
 
 crowded_leaf_is_left({A, B} = Pair) ->
     support:crowd(A, <<"crowded">>),
@@ -113,7 +116,7 @@ crowded_leaf_is_left({A, B} = Pair) ->
 journal_full({A, _}) ->
     Small = replica(#{limit => 10}),
     ?assertMatch({{error, journal_full}, _}, sync({A, Small})),
-    ?assertMatch({ok, #{open_sessions := 0}}, antientropy:count(Small)).
+    ?assertMatch({ok, #{sessions := 0, open_sessions := 0}}, antientropy:count(Small)).
 
 bounds({_, B} = Pair) ->
     [
@@ -127,3 +130,49 @@ both_ways({A, B}) ->
     ?assertMatch(#{accepted := 300}, support:sync(B, A)),
     ?assertMatch(#{accepted := 1}, support:sync(A, B)),
     ?assertEqual(antientropy:root(A), antientropy:root(B)).
+
+%% A sync drops its session, also if it was cancelled.
+forty_syncs({A, B} = Pair) ->
+    [
+        begin
+            {ok, _} = antientropy:put(A, 1, <<"more", Number>>, <<"value">>),
+            ?assertMatch({{ok, #{state := cancelled}}, _}, sync(Pair, fun(_) -> [] end)),
+            ?assertMatch({{ok, #{state := finished}}, _}, sync(Pair)),
+            ?assertMatch({ok, #{sessions := 0}}, antientropy:count(B))
+        end
+     || Number <- lists:seq(1, 40)
+    ],
+    ?assertEqual(antientropy:root(A), antientropy:root(B)),
+    {ok, Entries} = antientropy:entries(B, 0),
+    ?assertEqual([copy], lists:usort([Source || #{source := Source} <- Entries])).
+
+%% Syncs of one replica drop the sessions of each other, when these have ended.
+syncs_at_once({_, B}) ->
+    Sync = fun(Partner) ->
+        [
+            begin
+                {ok, _} = antientropy:put(Partner, 1, support:key(Number), <<"value">>),
+                ?assertMatch(#{state := finished}, support:sync(B, Partner))
+            end
+         || Number <- lists:seq(1, 50)
+        ]
+    end,
+    Syncing = [spawn_monitor(fun() -> Sync(replica()) end) || _ <- lists:seq(1, 4)],
+    [
+        receive
+            {'DOWN', Monitor, process, Process, Reason} -> ?assertEqual(normal, Reason)
+        end
+     || {Process, Monitor} <- Syncing
+    ],
+    ?assertMatch({ok, #{sessions := 0}}, antientropy:count(B)).
+
+%% A migration cancels the session of a sync, and another process drops it.
+migration_meanwhile(_) ->
+    [Partner, First] = [replica(#{format => 1}) || _ <- [partner, first]],
+    Migrate = fun(Answers) ->
+        ok = antientropy:migrate(First),
+        ok = antientropy:drop_sessions(First),
+        Answers
+    end,
+    ?assertMatch({{ok, #{accepted := 0, state := cancelled}}, [1]}, sync({fill(Partner, 10), First}, Migrate)),
+    ?assertMatch({ok, #{sessions := 0}}, antientropy:count(First)).
