@@ -22,7 +22,6 @@
 
 %% Answers that wait at most for one sync of the log.
 -define(MOST_WAITING, 512).
--define(MOST_SESSIONS, 900).
 
 -type counts() :: #{
     range := cluster_ring:range(),
@@ -33,6 +32,7 @@
     joined := boolean(),
     root := binary() | null
 }.
+%% (`entries' are those of the journal, at most `limit'.)
 -type row() :: {Key :: binary(), [antientropy:version()]}.
 -type request() :: tuple() | atom().
 
@@ -41,12 +41,12 @@
     life :: cluster_lives:life(),
     replica :: antientropy:replica(),
     log :: cluster_log:log(),
-    %% The number of the first entry that isn't in the log.
+    %% The number of the first entry that isn't in the log. Renewals keep it.
     logged :: non_neg_integer(),
     %% Entries logged since the last checkpoint, and the process that saves one now.
     since_checkpoint :: non_neg_integer(),
     saver :: pid() | undefined,
-    %% Entries after the last renewal.
+    %% Entries of the journal after the last renewal.
     held = 0 :: non_neg_integer(),
     waiting = [] :: [{gen_server:from(), request(), Answer :: term()}],
     offers = 0 :: non_neg_integer(),
@@ -300,11 +300,12 @@ answer(borrow, {Borrower, _}, State) ->
 answer({give_back, Replica, Taken}, {Borrower, _}, State) ->
     {ok, taken(Replica, Taken, returned(Borrower, State))};
 answer(counts, _, #state{range = Range, replica = Replica, lacking = Lacking} = State) ->
-    {ok, #{entries := Entries, limit := Limit, dirty := Dirty, sessions := Sessions}} = antientropy:count(Replica),
+    {ok, #{entries := Entries, first := First, limit := Limit} = Counts} = antientropy:count(Replica),
+    #{dirty := Dirty, sessions := Sessions} = Counts,
     {
         #{
             range => Range,
-            entries => Entries,
+            entries => Entries - First,
             limit => Limit,
             dirty => Dirty,
             sessions => Sessions,
@@ -517,17 +518,16 @@ renew_if_due(#state{borrowers = Borrowers, replica = Replica} = State) ->
     case map_size(Borrowers) =:= 0 andalso is_logged(State) andalso is_renewal_due(State) of
         true ->
             Renewed = cluster_replica:renewed(Replica, cluster_settings:limit()),
-            Entries = cluster_replica:entries(Renewed),
-            State#state{replica = Renewed, logged = Entries, held = Entries};
+            State#state{replica = Renewed, held = cluster_replica:used(Renewed)};
         false ->
             State
     end.
 
 %% At nine tenths of the limit, once half of the room that the last renewal left is used.
 is_renewal_due(#state{replica = Replica, held = Held}) ->
-    {ok, #{entries := Entries, limit := Limit, sessions := Sessions}} = antientropy:count(Replica),
-    IsHalfUsed = Entries > Held andalso (Entries - Held) * 2 >= Limit - Held,
-    Sessions >= ?MOST_SESSIONS orelse (Entries * 10 >= Limit * 9 andalso IsHalfUsed).
+    {ok, #{entries := Entries, first := First, limit := Limit}} = antientropy:count(Replica),
+    Used = Entries - First,
+    Used * 10 >= Limit * 9 andalso Used > Held andalso (Used - Held) * 2 >= Limit - Held.
 
 %% From 95 percent on, the rest is for puts and deletes of the keys that are held: renewals make it free again.
 is_nearly_full(#state{held = Held}) ->
@@ -535,8 +535,8 @@ is_nearly_full(#state{held = Held}) ->
 
 %% Logs and answers all that waits if the journal has no room: then it can be renewed.
 with_room(#state{replica = Replica} = State) ->
-    {ok, #{entries := Entries, limit := Limit}} = antientropy:count(Replica),
-    case Entries < Limit orelse is_logged(State) of
+    {ok, #{entries := Entries, first := First, limit := Limit}} = antientropy:count(Replica),
+    case Entries - First < Limit orelse is_logged(State) of
         true -> State;
         false -> commit(State)
     end.

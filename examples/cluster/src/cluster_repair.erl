@@ -125,6 +125,7 @@ pull_offered(Range, Partner, Offer, {ok, Replica}) ->
     {ok, #{number := Number}} = antientropy:read_offer(Offer),
     Reach = fun(Asks) -> reach(Range, Partner, Number, Asks, Bytes) end,
     %% It compares the roots, and opens a session if they differ, while others put. It passes leaves with a crowded key.
+    %% At its end it drops the session.
     case antientropy:sync(Replica, Partner, Offer, Reach, #{in_flight => ?ASKS_AT_ONCE, most_bad => 0}) of
         {ok, #{accepted := Keys, state := finished, crowded := []}} ->
             ok = cluster_range:give_back(Range, Replica, {all_of, Partner}),

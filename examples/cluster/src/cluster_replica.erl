@@ -1,7 +1,7 @@
 %% @doc What a range does with its replica: its start from the disk, puts, reads, and the test for what it has lost.
 -module(cluster_replica).
 
--export([open/2, entries/1, renewed/2, root/1]).
+-export([open/2, entries/1, used/1, renewed/2, root/1]).
 -export([put/5, own/3, read/3, read_apart/4, forgotten/3]).
 
 %% Scans of the journal for single entries: one pass for all costs more, and not more for more of them.
@@ -54,14 +54,20 @@ allowed_to(Accepted) -> Accepted.
 -spec refuse(cluster_ring:range(), cluster_lives:life(), pos_integer()) -> no_return().
 refuse(Range, Life, Limit) ->
     {ok, _, Replica, _} = open(Range, Life, ?NO_LIMIT),
-    Held = entries(renewed(Replica, ?NO_LIMIT)),
+    Held = used(renewed(Replica, ?NO_LIMIT)),
     cluster_app:refuse(io_lib:format("the limit ~b is smaller than the ~b versions of range ~b", [Limit, Held, Range])).
 
-%% @doc Returns the number of entries.
+%% @doc Returns the number of the next entry: it goes on over renewals.
 -spec entries(antientropy:replica()) -> non_neg_integer().
 entries(Replica) ->
-    {ok, #{entries := Entries}} = antientropy:count(Replica),
+    {ok, #{entries := Entries}} = antientropy:about(Replica),
     Entries.
+
+%% @doc Returns the number of entries of the journal: at the limit it is full.
+-spec used(antientropy:replica()) -> non_neg_integer().
+used(Replica) ->
+    {ok, #{entries := Entries, first := First}} = antientropy:count(Replica),
+    Entries - First.
 
 %% @doc Renews a replica.
 -spec renewed(antientropy:replica(), Limit :: pos_integer()) -> antientropy:replica().
@@ -171,5 +177,6 @@ is_any_forgotten(Replica, Life, [#{number := First} | _] = Many) ->
         end
     end,
     Tops = maps:from_list([{Key, 0} || #{key := Key} <- Many]),
-    {ok, {_, IsForgotten}} = antientropy:fold_entries(Look, {Tops, false}, Replica, 0),
+    {ok, #{first := Begin}} = antientropy:count(Replica),
+    {ok, {_, IsForgotten}} = antientropy:fold_entries(Look, {Tops, false}, Replica, Begin),
     IsForgotten.

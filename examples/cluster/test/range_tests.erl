@@ -57,7 +57,8 @@ unfinished_checkpoint_test_() ->
         ?assertEqual(Before, dump())
     end).
 
-%% Renewals keep the root, before and after a restart. The log has more records than the journal may have entries.
+%% Renewals keep the root, before and after a restart, and numbers of entries go on. The log has more records than the
+%% journal may have entries.
 renewal_test_() ->
     room:test([{limit, 40}], fun(_) ->
         start(),
@@ -65,6 +66,9 @@ renewal_test_() ->
         [put_again(key(Number)) || _ <- lists:seq(1, 5), Number <- lists:seq(1, 20)],
         #{entries := Entries, limit := 40} = cluster_range:counts(?RANGE),
         ?assert(Entries < 40),
+        {ok, Replica} = cluster_range:borrow(?RANGE),
+        ?assertMatch({ok, #{entries := 120}}, antientropy:about(Replica)),
+        ok = cluster_range:give_back(?RANGE, Replica, some),
         Before = dump(),
         restart(),
         ?assertEqual(Before, dump()),
@@ -131,7 +135,7 @@ busy_test_() ->
         ?assertEqual({error, empty}, antientropy:count(Replica))
     end).
 
-%% At 900 sessions the replica is renewed, with its root, since a session is never freed.
+%% Syncs leave no session, so no number of them renews the range.
 sessions_test_() ->
     room:test([], fun(_) ->
         start(),
@@ -141,10 +145,10 @@ sessions_test_() ->
         {ok, Snapshot} = antientropy:snapshot(Partner),
         {ok, Offer} = antientropy_snapshot:offer(Snapshot, 1),
         {ok, Replica} = cluster_range:borrow(?RANGE),
-        [{ok, #{state := cancelled}} = sync(Replica, Offer) || _ <- lists:seq(1, 900)],
-        ?assertMatch({ok, #{sessions := 900}}, antientropy:count(Replica)),
+        [{ok, #{state := cancelled}} = sync(Replica, Offer) || _ <- lists:seq(1, 1100)],
         ok = cluster_range:give_back(?RANGE, Replica, some),
         ?assertMatch(#{sessions := 0}, cluster_range:counts(?RANGE)),
+        ?assertMatch({ok, #{sessions := 0, first := 0}}, antientropy:count(Replica)),
         ?assertEqual(Before, dump())
     end).
 
@@ -215,16 +219,18 @@ forgotten_test_() ->
         ?assertEqual({ok, [], 0, 33}, cluster_range:own(?RANGE, key(2)))
     end).
 
-%% One such version is found among few and among many.
+%% One such version is found among few and among many, also after a renewal that has left entries out.
 forgotten_among_test_() ->
     room:test([], fun(_) ->
         Look = fun(Count, Counter) ->
-            {ok, Replica} = antientropy:new(cluster_ring:replica_options(?RANGE)),
-            [{ok, _} = antientropy:put(Replica, 33, key(Number), <<"value">>) || Number <- lists:seq(1, Count)],
+            {ok, Full} = antientropy:new(cluster_ring:replica_options(?RANGE)),
+            [{ok, _} = antientropy:put(Full, 33, key(101), <<"value">>, Context) || Context <- [#{}, #{33 => 1}]],
+            [{ok, _} = antientropy:put(Full, 33, key(Number), <<"value">>) || Number <- lists:seq(1, Count)],
+            {ok, Replica} = antientropy:renew(Full),
             Copy = fun(Number, With) -> #{clock => #{33 => With, 34 => Number}, value => <<"other">>} end,
             [{ok, new} = antientropy:accept(Replica, key(Number), Copy(Number, 1)) || Number <- lists:seq(1, Count)],
             {ok, new} = antientropy:accept(Replica, key(Count), Copy(Count + 1, Counter)),
-            {ok, Entries} = antientropy:entries(Replica, Count),
+            {ok, Entries} = antientropy:entries(Replica, Count + 2),
             cluster_replica:forgotten(Replica, 33, Entries)
         end,
         ?assertEqual([false, true, false, true], [Look(Count, Counter) || Count <- [3, 100], Counter <- [1, 2]])

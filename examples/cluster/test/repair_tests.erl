@@ -12,7 +12,8 @@
 -define(OFFERED, ?MODULE).
 
 %% A range whose disk was lost takes all from both partners in each round, and they take all from it, while 64 clients
-%% put here and others put there. Then all three are equal, and a restart from its checkpoints has everything.
+%% put here and others put there. Then all three are equal, no session is left, and a restart from its checkpoints has
+%% everything.
 lost_disk_test_() ->
     room:test([{limit, 100000}, {checkpoint_entries, 500}], fun(_) ->
         ?OFFERED = ets:new(?OFFERED, [named_table, public]),
@@ -38,6 +39,7 @@ repair(Partners) ->
     end,
     ?assert(cluster_range:is_joined(?RANGE)),
     ok = exchange(Partners),
+    ?assertMatch(#{sessions := 0}, cluster_range:counts(?RANGE)),
     {Root, _} = Before = cluster_range:dump(?RANGE),
     [?assertEqual({ok, Root}, antientropy:root(Partner)) || {_, Partner} <- Partners],
     ok = room:kill(cluster_range_0),
