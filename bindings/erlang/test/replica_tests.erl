@@ -254,6 +254,7 @@ rows_of_before_a_migration_test() ->
 options_test() ->
     Replica = replica(#{format => 1, bits => 4, range => 9}),
     ?assertEqual({ok, #{format => 1, bits => 4, range => 9}}, antientropy:info(Replica)),
+    ?assertEqual({ok, #{format => 1, bits => 4, range => 9, entries => 0}}, antientropy:about(Replica)),
     ?assertMatch({ok, #{limit := 1_000_000}}, antientropy:count(Replica)),
     {ok, Default} = antientropy:new(),
     ?assertEqual({ok, #{format => 2, bits => 0, range => 0}}, antientropy:info(Default)).

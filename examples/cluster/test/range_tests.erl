@@ -57,18 +57,19 @@ unfinished_checkpoint_test_() ->
         ?assertEqual(Before, dump())
     end).
 
-%% Renewals keep the root, before and after a restart, and numbers of entries go on. The log has more records than the
-%% journal may have entries.
+%% Renewals keep the root, before and after a restart, and numbers of entries go on. A renewed range has room, and isn't
+%% renewed again at once. The log has more records than the journal may have entries.
 renewal_test_() ->
     room:test([{limit, 40}], fun(_) ->
         start(),
         fill(1, 20),
         [put_again(key(Number)) || _ <- lists:seq(1, 5), Number <- lists:seq(1, 20)],
+        {ok, Replica} = cluster_range:borrow(?RANGE),
+        ok = cluster_range:give_back(?RANGE, Replica, some),
         #{entries := Entries, limit := 40} = cluster_range:counts(?RANGE),
         ?assert(Entries < 40),
-        {ok, Replica} = cluster_range:borrow(?RANGE),
         ?assertMatch({ok, #{entries := 120}}, antientropy:about(Replica)),
-        ok = cluster_range:give_back(?RANGE, Replica, some),
+        fill(21, 21),
         Before = dump(),
         restart(),
         ?assertEqual(Before, dump()),
