@@ -17,8 +17,8 @@
     entries := non_neg_integer(),
     root := binary()
 }.
-%% Format, bits of the ring and range of the rows, the number of entries at the moment of the snapshot, over all renewals,
-%% and the digest of the root.
+%% Format, bits of the ring and range of the rows, the number of entries at the moment of the snapshot, and the digest
+%% of the root.
 
 %% @doc Returns another snapshot of the same rows, with a lock of its own. Copies no row.
 %%
