@@ -534,8 +534,8 @@ sync(Replica, Partner, Offer, Reach) ->
 %% It compares a moment with the offer, as {@link open/3} does, so other processes may put meanwhile. `Reach' sends at
 %% most `in_flight' asks to the partner, and returns the answers in their order. After more than `most_bad' bad or
 %% missing answers the sync ends unfinished. A leaf with a crowded key is left. At its end, also if it is refused or
-%% `Reach' raises an exception, it cancels its session and calls {@link drop_sessions/1}. Refused: what {@link open/3}
-%% refuses, `not_canonical', `journal_full'.
+%% `Reach' raises an exception, it cancels its session and calls {@link drop_sessions/1}. (A process that is killed in a
+%% sync leaves its session open.) Refused: what {@link open/3} refuses, `not_canonical', `journal_full'.
 -spec sync(replica(), Partner :: non_neg_integer(), Offer :: iodata(), antientropy_sync:reach(), Bounds) ->
     {ok, antientropy_sync:synced()} | refused() when
     Bounds :: #{in_flight => pos_integer(), most_bad => non_neg_integer()}.
