@@ -20,7 +20,6 @@ struct resource {
         struct antientropy_hints hints;
         struct antientropy_slots slots;
     };
-    struct antientropy_about about; /* of a snapshot alone: its range, and the entries that its rows have */
 };
 
 /* A function of the NIF library. */

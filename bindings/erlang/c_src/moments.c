@@ -79,19 +79,11 @@ static uint32_t call_or_hash(struct resource *at, bool holds, uint64_t most, of_
     return left > 0 ? MORE : call_and_drop(at, call, of);
 }
 
-/* Makes the snapshot of the moment, with the number of its entries. */
+/* Makes the snapshot of the moment. */
 static uint32_t fill(struct resource *at, void *of)
 {
     struct resource *made = of;
-    struct antientropy_counts counts;
-    uint32_t number = antientropy_moment(&at->replica, &made->snapshot);
-    if (number == ANTIENTROPY_OK)
-        number = antientropy_about(&at->replica, &made->about);
-    if (number == ANTIENTROPY_OK)
-        number = antientropy_count(&at->replica, &counts);
-    if (number == ANTIENTROPY_OK)
-        made->about.entries = counts.front;
-    return number;
+    return antientropy_moment(&at->replica, &made->snapshot);
 }
 
 /* moment(Replica) -> {ok, Snapshot} */

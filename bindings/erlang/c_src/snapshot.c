@@ -2,27 +2,13 @@
 #include "handles.h"
 #include "terms.h"
 
-/* Makes a snapshot of the rows now, with the number of its entries. */
-static uint32_t fill(struct resource *made, struct resource *at)
-{
-    uint32_t number = antientropy_about(&at->replica, &made->about);
-    return number == ANTIENTROPY_OK ? antientropy_snapshot(&at->replica, &made->snapshot) : number;
-}
-
 /* snapshot(Replica) -> {ok, Snapshot} */
 CALL(REPLICA, snapshot)
 {
     struct resource *made = make_resource(SNAPSHOT);
     if (made == NULL)
         return refused(env, ANTIENTROPY_NO_MEMORY);
-    return handle_result(env, made, fill(made, at));
-}
-
-/* Makes another handle of the rows of a snapshot. */
-static uint32_t share(struct resource *made, struct resource *at)
-{
-    made->about = at->about;
-    return antientropy_snapshot_share(&at->snapshot, &made->snapshot);
+    return handle_result(env, made, antientropy_snapshot(&at->replica, &made->snapshot));
 }
 
 /* snapshot_share(Snapshot) -> {ok, Snapshot} */
@@ -31,7 +17,7 @@ CALL(SNAPSHOT, snapshot_share)
     struct resource *made = make_resource(SNAPSHOT);
     if (made == NULL)
         return refused(env, ANTIENTROPY_NO_MEMORY);
-    return handle_result(env, made, share(made, at));
+    return handle_result(env, made, antientropy_snapshot_share(&at->snapshot, &made->snapshot));
 }
 
 /* snapshot_close(Snapshot) -> ok */
@@ -51,13 +37,16 @@ static uint32_t read_root(struct resource *at, uint8_t root[static ANTIENTROPY_R
 /* snapshot_info(Snapshot) -> {ok, Info} */
 CALL(SNAPSHOT, snapshot_info)
 {
+    struct antientropy_about about;
     uint8_t root[ANTIENTROPY_ROOT_LEN];
-    uint32_t number = read_root(at, root);
+    uint32_t number = antientropy_snapshot_about(&at->snapshot, &about);
+    if (number == ANTIENTROPY_OK)
+        number = read_root(at, root);
     if (number != ANTIENTROPY_OK)
         return refused(env, number);
     const ERL_NIF_TERM keys[] = {atoms.format, atoms.bits, atoms.range, atoms.entries, atoms.root};
-    const ERL_NIF_TERM values[] = {enif_make_uint64(env, at->about.format), enif_make_uint64(env, at->about.bits),
-                                   enif_make_uint64(env, at->about.range), enif_make_uint64(env, at->about.entries),
+    const ERL_NIF_TERM values[] = {enif_make_uint64(env, about.format), enif_make_uint64(env, about.bits),
+                                   enif_make_uint64(env, about.range), enif_make_uint64(env, about.entries),
                                    make_bytes(env, root, sizeof root)};
     return ok(env, make_map(env, 5, keys, values));
 }

@@ -46,6 +46,7 @@
     "snapshot" => {antientropy, snapshot, 2},
     "snapshot_share" => {antientropy_snapshot, share, 1},
     "snapshot_free" => {antientropy_snapshot, close, 1},
+    "snapshot_about" => {antientropy_snapshot, info, 1},
     "snapshot_get" => {antientropy_snapshot, row, 2},
     "snapshot_key_next" => {antientropy_snapshot, key_after, 3},
     "digest" => {antientropy_snapshot, digest, 3},
