@@ -174,7 +174,9 @@ position_test() ->
     {ok, Again} = antientropy:renew(Renewed),
     {ok, #{number := 201}} = antientropy:put(Again, 1, <<"tea">>, <<"green">>),
     ?assertMatch({ok, [#{number := 201, key := <<"tea">>}]}, antientropy:entries(Again, 201)),
-    ?assertMatch({ok, #{entries := 202, first := 199}}, antientropy:count(Again)),
+    {ok, Snapshot} = antientropy:snapshot(Again),
+    ?assertMatch({ok, #{entries := 202}}, antientropy_snapshot:info(Snapshot)),
+    ?assertMatch({ok, #{entries := 202, first := 199, front := 202}}, antientropy:count(Again)),
     ?assertEqual({ok, 3}, antientropy:fold_entries(fun(_, Count) -> Count + 1 end, 0, Again, 199)).
 
 two_clients_test() ->
