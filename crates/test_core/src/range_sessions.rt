@@ -259,7 +259,7 @@ fn expect_one_kept(alloc: Global, state: &mut RangeState) -> Result<(), Fail> {
         "the partner's entry is a copy",
     )?;
     let next = open_session(alloc, state, offer([7; 32]))?;
-    expect(next == open + 1, "the numbers go on")
+    expect(open == 1 && next == 2, "the numbers go on")
 }
 
 #[test]
