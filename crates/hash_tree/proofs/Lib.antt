@@ -8,3 +8,4 @@ pub mod KeySpotLaws
 pub mod RowLengthLaws
 pub mod TextLaws
 pub mod DigestLaws
+pub mod SizeLaws

@@ -2,3 +2,4 @@ pub mod Leaves
 pub mod Texts
 pub mod Chunks
 pub mod Blocks
+pub mod Sizes

@@ -1,5 +1,6 @@
 //! Consecutive leaves of a range that several lists of leaves may share.
-ghost use Rattle.std.specs.Prelude.{◌≡◌, ◌<◌, [], None, length, replicate, slice_index_or, slice_set};
+ghost use Rattle.std.specs.Prelude.{◌≡◌, ◌-◌, ◌<◌, ◌^◌, [], None, length, min, replicate, slice_index_or, slice_set};
+ghost use Rattle.std.specs.List.{sum_by};
 ghost use Rattle.vclock.specs.Answer.{Answers};
 ghost use Rattle.vclock.specs.Bytes.{key_fault};
 ghost use Rattle.vclock.specs.Outcome.{Does, gives};
@@ -7,6 +8,7 @@ ghost use Rattle.version_set.specs.Kind.{value_fault};
 ghost use Rattle.version_set.specs.Version.{offer_fault};
 ghost use Rattle.hash_tree.specs.Leaves.{Bucket, versions_in};
 ghost use Rattle.hash_tree.specs.Blocks.{nth_leaf, leaf_with_offer};
+ghost use Rattle.hash_tree.specs.Sizes.{leaf_len};
 
 use crate::shared_leaf::SharedLeaf;
 use std::alloc::{AllocError, Global};
@@ -83,6 +85,13 @@ impl LeafBlock {
         &self.leaves[at]
     }
 
+    /// Returns the length in bytes of the texts of all rows, at most 2^64 - 1. Reads no row, but each chunk.
+    pub(crate) fn rows_len(&self) -> u64
+        ensures { result ≡ min (sum_by leaf_len self.now) (2 ^ 64 - 1) }
+    {
+        leaves_len(&self.leaves)
+    }
+
     /// Replaces the leaf at an index. If the leaves have other owners, a block that shares the others is changed. Refused:
     /// NoMemory.
     pub(crate) fn set(&mut self, at: usize, leaf: SharedLeaf) -> Result<(), Refusal>
@@ -112,6 +121,18 @@ impl LeafBlock {
     {
         Arc::make_mut(&mut self.leaves)?[at].offer(alloc, key, version)
     }
+}
+
+/// Returns the length in bytes of the texts of the rows of leaves, at most 2^64 - 1.
+#[tactic(auto, using(crate::proofs::SizeLaws::one_leaf_more))]
+fn leaves_len(leaves: &[SharedLeaf]) -> u64
+    ensures { result ≡ min (sum_by leaf_len leaves.now) (2 ^ 64 - 1) }
+{
+    let mut len = 0u64;
+    for leaf in leaves {
+        len = len.saturating_add(leaf.rows_len());
+    }
+    len
 }
 
 impl Drop for LeafBlock {

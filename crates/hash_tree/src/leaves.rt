@@ -1,5 +1,6 @@
 //! The leaves of a range, in blocks that a range and its snapshots share.
-ghost use Rattle.std.specs.Prelude.{◌≡◌, ◌*◌, ◌<◌, ◌^◌, [], None, length, replicate, slice_index_or, slice_set};
+ghost use Rattle.std.specs.Prelude.{◌≡◌, ◌*◌, ◌-◌, ◌<◌, ◌^◌, [], None, length, min, replicate, slice_index_or, slice_set};
+ghost use Rattle.std.specs.List.{sum_by};
 ghost use Rattle.vclock.specs.Answer.{Answers};
 ghost use Rattle.vclock.specs.Bytes.{key_fault};
 ghost use Rattle.vclock.specs.Outcome.{Does, gives};
@@ -7,7 +8,9 @@ ghost use Rattle.version_set.specs.Kind.{value_fault};
 ghost use Rattle.version_set.specs.Version.{offer_fault};
 ghost use Rattle.hash_tree.specs.Leaves.{Bucket, versions_in};
 ghost use Rattle.tree_nodes.specs.Nodes.{tree_depth};
+ghost use Rattle.tree_nodes.specs.Blocks.{joined};
 ghost use Rattle.hash_tree.specs.Blocks.{nth_leaf, leaf_with_offer};
+ghost use Rattle.hash_tree.specs.Sizes.{leaf_len};
 
 use crate::leaf_block::{BLOCK_LEN, LeafBlock};
 use crate::shared_leaf::SharedLeaf;
@@ -86,6 +89,13 @@ impl Leaves {
         self.blocks[leaf / BLOCK_LEN].get(leaf % BLOCK_LEN)
     }
 
+    /// Returns the length in bytes of the texts of all rows, at most 2^64 - 1. Reads no row, but each chunk.
+    pub fn rows_len(&self) -> u64
+        ensures { result ≡ min (sum_by leaf_len self.now) (2 ^ 64 - 1) }
+    {
+        blocks_len(&self.blocks)
+    }
+
     /// Adds an owner to the leaves, and returns its handle. Refused: NoMemory. Copies no block.
     pub fn share(&self) -> Result<Leaves, Refusal>
         ensures { Answers result None (λ shared. shared ≡ self.now) }
@@ -130,6 +140,18 @@ impl Leaves {
         let blocks = Arc::make_mut(&mut self.blocks)?;
         blocks[leaf / BLOCK_LEN].offer(alloc, leaf % BLOCK_LEN, key, version)
     }
+}
+
+/// Returns the length in bytes of the texts of the rows of blocks, at most 2^64 - 1.
+#[tactic(auto, using(crate::proofs::SizeLaws::one_block_more))]
+fn blocks_len(blocks: &[LeafBlock]) -> u64
+    ensures { result ≡ min (sum_by leaf_len (joined blocks.now)) (2 ^ 64 - 1) }
+{
+    let mut len = 0u64;
+    for block in blocks {
+        len = len.saturating_add(block.rows_len());
+    }
+    len
 }
 
 /// Returns the number of blocks: 4, or 64 in format 2.

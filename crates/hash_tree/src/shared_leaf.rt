@@ -1,5 +1,5 @@
 //! The rows of one leaf, with several owners: a range, and the jobs that read them.
-ghost use Rattle.std.specs.Prelude.{◌≡◌, ◌↔◌, ◌++◌, ◌+◌, ◌<◌, ◌≤◌, [], ⊤, None, IsTrue, length, unwrap_or, option_map, MatchOption, OnOk, OnErr};
+ghost use Rattle.std.specs.Prelude.{◌≡◌, ◌↔◌, ◌++◌, ◌+◌, ◌-◌, ◌<◌, ◌≤◌, ◌^◌, [], ⊤, None, IsTrue, length, min, unwrap_or, option_map, MatchOption, OnOk, OnErr};
 ghost use Rattle.std.specs.List.{AllByRecursion, flat_map};
 ghost use Rattle.std.specs.Vec.{vec_capacity};
 ghost use Rattle.vclock.specs.Answer.{Answers};
@@ -10,6 +10,7 @@ ghost use Rattle.version_set.specs.Version.{offer_fault};
 ghost use Rattle.row_bytes.specs.Rows.{row_text, FitsText};
 ghost use Rattle.hash_tree.specs.Leaves.{IsBucket, FindsRun, versions_in, with_offer};
 ghost use Rattle.hash_tree.specs.Chunks.{all_rows, AreChunks};
+ghost use Rattle.hash_tree.specs.Sizes.{rows_len};
 ghost use Rattle.hash_tree.specs.Texts.{leaf_text};
 
 use crate::chunk::Chunk;
@@ -91,6 +92,14 @@ impl SharedLeaf {
         ensures { result ≡ length (leaf_text self.now.format self.now.rows) }
     {
         text_len(self.chunks())
+    }
+
+    /// Returns the length in bytes of the texts of the rows, at most 2^64 - 1. Reads no row, but each chunk.
+    #[tactic(auto, using(crate::proofs::SizeLaws::text_of_rows))]
+    pub fn rows_len(&self) -> u64
+        ensures { result ≡ min (rows_len self.now.format self.now.rows) (2 ^ 64 - 1) }
+    {
+        (self.text_len() - 1).min(u64::MAX as u128) as u64
     }
 
     /// Adds an owner to the leaf, and returns its handle. Refused: NoMemory. Copies no row.

@@ -1,3 +1,4 @@
 pub mod HintLaws
 pub mod RenewLaws
 pub mod WaitLaws
+pub mod SizeLaws

@@ -1,5 +1,5 @@
 //! The hints of a carrier.
-ghost use Rattle.std.specs.Prelude.{◌≡◌, ◌+◌, ◌≤◌, ◌↔◌, [], ◌∷◌, length, slice_get, None, Some, true, false, Any, AllPairs, MatchOption, OnOk, IsOk, if◌then◌else◌};
+ghost use Rattle.std.specs.Prelude.{◌≡◌, ◌+◌, ◌-◌, ◌≤◌, ◌^◌, ◌↔◌, [], ◌∷◌, length, min, slice_get, None, Some, true, false, Any, AllPairs, MatchOption, OnOk, IsOk, if◌then◌else◌};
 ghost use Rattle.hint_store.specs.declared.hint.Fate.TheVariants.{Pending};
 ghost use Rattle.std.specs.Option.{option_copied, option_map, option_and_then};
 ghost use Rattle.std.specs.List.{list_any};
@@ -9,6 +9,7 @@ ghost use Rattle.vclock.specs.Outcome.{Does, DoesAtOnce};
 ghost use Rattle.hint_store.specs.Hints.{AreHints, pending_count, kept_at, keep_fault, keep, next_hint, is_undelivered, delivers_hint, is_answered, IsAnswered, confirm, closed, fate_if, delivery_of, waiting_owner, settle};
 ghost use Rattle.hint_store.specs.Renewals.{renewed};
 ghost use Rattle.hint_store.specs.Counts.{counts_of};
+ghost use Rattle.hint_store.specs.Sizes.{hints_len};
 ghost use Rattle.hint_store.specs.Waits.{IsBefore, id_of, is_up_to, earliest};
 
 use crate::counts::HintCounts;
@@ -18,7 +19,7 @@ use std::cmp::Ordering;
 use std::marker::Model;
 use vclock::limits::PENDING_HINTS_MAX;
 use vclock::{Bytes, Refusal};
-use version_set::Version;
+use version_set::{Version, payload_len};
 
 /// The greatest number that a hint can have.
 const LAST_ID: usize = 0xffff_ffff;
@@ -44,19 +45,23 @@ struct Waiting {
 pub struct HintStore {
     hints: Vec<Kept>,
     pending: Vec<Waiting>,
+    /// The number of bytes of the hints, at most 2^64 - 1.
+    bytes: u64,
 }
 
 impl Model for HintStore {
-    ghost use Rattle.std.specs.Prelude.{List};
+    ghost use Rattle.std.specs.Prelude.{◌≡◌, ◌-◌, ◌^◌, List, min};
     ghost use Rattle.hint_store.specs.declared.hint.Kept.{Kept};
     ghost use Rattle.hint_store.specs.Hints.{AreHints};
+    ghost use Rattle.hint_store.specs.Sizes.{hints_len};
     ghost use Rattle.hint_store.specs.Waits.{AreWaiting};
 
     ghost Value = { List Kept };
 
     ghost view = { λ s. s.hints.items };
 
-    ghost invariant = { λ s. AreHints s.hints.items × AreWaiting s.hints.items s.pending.items };
+    ghost invariant = { λ s. AreHints s.hints.items × AreWaiting s.hints.items s.pending.items
+        × (s.bytes ≡ min (hints_len s.hints.items) (2 ^ 64 - 1)) };
 }
 
 impl HintStore {
@@ -67,6 +72,7 @@ impl HintStore {
         HintStore {
             hints: Vec::new(alloc),
             pending: Vec::new(alloc),
+            bytes: 0,
         }
     }
 
@@ -97,6 +103,14 @@ impl HintStore {
         }
     }
 
+    /// Returns the number of bytes of the hints' keys, values and clocks, pending or delivered, at most 2^64 - 1: 10 bytes
+    /// for each pair of a clock. Reads no hint.
+    pub fn bytes(&self) -> u64
+        ensures { result ≡ min (hints_len self.now) (2 ^ 64 - 1) }
+    {
+        self.bytes
+    }
+
     /// Returns the hint with this id, pending or delivered, or `None` if the id is 0 or not used yet.
     pub fn get(&self, id: u32) -> Option<&Kept>
         ensures { option_copied result ≡ kept_at self.now id }
@@ -123,6 +137,8 @@ impl HintStore {
         let id = last + 1;
         let place = place_after(&self.pending, owner, last);
         self.pending.insert(place, Waiting { owner, id }).unwrap();
+        let len = payload_len(key.as_slice(), &version);
+        self.bytes = self.bytes.saturating_add(len);
         let hint = Hint {
             id,
             owner,
@@ -373,6 +389,7 @@ impl Drop for HintStore {
         let HintStore {
             hints: _hints,
             pending: _pending,
+            bytes: _bytes,
         } = self;
     }
 }

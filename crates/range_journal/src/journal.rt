@@ -1,5 +1,5 @@
 //! A journal of accepted versions.
-ghost use Rattle.std.specs.Prelude.{◌≡◌, ◌≤◌, ◌↔◌, ◌⊎◌, [], length, take, None, IfOk, IfErr, slice_get, IsTrue};
+ghost use Rattle.std.specs.Prelude.{◌≡◌, ◌-◌, ◌≤◌, ◌^◌, ◌↔◌, ◌⊎◌, [], length, min, take, None, IfOk, IfErr, slice_get, IsTrue};
 ghost use Rattle.std.specs.Option.{option_copied};
 ghost use Rattle.std.specs.Vec.{vec_capacity};
 ghost use Rattle.vclock.specs.Answer.{Answers};
@@ -7,12 +7,13 @@ ghost use Rattle.vclock.specs.Outcome.{Does};
 ghost use Rattle.range_journal.specs.Counters.{top_counter};
 ghost use Rattle.range_journal.specs.Log.{AreNumberedFrom, IsLog};
 ghost use Rattle.range_journal.specs.Copies.{copy_for, as_copies, with_copies, IsSettled};
+ghost use Rattle.range_journal.specs.Sizes.{entry_len, entries_len};
 ghost use Rattle.range_journal.specs.Journal.{append, reserve, with_entry, with_entries, held, NeverCrowded};
 
 use std::alloc::Global;
 use std::marker::Model;
 use vclock::{Bytes, Refusal};
-use version_set::{Version, VersionSet};
+use version_set::{Version, VersionSet, payload_len};
 
 /// The source of an accepted version: a client's put, a copy from the node of the put, a hint from its carrier, or a
 /// partner in a sync.
@@ -88,6 +89,13 @@ impl Entry {
             && self.key.as_slice() == other.key.as_slice()
             && self.version.same(&other.version)
     }
+
+    /// Returns the number of bytes of the key, and of the version's value and clock, at most 2^64 - 1.
+    fn len(&self) -> u64
+        ensures { result ≡ min (entry_len self.now) (2 ^ 64 - 1) }
+    {
+        payload_len(self.key.as_slice(), &self.version)
+    }
 }
 
 /// The accepted versions in order, up to a limit. Entries are never removed, and never changed but in their source
@@ -109,18 +117,22 @@ pub struct Journal {
     entries: Vec<Entry>,
     limit: u64,
     room: u64,
+    /// The number of bytes of the entries, at most 2^64 - 1.
+    bytes: u64,
 }
 
 impl Model for Journal {
     ghost use Rattle.range_journal.specs.Log.{Log, IsLog};
+    ghost use Rattle.range_journal.specs.Sizes.{entries_len};
     ghost use Rattle.std.specs.Vec.{vec_capacity};
-    ghost use Rattle.std.specs.Prelude.{◌≤◌, ◌+◌, length};
+    ghost use Rattle.std.specs.Prelude.{◌≡◌, ◌≤◌, ◌+◌, ◌-◌, ◌^◌, length, min};
 
     ghost Value = { Log };
 
     ghost view = { λ j. record { entries = j.entries.items; limit = j.limit; room = j.room } };
 
-    ghost invariant = { λ j. IsLog (record { entries = j.entries.items; limit = j.limit; room = j.room }) × (length j.entries.items + j.room ≤ vec_capacity j.entries) };
+    ghost invariant = { λ j. IsLog (record { entries = j.entries.items; limit = j.limit; room = j.room }) × (length j.entries.items + j.room ≤ vec_capacity j.entries)
+        × (j.bytes ≡ min (entries_len j.entries.items) (2 ^ 64 - 1)) };
 }
 
 impl Journal {
@@ -132,6 +144,7 @@ impl Journal {
             entries: Vec::new(alloc),
             limit,
             room: 0,
+            bytes: 0,
         }
     }
 
@@ -141,6 +154,14 @@ impl Journal {
         ensures valid { IsLog self.now }
     {
         self.entries.len() as u64
+    }
+
+    /// Returns the number of bytes of the entries' keys, values and clocks, at most 2^64 - 1: 10 bytes for each pair of a
+    /// clock. Reads no entry.
+    pub fn bytes(&self) -> u64
+        ensures { result ≡ min (entries_len self.now.entries) (2 ^ 64 - 1) }
+    {
+        self.bytes
     }
 
     /// Returns the number of entries that can be added without allocating.
@@ -229,6 +250,7 @@ impl Journal {
             key,
             version,
         };
+        self.bytes = self.bytes.saturating_add(entry.len());
         self.entries.push(entry).unwrap();
         self.room -= 1;
         number
@@ -250,8 +272,20 @@ impl Journal {
         ensures { self.new ≡ with_entries self.old entries.items }
     {
         self.room -= entries.len() as u64;
+        self.bytes = self.bytes.saturating_add(len_of(&entries));
         self.entries.append(&mut entries).unwrap();
     }
+}
+
+/// Returns the number of bytes of entries, at most 2^64 - 1.
+fn len_of(entries: &[Entry]) -> u64
+    ensures { result ≡ min (entries_len entries.now) (2 ^ 64 - 1) }
+{
+    let mut len = 0u64;
+    for entry in entries {
+        len = len.saturating_add(entry.len());
+    }
+    len
 }
 
 /// Makes a copy of each partner's entry from a place on.
@@ -316,6 +350,7 @@ impl Drop for Journal {
             entries: _entries,
             limit: _limit,
             room: _room,
+            bytes: _bytes,
         } = self;
     }
 }

@@ -12,6 +12,7 @@ pub mod Trees
 pub mod Moments
 pub mod Portions
 pub mod Counts
+pub mod Bytes
 pub mod Endings
 pub mod Run
 pub mod Judgements

@@ -44,6 +44,7 @@ pub use portion::Portion;
 pub use range_store::{Accepted, ContextTest, LeafRows, Loaded, RangeConfig, Receipt, Seed};
 pub use record::Record;
 pub use state::RangeState;
+pub use state::bytes::RangeBytes;
 pub use state::counts::RangeCounts;
 pub use state::reconciliation::{Reconciled, reconcile};
 pub use state::sync::Synced;

@@ -19,6 +19,7 @@ use vclock::{Bytes, Clock, Refusal};
 use version_set::{Kind, Version, VersionSet};
 
 mod answers;
+pub mod bytes;
 pub mod counts;
 mod endings;
 mod judgement;

@@ -1,5 +1,5 @@
 //! The tree of a range.
-ghost use Rattle.std.specs.Prelude.{◌≡◌, ◌<◌, ◌≤◌, ◌^◌, [], None, slice_set};
+ghost use Rattle.std.specs.Prelude.{◌≡◌, ◌-◌, ◌<◌, ◌≤◌, ◌^◌, [], None, min, slice_set};
 ghost use Rattle.std.specs.List.{flat_map};
 ghost use Rattle.vclock.specs.Answer.{Answers};
 ghost use Rattle.vclock.specs.Bytes.{key_fault};
@@ -9,6 +9,7 @@ ghost use Rattle.version_set.specs.Version.{offer_fault};
 ghost use Rattle.key_ring.specs.Places.{range_at, leaf_bits};
 ghost use Rattle.row_bytes.specs.Rows.{row_text};
 ghost use Rattle.hash_tree.specs.Leaves.{rows_in_leaf, versions_in};
+ghost use Rattle.hash_tree.specs.Sizes.{rows_len};
 ghost use Rattle.snapshot.specs.RowMaps.{RowMap, leaf_in};
 ghost use Rattle.snapshot.specs.Snapshots.{leaf_fault, leaves_of};
 ghost use Rattle.range_tree.specs.Trees.{bare, bucket_of, offered_to, with_rows, IsChange};
@@ -113,6 +114,13 @@ impl Tree {
         let mut text = Vec::new(alloc);
         self.rows(leaf).put_rows(&mut text)?;
         Ok(text)
+    }
+
+    /// Returns the length in bytes of the texts of all rows, at most 2^64 - 1. Reads no row, but each chunk of 15.
+    pub fn rows_len(&self) -> u64
+        ensures { result ≡ min (rows_len self.now.map.format self.now.map.rows) (2 ^ 64 - 1) }
+    {
+        self.leaves.rows_len()
     }
 
     /// Returns the versions of a key of that leaf, by a binary search. Doesn't allocate.

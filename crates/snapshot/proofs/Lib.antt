@@ -1,3 +1,4 @@
 pub mod OrderLaws
 pub mod RowLaws
 pub mod ShownLaws
+pub mod SizeLaws

@@ -92,7 +92,7 @@ spread_all leaf (r ∷ rows) n below ascend =
 
 -- ---- row maps
 
-leaf_below : (f : Format) (bits : ℕ) (key : List ℕ) → leaf_at f bits key < 2 ^ leaf_bits f
+pub leaf_below : (f : Format) (bits : ℕ) (key : List ℕ) → leaf_at f bits key < 2 ^ leaf_bits f
 unfolding leaf_at
 leaf_below One bits key = omega arith
 leaf_below Two bits key = omega arith

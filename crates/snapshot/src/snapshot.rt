@@ -1,5 +1,5 @@
 //! Snapshots.
-ghost use Rattle.std.specs.Prelude.{◌≡◌, ◌<◌, ◌≤◌, ◌^◌, None};
+ghost use Rattle.std.specs.Prelude.{◌≡◌, ◌-◌, ◌<◌, ◌≤◌, ◌^◌, min, None};
 ghost use Rattle.std.specs.List.{AllByRecursion, flat_map};
 ghost use Rattle.std.specs.Arc.{arc_value};
 ghost use Rattle.vclock.specs.Answer.{Answers};
@@ -8,6 +8,7 @@ ghost use Rattle.version_set.specs.Kind.{value_fault};
 ghost use Rattle.key_ring.specs.Places.{leaf_bits};
 ghost use Rattle.row_bytes.specs.Rows.{row_text};
 ghost use Rattle.hash_tree.specs.Leaves.{rows_in_leaf, versions_in};
+ghost use Rattle.hash_tree.specs.Sizes.{rows_len};
 ghost use Rattle.tree_nodes.specs.Nodes.{IsNode, tree_depth};
 ghost use Rattle.hash_tree.specs.Texts.{inner_text, leaf_text};
 ghost use Rattle.snapshot.specs.RowMaps.{IsRowMap, leaf_in, text_at, digest_at, root_of};
@@ -130,6 +131,13 @@ impl Snapshot {
         let mut text = Vec::new(alloc);
         self.rows(leaf).put_rows(&mut text)?;
         Ok(text)
+    }
+
+    /// Returns the length in bytes of the texts of all rows, at most 2^64 - 1. Reads no row, but each chunk of 15.
+    pub fn rows_len(&self) -> u64
+        ensures { result ≡ min (rows_len self.now.format self.now.rows) (2 ^ 64 - 1) }
+    {
+        self.leaves.rows_len()
     }
 
     /// Returns the digest of the root.

@@ -25,4 +25,4 @@ pub mod version;
 pub use held::Held;
 pub use kind::Kind;
 pub use set::{Offered, VersionSet};
-pub use version::Version;
+pub use version::{Version, payload_len};

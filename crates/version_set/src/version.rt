@@ -1,6 +1,7 @@
 //! Versions.
-ghost use Rattle.std.specs.Prelude.{◌≡◌, ◌↔◌, IsTrue, None};
+ghost use Rattle.std.specs.Prelude.{◌≡◌, ◌-◌, ◌^◌, ◌↔◌, min, IsTrue, None};
 ghost use Rattle.vclock.specs.Answer.{Answers};
+ghost use Rattle.version_set.specs.Sizes.{payload_len};
 ghost use Rattle.version_set.specs.Version.{is_below, IsBelow, version_cmp, text_cmp, HasText, IsLive};
 
 use crate::kind::Kind;
@@ -78,4 +79,14 @@ impl Version {
             .then(value.len().cmp(&other_value.len()))
             .then(value.cmp(&other_value))
     }
+}
+
+/// Returns the number of bytes of a key, and of a version's value and clock, at most 2^64 - 1: 10 bytes for each pair of
+/// the clock. Doesn't allocate.
+pub fn payload_len(key: &[u8], version: &Version) -> u64
+    ensures { result ≡ min (payload_len key.now version.now) (2 ^ 64 - 1) }
+{
+    let pairs_len = 10 * version.clock.pairs().len() as u64;
+    let value_len = version.value.as_slice().len() as u64 + pairs_len;
+    (key.len() as u64).saturating_add(value_len)
 }

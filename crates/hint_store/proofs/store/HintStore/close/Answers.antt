@@ -1,5 +1,5 @@
-use Rattle.std.proofs.Common.{◌≡◌, ℕ, ◌-◌, ap, sym, ◌∙◌, subst, arith, List, true, false, set, get_or}
-use Rattle.std.specs.Prelude.{MatchOption}
+use Rattle.std.proofs.Common.{◌≡◌, ℕ, ◌-◌, ◌^◌, ap, sym, ◌∙◌, subst, arith, List, true, false, set, get_or}
+use Rattle.std.specs.Prelude.{min, MatchOption}
 use Rattle.hint_store.specs.declared.hint.Delivery.{Delivery}
 use Rattle.hint_store.specs.declared.hint.Fate.{Fate}
 use Rattle.hint_store.specs.declared.hint.Fate.TheVariants.{Pending}
@@ -10,6 +10,7 @@ use Rattle.hint_store.specs.Hints.{AreHints, kept_at, fate_of, closed}
 use Rattle.hint_store.specs.Waits.{is_up_to, AreWaiting}
 use Rattle.hint_store.proofs.HintLaws.{get_or_same, IsFound, IsOpen, open_at, open_found, delivery_to, confirmed_at}
 use Rattle.hint_store.proofs.WaitLaws.{IsItsEntry, its_entry, AreWaiting-confirm, AreHints-confirm}
+use Rattle.hint_store.proofs.SizeLaws.{closed_len}
 use Rattle.hint_store.proofs.store.HintStore.close.Goals as goal
 
 -- the hint whose wait ends, as the fields have it
@@ -56,6 +57,7 @@ invariant_of-self c =
     let new = ap (λ (k : Kept). set hints (c.args.id - 1) k) (sym (written hints c.args.id d f c.index_mut.result.now c.fate_of.result c.index_mut.ensures.value c.fate_of.ensures)) in (
       subst AreHints new (AreHints-confirm hints c.args.id d c.self.invariant.0 f),
       subst (λ (hs : List Kept). AreWaiting hs c.remove.new.self.items) new (subst (AreWaiting (set hints (c.args.id - 1) (record { hint = f.kept.hint; fate = fate_of d }))) (sym c.remove.ensures.items) (AreWaiting-confirm hints index c.args.id c.place_after-place.result d c.self.invariant.1 f e)),
+      c.self.invariant.2 ∙ ap (λ n. min n (2 ^ 64 - 1)) (sym (closed_len hints (c.args.id - 1) (record { hint = c.index_mut.result.now.hint; fate = c.fate_of.result }) c.index_mut.result.now f.inside (ap (λ (k : Kept). k.hint) c.index_mut.ensures.value))),
     )
 
 pub returns : goal.returns

@@ -1,5 +1,9 @@
-use Rattle.std.proofs.Common.{ℕ, ◌≤◌, ◌≡◌, ◌+◌, ◌++◌, length, length-append, subst, sym, arith, ap, ◌∙◌}
+use Rattle.std.proofs.Common.{ℕ, ◌≤◌, ◌≡◌, ◌+◌, ◌-◌, ◌^◌, ◌++◌, List, length, length-append, subst, sym, arith, ap, ◌∙◌}
+use Rattle.std.specs.Prelude.{min}
+use Rattle.range_journal.specs.declared.journal.Entry.{Entry}
 use Rattle.range_journal.specs.Log.{Log, AreNumberedFrom}
+use Rattle.range_journal.specs.Sizes.{entries_len}
+use Rattle.range_journal.proofs.SizeLaws.{appended_len}
 use Rattle.range_journal.proofs.JournalLaws.{AreNumberedFrom-append}
 use Rattle.range_journal.proofs.journal.Journal.append_entries.Goals as goal
 
@@ -16,4 +20,5 @@ invariant_of-self c =
         small = c.self.invariant.0.small;
       },
       omega (arith, grown, few, c.len.ensures),
+      appended_len c.self.inside.entries.items c.args.entries.items _ _ _ c.self.invariant.2 (c.len_of.ensures ∙ ap (λ (es : List Entry). min (entries_len es) (2 ^ 64 - 1)) c.deref.ensures.value) c.saturating_add-self-inside.ensures ∙ ap (λ (es : List Entry). min (entries_len es) (2 ^ 64 - 1)) (sym items),
     )

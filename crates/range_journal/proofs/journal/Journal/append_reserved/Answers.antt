@@ -1,6 +1,10 @@
-use Rattle.std.proofs.Common.{ℕ, ◌≤◌, ◌≡◌, ◌+◌, length, subst, sym, arith, ap, ◌∙◌}
+use Rattle.std.proofs.Common.{ℕ, ◌≤◌, ◌≡◌, ◌+◌, ◌-◌, ◌^◌, List, length, subst, sym, arith, ap, ◌∙◌}
+use Rattle.std.specs.Prelude.{min}
 use Rattle.std.proofs.lemmas.List.{length_push}
+use Rattle.range_journal.specs.declared.journal.Entry.{Entry}
 use Rattle.range_journal.specs.Log.{Log, AreNumberedFrom}
+use Rattle.range_journal.specs.Sizes.{entries_len}
+use Rattle.range_journal.proofs.SizeLaws.{pushed_len}
 use Rattle.range_journal.proofs.JournalLaws.{AreNumberedFrom-push}
 use Rattle.range_journal.proofs.journal.Journal.append_reserved.Goals as goal
 
@@ -16,4 +20,5 @@ invariant_of-self c =
         small = c.self.invariant.0.small;
       },
       omega (arith, grown),
+      pushed_len c.self.inside.entries.items _ _ _ _ c.self.invariant.2 c.len.ensures c.saturating_add-self-inside.ensures ∙ ap (λ (es : List Entry). min (entries_len es) (2 ^ 64 - 1)) (sym items),
     )
