@@ -51,8 +51,8 @@ among format leaf r rows (suc n) from least most =
           let same = here format leaf r rows from is in
           let more = behind format leaf r rows n (from + 1) (omega arith) in
           omega arith
-      | inr no ↦
-          let same = not_here format leaf r rows from no in
+      | inr other_leaf ↦
+          let same = not_here format leaf r rows from other_leaf in
           let more = among format leaf r rows n (from + 1) (omega arith) (omega arith) in
           omega arith
     ]
