@@ -237,6 +237,14 @@ struct antientropy_counts {
     uint64_t front;         /* `entries` at the last moment that was whole; `first` if there was none since a renewal */
 };
 
+/* The size of a replica in bytes. The replica takes several times as much memory; its moment isn't counted. */
+struct antientropy_bytes {
+    uint64_t rows;     /* the rows, as antientropy_rows copies them out */
+    uint64_t journal;  /* the keys, values and clocks of the entries since `first`: 10 bytes for each pair of a clock */
+    uint64_t sessions; /* what sessions keep in addition: the texts that they took, and the leaves of their rows that have
+                        * changed since (each once: it counts with the last session that has it) or have no digest now */
+};
+
 /* The range of a replica or a snapshot, and the position of its journal: what a checkpoint or a log has to name. */
 struct antientropy_about {
     uint64_t format;  /* 1 or 2 */
@@ -328,6 +336,10 @@ uint32_t antientropy_count(struct antientropy_replica *replica, struct antientro
 
 /* Returns the range of a replica, and the number of its entries. Refused: EMPTY. */
 uint32_t antientropy_about(struct antientropy_replica *replica, struct antientropy_about *about);
+
+/* Returns the size of a replica. It looks at each chunk of 15 rows and at the digests of each session's leaves, so ask for
+ * it once in some seconds, not at each put. Refused: EMPTY. */
+uint32_t antientropy_bytes(struct antientropy_replica *replica, struct antientropy_bytes *bytes);
 
 /* ---- versions */
 
@@ -547,6 +559,9 @@ uint32_t antientropy_snapshot_share(struct antientropy_snapshot *snapshot, struc
  * antientropy_hold. So a checkpoint of the snapshot has all entries below that number. Refused: EMPTY. */
 uint32_t antientropy_snapshot_about(struct antientropy_snapshot *snapshot, struct antientropy_about *about);
 
+/* Returns the size of a snapshot's rows in bytes, as antientropy_rows copies them out. Refused: EMPTY. */
+uint32_t antientropy_snapshot_bytes(struct antientropy_snapshot *snapshot, uint64_t *bytes);
+
 /* Frees the snapshot that a handle holds, if it holds one. */
 void antientropy_snapshot_free(struct antientropy_snapshot *snapshot);
 
@@ -721,6 +736,10 @@ uint32_t antientropy_hints_renew(struct antientropy_hints *hints);
 
 /* Returns the counts of hints. Refused: EMPTY. */
 uint32_t antientropy_hints_count(struct antientropy_hints *hints, struct antientropy_hint_counts *counts);
+
+/* Returns the size of hints in bytes, those that are delivered too: their keys, values and clocks, 10 bytes for each pair
+ * of a clock. Refused: EMPTY. */
+uint32_t antientropy_hints_bytes(struct antientropy_hints *hints, uint64_t *bytes);
 
 /* ---- slots: background work that backs off when the foreground is slow */
 

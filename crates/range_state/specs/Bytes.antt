@@ -1,7 +1,7 @@
 -- The size of a range, in bytes. A session keeps the rows of its moment: of leaves that have changed since, the range
 -- itself has other rows.
-use Rattle.std.specs.Prelude.{ℕ, ◌+◌, ◌-◌, ◌^◌, Bool, false, bytes_eq, nat_le, min, List, [], ◌∷◌, length, Option, Some, None, if◌then◌else◌}
-use Rattle.std.specs.List.{sum_by, range_with_len}
+use Rattle.std.specs.Prelude.{ℕ, ◌+◌, ◌-◌, ◌^◌, Bool, false, bytes_eq, nat_le, min, List, [], ◌∷◌, length, map, Option, Some, None, if◌then◌else◌}
+use Rattle.std.specs.List.{sum, sum_by, range_with_len}
 use Rattle.key_ring.specs.Places.{leaf_bits}
 use Rattle.range_journal.specs.Sizes.{entries_len}
 use Rattle.tree_nodes.specs.Nodes.{Node, tree_depth, place_of, kept_digest}
@@ -36,7 +36,7 @@ replaced_leaf_len t own later leaf =
 
 -- those of all leaves
 abbrev pub replaced_len : RangeTree → RowMap → List Record → ℕ
-replaced_len t own later = sum_by (replaced_leaf_len t own later) (range_with_len 0 (2 ^ leaf_bits own.format))
+replaced_len t own later = sum (map (replaced_leaf_len t own later) (range_with_len 0 (2 ^ leaf_bits own.format)))
 
 -- the length of the texts that a session took
 abbrev pub taken_len : List TakenText → ℕ

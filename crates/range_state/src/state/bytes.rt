@@ -1,7 +1,6 @@
 //! The size of a range.
-ghost use Rattle.std.specs.Prelude.{◌≡◌, ◌-◌, ◌^◌, min, map};
-ghost use Rattle.std.specs.List.{sum_by};
-ghost use Rattle.snapshot.specs.RowMaps.{RowMap};
+ghost use Rattle.std.specs.Prelude.{◌≡◌, ◌-◌, ◌<◌, ◌^◌, min};
+ghost use Rattle.key_ring.specs.Places.{leaf_bits};
 ghost use Rattle.range_state.specs.Bytes.{bytes_of, sessions_len, session_len, replaced_len, replaced_leaf_len, taken_len, later_digest, is_digest};
 
 use crate::record::Record;

@@ -1,0 +1,7 @@
+use Rattle.std.proofs.Common.{◌≡◌, ◌+◌, ◌-◌, ◌^◌, drop}
+use Rattle.std.specs.Prelude.{min}
+use Rattle.range_state.specs.Bytes.{sessions_len}
+use Rattle.range_state.proofs.state.bytes.sessions_len.Given as goal
+
+abbrev pub invariant-loop-at : goal.invariant-loop-at
+invariant-loop-at l = min (l.len + sessions_len l.tree (drop l.at l.records)) (2 ^ 64 - 1) ≡ min (sessions_len l.tree l.records) (2 ^ 64 - 1)
