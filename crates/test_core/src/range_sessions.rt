@@ -4,7 +4,7 @@ use crate::calls::{
     range_of_a, rehash, root_of, snapshot, snapshot_of_a, take_answer, text_at,
 };
 use range_journal::Source;
-use range_state::{AnswerTaken, RangeCounts, RangeState, Record};
+use range_state::{AnswerTaken, RangeBytes, RangeCounts, RangeState, Record};
 use snapshot::Snapshot;
 use std::alloc::Global;
 use std::test::Fail;
@@ -269,6 +269,31 @@ fn ended_sessions_are_dropped(rt: HostRuntime) -> Result<(), Fail> {
     let mut state = clean_range(&rt, alloc)?;
     expect_true_texts(&rt, alloc, &mut state, &partner)?;
     expect_one_kept(alloc, &mut state)
+}
+
+/// Asserts the size of the entries and of what sessions keep in addition, of a range whose only row has 21 bytes: 3 of the
+/// key `a`, 2 of the number of versions, and 16 of a version with one pair and the value `x`.
+fn expect_bytes(state: &RangeState, journal: u64, sessions: u64) -> Result<(), Fail> {
+    let bytes = RangeBytes {
+        rows: 21,
+        journal,
+        sessions,
+    };
+    expect(state.bytes() == bytes, "the size of a range")
+}
+
+#[test]
+fn a_session_keeps_a_replaced_leaf_until_it_is_dropped(rt: HostRuntime) -> Result<(), Fail> {
+    let alloc = rt.alloc();
+    let mut state = range_of_a(&rt, alloc)?;
+    let id = open_session(alloc, &mut state, offer([7; 32]))?;
+    expect_bytes(&state, 12, 0)?;
+    put_a(alloc, &mut state, &[(1, 1)])?;
+    rehash(&rt, alloc, &mut state)?;
+    expect_bytes(&state, 24, 21)?;
+    state.cancel_session(id)?;
+    state.drop_ended_sessions();
+    expect_bytes(&state, 24, 0)
 }
 
 /// Asserts that the text `abc` of its root fails the first session, which then no longer asks for the root.
