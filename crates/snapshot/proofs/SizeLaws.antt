@@ -1,6 +1,5 @@
 -- The sizes of rows in the leaves of a row map.
 use Rattle.std.proofs.Common.{◌≡◌, ℕ, zero, suc, ◌+◌, ◌-◌, ◌<◌, ◌≤◌, ◌^◌, List, [], ◌∷◌, length, map, refl, sym, ap, ◌∙◌, arith, inl, inr}
-use Rattle.std.specs.Prelude.{nat_eq, min}
 use Rattle.std.specs.List.{sum_by, range_with_len}
 use Rattle.std.proofs.lemmas.Bool.{cases_eq, ne_eqb, eq-eqb}
 use Rattle.std.proofs.lemmas.List.Sums.{sum_by-cons}
@@ -8,7 +7,7 @@ use Rattle.vclock.specs.declared.format.Format.{Format}
 use Rattle.key_ring.specs.Places.{leaf_bits}
 use Rattle.row_bytes.specs.declared.row.Row.{Row}
 use Rattle.row_bytes.specs.Rows.{row_text}
-use Rattle.hash_tree.specs.Leaves.{Bucket, rows_in_leaf}
+use Rattle.hash_tree.specs.Leaves.{rows_in_leaf}
 use Rattle.hash_tree.specs.Sizes.{rows_len, leaf_len}
 use Rattle.snapshot.specs.RowMaps.{RowMap, leaf_in}
 use Rattle.snapshot.specs.Snapshots.{leaves_of}

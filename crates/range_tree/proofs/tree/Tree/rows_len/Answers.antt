@@ -3,7 +3,6 @@ use Rattle.std.specs.Prelude.{min}
 use Rattle.std.specs.List.{sum_by}
 use Rattle.hash_tree.specs.Leaves.{Bucket}
 use Rattle.hash_tree.specs.Sizes.{leaf_len}
-use Rattle.snapshot.specs.RowMaps.{RowMap}
 use Rattle.snapshot.proofs.SizeLaws.{leaves_len}
 use Rattle.range_tree.specs.Trees.{RangeTree, AreLeaves}
 use Rattle.range_tree.proofs.TreeLaws.{leaves_are}
