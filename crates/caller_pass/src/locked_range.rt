@@ -4,6 +4,7 @@ ghost use Rattle.std.specs.Arc.{arc_value};
 ghost use Rattle.vclock.specs.Answer.{Answers, AnswersAtOnce};
 ghost use Rattle.range_tree.specs.Jobs.{GivesJob};
 ghost use Rattle.vclock.specs.Outcome.{Does, DoesAtOnce, DoesOrNoMemory, gives, through};
+ghost use Rattle.range_state.specs.Bytes.{bytes_of};
 ghost use Rattle.range_state.specs.Counts.{counts_of};
 ghost use Rattle.range_store.specs.Store.{is_sent, ask_fault, dirty_fault, rows_now, tree_in};
 ghost use Rattle.range_state.specs.Records.{record_of};
@@ -23,8 +24,8 @@ use crate::unread::Unread;
 use key_ring::HashedKey;
 use range_journal::Source;
 use range_state::{
-    Accepted, AnswerCounted, ContextTest, LeafRows, Loaded, Moment, RangeCounts, RangeState,
-    Receipt, Record,
+    Accepted, AnswerCounted, ContextTest, LeafRows, Loaded, Moment, RangeBytes, RangeCounts,
+    RangeState, Receipt, Record,
 };
 use range_store::RangeStore;
 use rehash::Job;
@@ -480,6 +481,13 @@ impl<L: Ledger> LockedRange<L> {
         ensures { result ≡ counts_of self.now.state }
     {
         self.state.counts()
+    }
+
+    /// Returns the size of the range, as `RangeState::bytes` does. Doesn't allocate.
+    pub fn bytes(&self) -> RangeBytes
+        ensures { result ≡ bytes_of self.now.state }
+    {
+        self.state.bytes()
     }
 
     /// The records of the sessions, in the order of their numbers. Doesn't allocate.

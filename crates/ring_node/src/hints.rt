@@ -1,10 +1,11 @@
 //! Hints that threads share.
-ghost use Rattle.std.specs.Prelude.{◌≡◌, ◌<◌, [], ◌∷◌, None, IfOk, IfSome};
+ghost use Rattle.std.specs.Prelude.{◌≡◌, ◌-◌, ◌<◌, ◌^◌, [], ◌∷◌, min, None, IfOk, IfSome};
 ghost use Rattle.vclock.specs.Answer.{Answers};
 ghost use Rattle.vclock.specs.Outcome.{Does, DoesAtOnce, gives};
 ghost use Rattle.hint_store.specs.Hints.{AreHints, keep, next_hint, confirm};
 ghost use Rattle.hint_store.specs.Renewals.{renewed};
 ghost use Rattle.hint_store.specs.Counts.{counts_of};
+ghost use Rattle.hint_store.specs.Sizes.{hints_len};
 ghost use Rattle.ring_node.specs.Moments.{FoundAtSomeMoment, ChangedAtSomeMoment};
 
 use hint_store::{Delivery, Hint, HintCounts, HintStore};
@@ -104,5 +105,14 @@ impl SharedHints {
         let hints = self.hints.lock(rt);
         let _valid = hints.pending();
         hints.counts()
+    }
+
+    /// Returns the size of the hints, pending or delivered, at one moment, as [`HintStore::bytes`] does. Doesn't allocate.
+    pub fn bytes<R: Wait>(&self, rt: &R) -> u64
+        ensures { FoundAtSomeMoment AreHints (λ hints. result ≡ min (hints_len hints) (2 ^ 64 - 1)) }
+    {
+        let hints = self.hints.lock(rt);
+        let _valid = hints.pending();
+        hints.bytes()
     }
 }

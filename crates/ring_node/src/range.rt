@@ -6,6 +6,7 @@ ghost use Rattle.vclock.specs.Clock.{raise_fault};
 ghost use Rattle.vclock.specs.Bytes.{key_fault};
 ghost use Rattle.vclock.specs.Outcome.{Does, DoesOrNoMemory, through};
 ghost use Rattle.range_journal.specs.Journal.{held};
+ghost use Rattle.range_state.specs.Bytes.{bytes_of};
 ghost use Rattle.range_state.specs.Counts.{counts_of};
 ghost use Rattle.range_state.specs.Migrates.{migrate};
 ghost use Rattle.range_store.specs.Store.{is_sent, put_version, dirty_fault, rows_now};
@@ -22,7 +23,8 @@ use caller_pass::{Book, Closed, LockedRange, Pass, Renewed, ReturnedPass, Unclos
 use key_ring::HashedKey;
 use range_journal::Source;
 use range_state::{
-    Accepted, ContextTest, LeafRows, Loaded, RangeConfig, RangeCounts, RangeState, Receipt,
+    Accepted, ContextTest, LeafRows, Loaded, RangeBytes, RangeConfig, RangeCounts, RangeState,
+    Receipt,
 };
 use snapshot::Snapshot;
 use std::alloc::Global;
@@ -308,6 +310,17 @@ impl<L: Ledger> SharedRange<L> {
         // Called for its clause `valid` alone: the range is right.
         let _valid = range.store();
         range.counts()
+    }
+
+    /// Returns the size of the rows, of the journal and of what sessions keep in addition, at one moment, as
+    /// [`LockedRange::bytes`] does. Doesn't allocate. Calls of other threads wait meanwhile, for a walk over chunks of 15 rows.
+    pub fn bytes<R: Wait>(&self, rt: &R) -> RangeBytes
+        ensures { FoundAtSomeMoment (IsLocked L.parts) (λ locked. result ≡ bytes_of locked.state) }
+    {
+        let range = self.range.lock(rt);
+        // Called for its clause `valid` alone: the range is right.
+        let _valid = range.store();
+        range.bytes()
     }
 
     /// Makes a snapshot of the rows at one moment with the digests of their tree.

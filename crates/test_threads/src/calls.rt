@@ -4,7 +4,7 @@
 use admission::Slot;
 use caller_pass::{LockedRange, Pass};
 use range_journal::Source;
-use range_state::{Accepted, Loaded, RangeConfig, RangeCounts};
+use range_state::{Accepted, Loaded, RangeBytes, RangeConfig, RangeCounts};
 use ring_node::{
     Gate, Link, MomentReport, OfferPool, OpenGate, RehashReport, SharedController, SharedRange,
     SyncReport,
@@ -119,6 +119,11 @@ pub fn look<L: Ledger, R: Wait>(
 /// Returns the counts of a range.
 pub fn count<L: Ledger, R: Wait>(rt: &R, range: &SharedRange<L>) -> RangeCounts {
     range.counts(rt)
+}
+
+/// Returns the size of a range.
+pub fn bytes<L: Ledger, R: Wait>(rt: &R, range: &SharedRange<L>) -> RangeBytes {
+    range.bytes(rt)
 }
 
 /// Migrates a range to format 2.

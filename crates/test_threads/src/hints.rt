@@ -126,6 +126,7 @@ impl NodeTest for FiveHints {
             counts.pending == 4 && counts.delivered == 1,
             "four hints are pending",
         )?;
+        expect(node.hints.bytes(rt) == 60, "five hints have 12 bytes each")?;
         renew(rt, alloc, &mut node.hints)?;
         let counts = count(rt, &node.hints);
         expect(

@@ -1,7 +1,7 @@
 //! Calls of a shared range, in one thread.
 ghost use Rattle.std.specs.Prelude.{◌≡◌};
 
-use crate::calls::{config, copy, count, get, look, put, snapshot};
+use crate::calls::{bytes, config, copy, count, get, look, put, snapshot};
 use crate::nodes::{Replica, all_keys};
 use caller_pass::Pass;
 use ring_node::{NotClosed, SharedRange};
@@ -87,6 +87,12 @@ fn write_and_copy<L: Ledger, R: Wait>(
     expect(
         counts.entries == 2 && counts.limit == 10 && counts.dirty == 273 && counts.sessions == 0,
         "two entries of ten, and no node is clean",
+    )?;
+    // (a version with one pair and the value `x` has 16 bytes in a row's text, and 11 in the journal, in addition to the key)
+    let bytes = bytes(rt, range);
+    expect(
+        bytes.rows == 37 && bytes.journal == 24 && bytes.sessions == 0,
+        "the size of a row with two versions, and of two entries",
     )
 }
 
