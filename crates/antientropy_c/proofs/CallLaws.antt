@@ -2,12 +2,13 @@
 use Rattle.std.proofs.Common.{◌≡◌, ℕ, List, sym, subst}
 use Rattle.std.specs.Prelude.{Bool, true, false, Result}
 use Rattle.vclock.specs.declared.refusal.Refusal.{Refusal}
-use Rattle.antientropy_c.specs.Numbers.{code_of, Returns, EMPTY}
-use Rattle.antientropy_c.specs.Calls.{CallsOn, CallsOnState, OnHeld, Reads}
-use Rattle.antientropy_c.specs.Hands.{HandsOut, HandsOutRight}
-use Rattle.antientropy_c.specs.Kept.{KeptState}
-use Rattle.antientropy_c.specs.Merges.{HandsClock, GivesClock}
-use Rattle.antientropy_c.specs.declared.pair.Pair.{Pair}
+use Rattle.c_calls.specs.Numbers.{code_of, Returns, EMPTY}
+use Rattle.antientropy_c.specs.Calls.{CallsOn, CallsOnState, OnHeld}
+use Rattle.c_calls.specs.Reads.{Reads}
+use Rattle.c_calls.specs.Hands.{HandsOut, HandsOutRight}
+use Rattle.c_calls.specs.Kept.{KeptState}
+use Rattle.c_calls.specs.Merges.{HandsClock, GivesClock}
+use Rattle.c_calls.specs.declared.pair.Pair.{Pair}
 use Rattle.vclock.specs.Clock.{Pairs}
 use Rattle.range_state.specs.State.{State}
 use Rattle.walk_messages.specs.Messages.{Decodes}
@@ -58,10 +59,6 @@ returns code Right r number right = record { outcome = r; number = number; right
 pub gives : (code : ℕ) (before after : ℕ × List ℕ) (Right : Result (List ℕ) Refusal → Type 0) (r : Result (List ℕ) Refusal)
     → HandsOut r code before after → Right r → HandsOutRight code before after Right
 gives code before after Right r handed right = record { outcome = r; handed = handed; right = right }
-
--- what the bytes decode to
-pub reads : (bytes : List ℕ) (Right : Result Message Refusal → Type 0) (d : Result Message Refusal) → Decodes bytes d → Right d → Reads bytes Right
-reads bytes Right d decodes right = record { decoded = d; decodes = decodes; right = right }
 
 -- the pairs of a clock are handed out
 pub gives_clock : (code : ℕ) (before after : ℕ × List Pair) (Right : Result Pairs Refusal → Type 0) (r : Result Pairs Refusal)

@@ -5,7 +5,7 @@ use Rattle.rehash.specs.Jobs.{NodeText}
 use Rattle.range_state.specs.State.{State}
 use Rattle.range_state.specs.Moments.{dirty_in}
 use Rattle.range_state.specs.Portions.{installed_all}
-use Rattle.antientropy_c.specs.Numbers.{EMPTY}
+use Rattle.c_calls.specs.Numbers.{EMPTY}
 use Rattle.antientropy_c.specs.Portions.{Installs, InstallsNodes}
 
 nodes_installed : (was : Bool) (code : ℕ) (nodes : List NodeText) (s t : State) (old new : ℕ) → was ≡ true → code ≡ 0 → t ≡ installed_all s nodes → new ≡ dirty_in t.moment → InstallsNodes was code nodes s t old new

@@ -7,12 +7,12 @@ use Rattle.hint_store.specs.contracts.store.HintStore as store
 use Rattle.range_state.specs.State.{fresh}
 use Rattle.range_state.specs.contracts.portion.Portion as nodes
 pub use Rattle.c_handle.proofs.HandleLaws.{CStruct, Sends, sent, of_handle, into_handle, moved}
-use Rattle.antientropy_c.specs.Kept.{numbered}
+use Rattle.c_calls.specs.Kept.{numbered}
 use Rattle.antientropy_c.specs.contracts.hints.Hints as hints
-use Rattle.antientropy_c.specs.contracts.kept.Kept as kept
+use Rattle.c_calls.specs.contracts.kept.Kept as kept
 use Rattle.antientropy_c.specs.contracts.portion_handle.PortionHandle as portion
 use Rattle.antientropy_c.specs.contracts.publication.Publication as publication
-use Rattle.antientropy_c.specs.contracts.published.Published as published
+use Rattle.c_calls.specs.contracts.published.Published as published
 use Rattle.antientropy_c.specs.contracts.replica.Replica as replica
 use Rattle.antientropy_c.specs.contracts.slots.Slots as slots
 

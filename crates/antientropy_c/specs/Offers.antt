@@ -1,20 +1,10 @@
--- Offers of a replica to another one.
-use Rattle.std.specs.Prelude.{◌≡◌, ℕ, ◌==◌, Bool, List, Result, Ok, Err, Option, MatchBool}
-use Rattle.vclock.specs.Answer.{Answers}
-use Rattle.vclock.specs.Format.{format_number}
+-- Publications: snapshots in handles of C.
+use Rattle.std.specs.Prelude.{◌≡◌, ℕ, Bool, Option}
 use Rattle.vclock.specs.declared.refusal.Refusal.{Refusal}
-use Rattle.vclock.specs.declared.refusal.Refusal.TheVariants.{BadMessage, Gone}
-use Rattle.walk_messages.specs.Messages.{message_text}
-use Rattle.walk_messages.specs.declared.message.Answer.{Answer}
-use Rattle.walk_messages.specs.declared.message.Ask.{Ask}
-use Rattle.walk_messages.specs.declared.message.Offer.{Offer}
-use Rattle.walk_messages.specs.declared.message.Message.{Message}
-use Rattle.walk_messages.specs.declared.message.Message.TheVariants as messages
-use Rattle.snapshot.specs.RowMaps.{RowMap, root_of, text_at}
-use Rattle.snapshot.specs.Snapshots.{answer_fault}
+use Rattle.snapshot.specs.RowMaps.{RowMap}
 use Rattle.antientropy_c.specs.Calls.{CallsOn}
-use Rattle.antientropy_c.specs.Makes.{Takes, MakesIn}
-use Rattle.antientropy_c.specs.Published.{Shown}
+use Rattle.antientropy_c.specs.Makes.{MakesIn}
+use Rattle.c_calls.specs.Published.{Shown}
 use Rattle.antientropy_c.specs.declared.publication.Publication.{Publication}
 
 abbrev pub shown_in : Publication → Bool × Shown
@@ -28,31 +18,6 @@ Shows code old new Same Right = CallsOn code (shown_in old) (shown_in new) Same 
 abbrev pub ShowsRows : ℕ → Publication → Publication → Type 0 → (RowMap → Type 0) → Type 0
 ShowsRows code old new Same Right = Shows code old new Same (λ m. Right m.rows)
 
--- the publication holds the rows and their number of entries, or is empty on error
-abbrev pub TakesRows : Publication → Option Refusal → Shown → Result (Unit {0}) Refusal → Type 0
-TakesRows new cause m r = Takes (shown_in new) cause (λ x. x ≡ m) r
-
 -- a full publication is unchanged, and HELD is returned; otherwise the rows are published
 abbrev pub Publishes : ℕ → Publication → Publication → Option Refusal → Shown → Type 0
 Publishes code old new cause m = MakesIn code (shown_in old) (shown_in new) cause (λ x. x ≡ m)
-
--- the offer of some rows
-abbrev pub offer_numbered : ℕ → RowMap → Offer
-offer_numbered number m = record { offer = number; format = format_number m.format; range = m.range; root = root_of m }
-
--- the answer to an ask
-abbrev pub answer_of : RowMap → Ask → Answer
-answer_of m ask = record { offer = ask.offer; node = ask.node; text = text_at m ask.node.depth ask.node.index }
-
--- an ask for the offer of that number is answered, and the result for another offer is Gone
-abbrev pub ServesAsk : RowMap → ℕ → Ask → Result (List ℕ) Refusal → Type 0
-ServesAsk m number ask r = MatchBool (ask.offer == number)
-    (Answers r (answer_fault m ask.node) (λ bytes. bytes ≡ message_text (messages.Answer (answer_of m ask))))
-    (r ≡ Err Gone)
-
--- a decoded message is answered if it is an ask
-abbrev pub Serves : RowMap → ℕ → Result (List ℕ) Refusal → Result Message Refusal → Type 0
-Serves m number r (Ok (messages.Ask ask)) = ServesAsk m number ask r
-Serves m number r (Ok (messages.Offer offer)) = r ≡ Err BadMessage
-Serves m number r (Ok (messages.Answer answer)) = r ≡ Err BadMessage
-Serves m number r (Err e) = r ≡ Err e

@@ -4,7 +4,7 @@ use Rattle.rehash.specs.Jobs.{NodeText}
 use Rattle.range_state.specs.State.{State}
 use Rattle.range_state.specs.Moments.{dirty_in}
 use Rattle.range_state.specs.Portions.{installed_all}
-use Rattle.antientropy_c.specs.Numbers.{EMPTY}
+use Rattle.c_calls.specs.Numbers.{EMPTY}
 use Rattle.antientropy_c.specs.declared.portion_handle.PortionHandle.{PortionHandle}
 
 abbrev pub nodes_in : PortionHandle → Bool × List NodeText

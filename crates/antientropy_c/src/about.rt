@@ -1,29 +1,16 @@
 //! The place of a replica's range, and the number of its entries.
 ghost use Rattle.std.specs.Prelude.{◌≡◌};
-ghost use Rattle.antientropy_c.specs.About.{about_of, about_shown};
+ghost use Rattle.c_calls.specs.About.{about_of, about_shown};
 ghost use Rattle.antientropy_c.specs.Calls.{CallsKept};
 ghost use Rattle.antientropy_c.specs.Offers.{Shows};
 
 use crate::frame::with;
-use crate::kept::Kept;
 use crate::publication::Publication;
-use crate::published::Published;
 use crate::replica::Replica;
+use c_calls::about::{About, about_of, about_shown};
+use c_calls::kept::Kept;
+use c_calls::published::Published;
 use std::alloc::Global;
-
-/// What a checkpoint has to name: the range, and the position of its log.
-#[repr(C)]
-#[derive(Clone, Copy)]
-pub struct About {
-    /// The number of the format, 1 or 2.
-    pub format: u64,
-    /// The number of bits of the range's number.
-    pub bits: u64,
-    /// The number of the range, from 0.
-    pub range: u64,
-    /// The number of entries, with those before the last renewals: the number of the next entry.
-    pub entries: u64,
-}
 
 /// Stores the place of the range of a replica, and the number of its entries. Refused: EMPTY.
 #[unsafe(no_mangle)]
@@ -37,19 +24,6 @@ pub extern "C" fn antientropy_about(alloc: Global, replica: &mut Replica, about:
         0
     };
     with(replica, alloc, &mut call)
-}
-
-/// Returns the place of the range of a replica, and the number of its entries.
-fn about_of(kept: &Kept) -> About
-    ensures { result ≡ about_of kept.now }
-{
-    let config = kept.state().store().config();
-    About {
-        format: u64::from(config.format().number()),
-        bits: u64::from(config.bits()),
-        range: u64::from(config.range()),
-        entries: kept.entries(),
-    }
 }
 
 /// Stores the place of the range of a snapshot, and the number of entries that made its rows: of a moment those that the
@@ -69,17 +43,4 @@ pub extern "C" fn antientropy_snapshot_about(
         0
     };
     with(publication, alloc, &mut call)
-}
-
-/// Returns the place of the range of a snapshot, and the number of entries that made its rows.
-fn about_shown(rows: &Published) -> About
-    ensures { result ≡ about_shown rows.now }
-{
-    let snapshot = rows.snapshot();
-    About {
-        format: u64::from(snapshot.format().number()),
-        bits: u64::from(snapshot.bits()),
-        range: u64::from(snapshot.range()),
-        entries: rows.entries(),
-    }
 }

@@ -4,19 +4,18 @@ ghost use Rattle.vclock.specs.Answer.{AnswersAtOnce};
 ghost use Rattle.vclock.specs.declared.refusal.Refusal.{Refusal};
 ghost use Rattle.range_journal.specs.Counters.{top_counter};
 ghost use Rattle.antientropy_c.specs.Calls.{CallsKept};
-ghost use Rattle.antientropy_c.specs.Kept.{entries_below};
-ghost use Rattle.antientropy_c.specs.Numbers.{Returns};
-ghost use Rattle.antientropy_c.specs.Puts.{node_fault};
-ghost use Rattle.antientropy_c.specs.Sessions.{TellsNumber};
+ghost use Rattle.c_calls.specs.Kept.{entries_below};
+ghost use Rattle.c_calls.specs.Numbers.{Returns};
+ghost use Rattle.c_calls.specs.Puts.{node_fault};
+ghost use Rattle.c_calls.specs.Sessions.{TellsNumber};
 
 use crate::frame::with;
-use crate::kept::Kept;
-use crate::numbers::code;
-use crate::puts::node_of;
 use crate::replica::Replica;
-use crate::sessions::tell_number;
+use c_calls::counters::top_counter;
+use c_calls::kept::Kept;
+use c_calls::numbers::code;
+use c_calls::sessions::tell_number;
 use std::alloc::Global;
-use vclock::{Refusal, check_key};
 
 /// Stores the greatest counter of a node in the clocks of the versions that the entries of numbers below `entries` have
 /// for a key: of all entries if there are fewer, and 0 if no clock has the node. Reads each of these entries.
@@ -42,18 +41,4 @@ pub extern "C" fn antientropy_top_counter(
         code(&outcome)
     };
     with(replica, alloc, &mut call)
-}
-
-/// Returns the greatest counter of a node for a key, over the entries of numbers below `entries`: 0 for a key that isn't 1 to 255 bytes long,
-/// of which no byte is read. Refused: BadClock.
-fn top_counter(kept: &Kept, node: u64, key: &[u8], entries: u64) -> Result<u64, Refusal>
-    ensures { AnswersAtOnce result (node_fault node) (λ n. n ≡ top_counter (entries_below kept.now entries) key.now node) }
-{
-    let node = node_of(node)?;
-    let front = kept.below(entries);
-    let journal = kept.state().journal();
-    match check_key(key) {
-        Ok(()) => Ok(journal.top_counter(node, key, front)),
-        Err(_) => Ok(0),
-    }
 }

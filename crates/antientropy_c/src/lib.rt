@@ -1,5 +1,6 @@
 //! A replica of a range, for programs in C and in languages that can call C. Use it through `include/antientropy.h`,
-//! which declares these calls.
+//! which declares these calls. An export takes the value out of a handle, makes a call of `c_calls` with it, and puts it
+//! back.
 #![tactic(auto)]
 
 pub mod about;
@@ -12,23 +13,17 @@ pub mod entries;
 mod frame;
 pub mod hint_calls;
 pub mod hints;
-mod kept;
 pub mod keys;
-pub mod laws;
 pub mod library;
 pub mod lifecycle;
 pub mod loads;
 pub mod moments;
-mod numbers;
 pub mod offer_parts;
 pub mod offers;
-mod output;
 pub mod packed;
-pub mod pair;
 pub mod portion_handle;
 pub mod portions;
 pub mod publication;
-mod published;
 pub mod puts;
 pub mod readers;
 pub mod readings;

@@ -2,10 +2,11 @@
 ghost use Rattle.std.specs.Prelude.{◌≡◌, Ok};
 ghost use Rattle.vclock.specs.Refusal.{cause_number, name_of};
 ghost use Rattle.vclock.specs.declared.refusal.Refusal.{Refusal};
-ghost use Rattle.antientropy_c.specs.Hands.{HandsOut};
-ghost use Rattle.antientropy_c.specs.Library.{name_numbered};
+ghost use Rattle.c_calls.specs.Hands.{HandsOut};
+ghost use Rattle.c_calls.specs.Library.{name_numbered};
 
-use crate::output::copy_out;
+use c_calls::library::name_of;
+use c_calls::output::copy_out;
 
 /// The version of the library: 10,000 times the major number, 100 times the minor one, and the patch.
 const VERSION: u32 = 10_100;
@@ -26,51 +27,4 @@ pub extern "C" fn antientropy_name(number: u32, out: &mut [u8], need: &mut u64) 
     ensures refusals { (e : Refusal) → name_numbered (cause_number e) ≡ name_of e }
 {
     copy_out(name_of(number).as_bytes(), out, need)
-}
-
-/// Returns the name of a number.
-fn name_of(number: u32) -> &'static str
-    ensures { result.now ≡ name_numbered number }
-{
-    match number {
-        0 => "Ok",
-        1 => "BadClock",
-        2 => "ClockFull",
-        3 => "CounterFull",
-        4 => "BadKey",
-        5 => "BadValue",
-        6 => "StaleContext",
-        7 => "Crowded",
-        8 => "JournalFull",
-        9 => "OtherRange",
-        10 => "Dirty",
-        11 => "Stale",
-        12 => "UnknownSession",
-        13 => "NotAsked",
-        14 => "WrongDigest",
-        15 => "NotCanonical",
-        16 => "OtherFormat",
-        17 => "SessionsFull",
-        18 => "NoSlot",
-        19 => "ClockBack",
-        20 => "UnknownHint",
-        21 => "HintsFull",
-        22 => "Gone",
-        23 => "Behind",
-        24 => "Unsettled",
-        25 => "Stranger",
-        26 => "LinkLost",
-        27 => "BadRing",
-        28 => "Down",
-        29 => "BadLine",
-        30 => "RowBroken",
-        31 => "BadMessage",
-        32 => "NoMemory",
-        33 => "Small",
-        34 => "Empty",
-        35 => "Held",
-        36 => "NoVersion",
-        37 => "BadPosition",
-        38.. => "",
-    }
 }

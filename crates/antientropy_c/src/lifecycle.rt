@@ -1,29 +1,29 @@
 //! The making, migration and freeing of replicas.
 ghost use Rattle.std.specs.Prelude.{◌≡◌, false, Result, ⊤};
-ghost use Rattle.vclock.specs.Answer.{Answers};
 ghost use Rattle.vclock.specs.Outcome.{Does};
 ghost use Rattle.vclock.specs.declared.refusal.Refusal.{Refusal};
 ghost use Rattle.range_store.specs.Config.{config_of};
 ghost use Rattle.range_state.specs.Migrates.{migrate};
-ghost use Rattle.antientropy_c.specs.Numbers.{Returns};
+ghost use Rattle.c_calls.specs.Numbers.{Returns};
 ghost use Rattle.antientropy_c.specs.Calls.{Calls};
-ghost use Rattle.antientropy_c.specs.Makes.{Makes, TakesState, config_fault, IsFresh};
+ghost use Rattle.antientropy_c.specs.Makes.{Makes};
+ghost use Rattle.c_calls.specs.Fresh.{config_fault, IsFresh};
 
-use crate::frame::with_state;
-use crate::kept::Kept;
-use crate::numbers::{HELD, code};
+use crate::frame::{fill, with_state};
 use crate::replica::Replica;
+use c_calls::lifecycle::fresh;
+use c_calls::numbers::{HELD, code};
 use c_handle::InC;
-use range_state::{RangeConfig, RangeState, Seed};
+use range_state::{RangeState, Seed};
 use std::alloc::Global;
-use vclock::Refusal;
 
-/// Makes a replica that has accepted nothing, as [`RangeConfig::new`] and [`RangeState::new`] do.
+/// Makes a replica that has accepted nothing, as [`RangeConfig::new`](range_state::RangeConfig::new) and
+/// [`RangeState::new`] do.
 ///
 /// Refused, in order: HELD (the handle holds a replica already), BadRing (the numbers are outside the limits),
 /// NoMemory. On error the handle is unchanged.
 #[unsafe(no_mangle)]
-#[tactic(auto, using(crate::proofs::MakeLaws::already, crate::proofs::MakeLaws::made))]
+#[tactic(auto, using(crate::proofs::MakeLaws::already))]
 pub extern "C" fn antientropy_new(
     alloc: Global,
     replica: &mut Replica,
@@ -39,8 +39,8 @@ pub extern "C" fn antientropy_new(
         replica.hold(kept);
         return HELD;
     }
-    let seed = Seed::default();
-    code(&make(alloc, replica, format, bits, range, limit, seed))
+    let made = fresh(alloc, format, bits, range, limit, Seed::default());
+    fill(replica, made)
 }
 
 /// Makes a replica as [`antientropy_new`] does, as [`RangeState::seeded`] does with a seed of two words: chosen at random,
@@ -49,7 +49,7 @@ pub extern "C" fn antientropy_new(
 /// Refused, in order: HELD (the handle holds a replica already), BadRing (the numbers are outside the limits),
 /// NoMemory. On error the handle is unchanged.
 #[unsafe(no_mangle)]
-#[tactic(auto, using(crate::proofs::MakeLaws::already, crate::proofs::MakeLaws::made))]
+#[tactic(auto, using(crate::proofs::MakeLaws::already))]
 pub extern "C" fn antientropy_new_seeded(
     alloc: Global,
     replica: &mut Replica,
@@ -67,44 +67,8 @@ pub extern "C" fn antientropy_new_seeded(
         replica.hold(kept);
         return HELD;
     }
-    let seed = Seed { first, second };
-    code(&make(alloc, replica, format, bits, range, limit, seed))
-}
-
-/// Makes a replica in an empty handle.
-fn make(
-    alloc: Global,
-    replica: &mut Replica,
-    format: u64,
-    bits: u64,
-    range: u64,
-    limit: u64,
-    seed: Seed,
-) -> Result<(), Refusal>
-    requires { replica.old.held ≡ false }
-    ensures { TakesState replica.new (config_fault (config_of format bits range limit))
-        (IsFresh (config_of format bits range limit)) result }
-{
-    let kept = fresh(alloc, format, bits, range, limit, seed)?;
-    replica.hold(kept);
-    Ok(())
-}
-
-/// Makes the box of a replica that has accepted nothing.
-fn fresh(
-    alloc: Global,
-    format: u64,
-    bits: u64,
-    range: u64,
-    limit: u64,
-    seed: Seed,
-) -> Result<Box<Kept, Global>, Refusal>
-    ensures { Answers result (config_fault (config_of format bits range limit))
-        (λ kept. IsFresh (config_of format bits range limit) kept.value) }
-{
-    let config = RangeConfig::new(format, bits, range, limit).ok_or(Refusal::BadRing)?;
-    let state = RangeState::seeded(alloc, config, seed)?;
-    Ok(Box::new(alloc, Kept::new(state))?)
+    let made = fresh(alloc, format, bits, range, limit, Seed { first, second });
+    fill(replica, made)
 }
 
 /// Migrates a replica of format 1 to format 2; one of format 2 is unchanged. Refused, in order: EMPTY, NoMemory. On

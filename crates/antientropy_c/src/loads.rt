@@ -1,5 +1,5 @@
 //! Rows of leaves: written from a snapshot, and loaded into a replica.
-ghost use Rattle.std.specs.Prelude.{◌≡◌, Some, None, Result, if◌then◌else◌};
+ghost use Rattle.std.specs.Prelude.{◌≡◌, Result};
 ghost use Rattle.std.specs.List.{flat_map};
 ghost use Rattle.vclock.specs.Answer.{Answers};
 ghost use Rattle.vclock.specs.Format.{format_of};
@@ -9,40 +9,24 @@ ghost use Rattle.row_bytes.specs.Rows.{row_text};
 ghost use Rattle.hash_tree.specs.Leaves.{rows_in_leaf};
 ghost use Rattle.snapshot.specs.RowMaps.{leaf_in};
 ghost use Rattle.snapshot.specs.Snapshots.{leaf_fault};
-ghost use Rattle.range_store.specs.FormatLoads.{newer_fault};
 ghost use Rattle.range_state.specs.Loads.{load_text};
 ghost use Rattle.range_store.specs.declared.store.loading.Loaded.{Loaded};
 ghost use Rattle.antientropy_c.specs.Calls.{Calls};
-ghost use Rattle.antientropy_c.specs.Hands.{HandsNothing, HandsOutRight};
-ghost use Rattle.antientropy_c.specs.Loads.{load_numbered, numbered_fault, TellsLoaded};
-ghost use Rattle.antientropy_c.specs.Numbers.{Returns};
+ghost use Rattle.c_calls.specs.Hands.{HandsNothing, HandsOutRight};
+ghost use Rattle.c_calls.specs.Loads.{load_numbered, numbered_fault, TellsLoaded};
+ghost use Rattle.c_calls.specs.Numbers.{Returns};
 ghost use Rattle.antientropy_c.specs.Offers.{ShowsRows};
-ghost use Rattle.antientropy_c.specs.Puts.{NoMemoryAfter};
+ghost use Rattle.c_calls.specs.Puts.{NoMemoryAfter};
 
 use crate::frame::{with, with_state};
-use crate::numbers::code;
-use crate::output::hand_out;
 use crate::publication::Publication;
-use crate::published::Published;
 use crate::replica::Replica;
-use key_ring::leaf_count;
-use range_state::{Loaded, RangeState};
-use snapshot::Snapshot;
+use c_calls::loads::{LoadReceipt, load_format, rows_of, tell_loaded};
+use c_calls::numbers::code;
+use c_calls::output::hand_out;
+use c_calls::published::Published;
+use range_state::RangeState;
 use std::alloc::Global;
-use tree_nodes::Text;
-use vclock::{Format, Refusal};
-
-/// The result of a load.
-#[repr(C)]
-#[derive(Clone, Copy)]
-pub struct LoadReceipt {
-    /// The number of new versions.
-    pub taken: u64,
-    /// The number of versions that were known.
-    pub known: u64,
-    /// The offset in bytes of the broken field, if the rows were refused for it. 0 if they weren't refused.
-    pub offset: u64,
-}
 
 /// Writes the texts of the rows of a leaf of a snapshot, in ascending order of key. Refused, in order: EMPTY, BadMessage
 /// (the tree has no such leaf), NoMemory, SMALL.
@@ -65,17 +49,6 @@ pub extern "C" fn antientropy_rows(
         hand_out(&outcome, out, need)
     };
     with(publication, alloc, &mut call)
-}
-
-/// Writes the texts of the rows of a leaf of a snapshot.
-fn rows_of(alloc: Global, snapshot: &Snapshot, leaf: u64) -> Result<Text, Refusal>
-    ensures { Answers result (leaf_fault snapshot.now.format leaf)
-        (λ bytes. bytes ≡ flat_map (row_text snapshot.now.format) (rows_in_leaf (leaf_in snapshot.now) leaf snapshot.now.rows)) }
-{
-    if leaf >= u64::from(leaf_count(snapshot.format())) {
-        return Err(Refusal::BadMessage);
-    }
-    Ok(Text::from(snapshot.rows_text(alloc, leaf as u16)?))
 }
 
 /// Loads rows of one leaf from their texts, as [`RangeState::load_rows`](range_state::RangeState::load_rows) does at
@@ -129,50 +102,4 @@ pub extern "C" fn antientropy_load_format(
         code(&outcome)
     };
     with_state(replica, alloc, &mut call)
-}
-
-/// Loads rows of the format of a number.
-fn load_format(
-    alloc: Global,
-    state: &mut RangeState,
-    format: u64,
-    rows: &[u8],
-) -> Result<Loaded, Refusal>
-    ensures does { DoesOrNoMemory result state.old state.new (load_numbered state.old (format_of format) rows.now) }
-    ensures early { NoMemoryAfter (numbered_fault state.old (format_of format)) result }
-{
-    let Some(format) = Format::of_number(format) else {
-        return Err(Refusal::BadRing);
-    };
-    if is_newer(format, state.store().config().format()) {
-        return Err(Refusal::OtherFormat);
-    }
-    state.load_format(alloc, 0, format, rows)
-}
-
-/// Returns true if a replica of a format can't load rows of another one, since that one is newer.
-fn is_newer(rows: Format, replica: Format) -> bool
-    ensures { newer_fault replica rows ≡ (if result then Some Refusal.OtherFormat else None) }
-{
-    match (rows, replica) {
-        (Format::Two, Format::One) => true,
-        (Format::One, _) | (Format::Two, Format::Two) => false,
-    }
-}
-
-/// Stores the counts of a load, or the offset of a broken field.
-fn tell_loaded(outcome: &Result<Loaded, Refusal>, receipt: &mut LoadReceipt)
-    ensures { TellsLoaded outcome.now receipt.old receipt.new }
-{
-    match outcome {
-        Ok(Loaded { taken, known }) => {
-            *receipt = LoadReceipt {
-                taken: *taken,
-                known: *known,
-                offset: 0,
-            }
-        }
-        Err(Refusal::RowBroken(offset)) => receipt.offset = *offset,
-        Err(_) => {}
-    }
 }

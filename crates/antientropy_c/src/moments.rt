@@ -6,21 +6,21 @@ ghost use Rattle.range_state.specs.Moments.{with_moment, without_moment, moment_
 ghost use Rattle.range_state.specs.Portions.{HashesMoment};
 ghost use Rattle.range_state.specs.declared.local_rows.LocalRows.TheVariants as local_rows;
 ghost use Rattle.antientropy_c.specs.Calls.{Calls, CallsKept};
-ghost use Rattle.antientropy_c.specs.Numbers.{Returns};
+ghost use Rattle.c_calls.specs.Numbers.{Returns};
 ghost use Rattle.antientropy_c.specs.Offers.{Publishes};
-ghost use Rattle.antientropy_c.specs.Published.{shown_by};
-ghost use Rattle.antientropy_c.specs.Sessions.{TellsNumber};
+ghost use Rattle.c_calls.specs.Published.{shown_by};
+ghost use Rattle.c_calls.specs.Sessions.{TellsNumber};
 
-use crate::frame::{with, with_state};
-use crate::kept::Kept;
-use crate::numbers::code;
-use crate::offers::publish;
+use crate::frame::{fill_from, with_state};
 use crate::publication::Publication;
 use crate::replica::Replica;
-use crate::sessions::tell_number;
+use c_calls::kept::Kept;
+use c_calls::moments::{hash_moment, hold};
+use c_calls::numbers::code;
+use c_calls::offers::shown;
+use c_calls::sessions::tell_number;
 use range_state::{LocalRows, RangeState};
 use std::alloc::Global;
-use vclock::Refusal;
 
 /// Keeps the rows now as the moment of a replica, in the place of another one. Copies no row. Refused, in order: EMPTY,
 /// NoMemory. On error the replica is unchanged.
@@ -35,14 +35,6 @@ pub extern "C" fn antientropy_hold(alloc: Global, replica: &mut Replica) -> u32
         code(&outcome)
     };
     with_state(replica, alloc, &mut call)
-}
-
-/// Keeps the rows now as the moment of a replica, and frees the one before.
-fn hold(alloc: Global, state: &mut RangeState) -> Result<(), Refusal>
-    ensures { Does result state.old state.new (gives tt (with_moment state.old)) }
-{
-    let _before = state.hold_moment(alloc)?;
-    Ok(())
 }
 
 /// Lets go of the moment of a replica, if there is one. Refused: EMPTY.
@@ -79,19 +71,10 @@ pub extern "C" fn antientropy_hash_moment(
     with_state(replica, alloc, &mut call)
 }
 
-/// Hashes at most `most` of the moment's dirty nodes whose children are clean, and returns the number of its nodes that
-/// are dirty then.
-fn hash_moment(alloc: Global, state: &mut RangeState, most: u64) -> Result<u64, Refusal>
-    ensures { HashesMoment result most state.old state.new }
-{
-    Ok(state.hash_moment(alloc, most as usize)? as u64)
-}
-
 /// Publishes the rows of the moment of a replica. Refused, in order: EMPTY, HELD (the publication holds a snapshot
 /// already), Dirty (there is no moment, or some node of it has no digest), NoMemory. On error the publication is
 /// unchanged.
 #[unsafe(no_mangle)]
-#[tactic(auto, using(crate::proofs::CallLaws::empty, crate::proofs::CallLaws::held))]
 pub extern "C" fn antientropy_moment(
     alloc: Global,
     replica: &mut Replica,
@@ -100,6 +83,7 @@ pub extern "C" fn antientropy_moment(
     ensures { CallsKept result replica.old replica.new (publication.new ≡ publication.old) (λ s t. (t ≡ s)
         × Publishes result publication.old publication.new (moment_fault s.state.moment) (shown_by local_rows.Moment s)) }
 {
-    let mut call = |kept: &mut Kept| publish(alloc, kept, LocalRows::Moment, publication);
-    with(replica, alloc, &mut call)
+    fill_from(replica, publication, alloc, |kept: &Kept| {
+        shown(alloc, kept, LocalRows::Moment)
+    })
 }

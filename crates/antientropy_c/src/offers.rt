@@ -5,32 +5,28 @@ ghost use Rattle.walk_messages.specs.Messages.{message_text};
 ghost use Rattle.walk_messages.specs.declared.message.Message.TheVariants as messages;
 ghost use Rattle.snapshot.specs.RowMaps.{root_of};
 ghost use Rattle.range_store.specs.Store.{dirty_fault};
-ghost use Rattle.range_state.specs.Moments.{shown_fault};
 ghost use Rattle.range_state.specs.declared.local_rows.LocalRows.TheVariants as local_rows;
-ghost use Rattle.antientropy_c.specs.Calls.{CallsKept, Reads};
-ghost use Rattle.antientropy_c.specs.Hands.{HandsNothing, HandsOut, HandsOutRight};
-ghost use Rattle.antientropy_c.specs.Offers.{ShowsRows, Publishes, TakesRows, offer_numbered, ServesAsk, Serves};
-ghost use Rattle.antientropy_c.specs.Published.{shown_by};
+ghost use Rattle.antientropy_c.specs.Calls.{CallsKept};
+ghost use Rattle.c_calls.specs.Reads.{Reads};
+ghost use Rattle.c_calls.specs.Hands.{HandsNothing, HandsOut, HandsOutRight};
+ghost use Rattle.antientropy_c.specs.Offers.{ShowsRows, Publishes};
+ghost use Rattle.c_calls.specs.Offers.{offer_numbered, Serves};
+ghost use Rattle.c_calls.specs.Published.{shown_by};
 
-use crate::frame::with;
-use crate::kept::Kept;
-use crate::numbers::{HELD, code};
-use crate::output::{copy_out, hand_out};
+use crate::frame::{fill_from, with};
 use crate::publication::Publication;
-use crate::published::Published;
 use crate::replica::Replica;
+use c_calls::kept::Kept;
+use c_calls::offers::{offer, serve, shown};
+use c_calls::output::{copy_out, hand_out};
+use c_calls::published::Published;
 use c_handle::InC;
 use range_state::LocalRows;
-use snapshot::Snapshot;
 use std::alloc::Global;
-use tree_nodes::Text;
-use vclock::Refusal;
-use walk_messages::{Answer, Ask, Message, decode, encode};
 
 /// Publishes the rows of a replica now. Refused, in order: EMPTY, HELD (the publication holds a snapshot already),
 /// Dirty (some node has no digest), NoMemory. On error the publication is unchanged.
 #[unsafe(no_mangle)]
-#[tactic(auto, using(crate::proofs::CallLaws::empty, crate::proofs::CallLaws::held))]
 pub extern "C" fn antientropy_snapshot(
     alloc: Global,
     replica: &mut Replica,
@@ -39,49 +35,9 @@ pub extern "C" fn antientropy_snapshot(
     ensures { CallsKept result replica.old replica.new (publication.new ≡ publication.old) (λ s t. (t ≡ s)
         × Publishes result publication.old publication.new (dirty_fault s.state.store) (shown_by local_rows.Now s)) }
 {
-    let mut call = |kept: &mut Kept| publish(alloc, kept, LocalRows::Now, publication);
-    with(replica, alloc, &mut call)
-}
-
-/// Publishes the rows now or those of the moment.
-#[tactic(auto, using(crate::proofs::MakeLaws::already, crate::proofs::MakeLaws::made))]
-pub(crate) fn publish(
-    alloc: Global,
-    kept: &Kept,
-    local: LocalRows,
-    publication: &mut Publication,
-) -> u32
-    ensures { Publishes result publication.old publication.new (shown_fault local kept.now.state) (shown_by local kept.now) }
-{
-    if let Some(rows) = publication.take(alloc) {
-        publication.hold(rows);
-        return HELD;
-    }
-    code(&make(alloc, kept, local, publication))
-}
-
-/// Publishes them in an empty publication.
-fn make(
-    alloc: Global,
-    kept: &Kept,
-    local: LocalRows,
-    publication: &mut Publication,
-) -> Result<(), Refusal>
-    requires { publication.old.held ≡ false }
-    ensures { TakesRows publication.new (shown_fault local kept.now.state) (shown_by local kept.now) result }
-{
-    let rows = boxed(alloc, kept, local)?;
-    publication.hold(rows);
-    Ok(())
-}
-
-/// Makes a box with them.
-fn boxed(alloc: Global, kept: &Kept, local: LocalRows) -> Result<Box<Published, Global>, Refusal>
-    ensures { Answers result (shown_fault local kept.now.state) (λ rows. rows.value ≡ shown_by local kept.now) }
-{
-    let snapshot = kept.state().snapshot_of(alloc, local)?;
-    let entries = kept.shown_entries(local);
-    Ok(Box::new(alloc, Published::new(snapshot, entries))?)
+    fill_from(replica, publication, alloc, |kept: &Kept| {
+        shown(alloc, kept, LocalRows::Now)
+    })
 }
 
 /// Copies out the digest of the root of a snapshot: 32 bytes. Refused, in order: EMPTY, SMALL.
@@ -132,14 +88,6 @@ pub extern "C" fn antientropy_offer(
     with(publication, alloc, &mut call)
 }
 
-/// Writes the message of the offer of a snapshot.
-fn offer(alloc: Global, snapshot: &Snapshot, number: u32) -> Result<Text, Refusal>
-    ensures { Answers result None (λ bytes. bytes ≡ message_text (messages.Offer (offer_numbered number snapshot.now))) }
-{
-    let bytes = encode(alloc, &Message::Offer(snapshot.offer(number)))?;
-    Ok(Text::from(bytes))
-}
-
 /// Writes the message that answers an ask, if it is for the offer with this number.
 ///
 /// Refused, in order: EMPTY, BadMessage (the bytes aren't an ask), Gone (the ask is for another offer), BadMessage (the
@@ -163,47 +111,4 @@ pub extern "C" fn antientropy_serve(
         hand_out(&outcome, out, need)
     };
     with(publication, alloc, &mut call)
-}
-
-/// Answers the bytes of an ask from a snapshot.
-#[tactic(auto, using(crate::proofs::CallLaws::reads))]
-fn serve(alloc: Global, snapshot: &Snapshot, number: u32, bytes: &[u8]) -> Result<Text, Refusal>
-    ensures { Reads bytes.now (Serves snapshot.now number result) }
-{
-    let decoded = decode(alloc, bytes);
-    serve_decoded(alloc, snapshot, number, decoded)
-}
-
-/// Answers a decoded message from a snapshot, if it is an ask.
-fn serve_decoded(
-    alloc: Global,
-    snapshot: &Snapshot,
-    number: u32,
-    decoded: Result<Message, Refusal>,
-) -> Result<Text, Refusal>
-    ensures { Serves snapshot.now number result decoded }
-{
-    let message = decoded?;
-    let Message::Ask(ask) = &message else {
-        return Err(Refusal::BadMessage);
-    };
-    serve_ask(alloc, snapshot, number, ask)
-}
-
-/// Answers an ask from a snapshot. Refused, in order: Gone, BadMessage, NoMemory.
-fn serve_ask(alloc: Global, snapshot: &Snapshot, number: u32, ask: &Ask) -> Result<Text, Refusal>
-    ensures { ServesAsk snapshot.now number ask.now result }
-{
-    let Ask { offer, node } = *ask;
-    if offer != number {
-        return Err(Refusal::Gone);
-    }
-    let text = snapshot.answer(alloc, Ask { offer, node })?;
-    let answer = Answer {
-        offer,
-        node,
-        text: Text::from(text),
-    };
-    let bytes = encode(alloc, &Message::Answer(answer))?;
-    Ok(Text::from(bytes))
 }

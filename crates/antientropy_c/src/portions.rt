@@ -1,19 +1,19 @@
 //! Portions of a replica's moment, which are hashed while the replica is in other calls.
 ghost use Rattle.std.specs.Prelude.{◌≡◌, false, None, ⊤};
-ghost use Rattle.vclock.specs.Answer.{Answers};
 ghost use Rattle.range_state.specs.Portions.{IsPortion};
 ghost use Rattle.antientropy_c.specs.Calls.{Calls, CallsOn};
-ghost use Rattle.antientropy_c.specs.Makes.{MakesIn, Takes};
+ghost use Rattle.antientropy_c.specs.Makes.{MakesIn};
 ghost use Rattle.antientropy_c.specs.Portions.{nodes_in, Installs};
 
-use crate::frame::{with, with_state};
-use crate::numbers::{EMPTY, HELD, code};
+use crate::frame::{fill_from, with, with_state};
 use crate::portion_handle::PortionHandle;
 use crate::replica::Replica;
+use c_calls::kept::Kept;
+use c_calls::numbers::EMPTY;
+use c_calls::portions::take_portion;
 use c_handle::InC;
 use range_state::{Portion, RangeState};
 use std::alloc::Global;
-use vclock::Refusal;
 
 /// Takes a portion of the dirty nodes of a replica's moment: those whose children are clean, or the first `most` of them
 /// if there are more. Without a moment it has no node.
@@ -21,7 +21,6 @@ use vclock::Refusal;
 /// Refused, in order: EMPTY (the replica), HELD (the handle holds a portion already), NoMemory. On error the handle is
 /// unchanged.
 #[unsafe(no_mangle)]
-#[tactic(auto, using(crate::proofs::CallLaws::state_empty, crate::proofs::CallLaws::state_held))]
 pub extern "C" fn antientropy_take_portion(
     alloc: Global,
     replica: &mut Replica,
@@ -31,43 +30,9 @@ pub extern "C" fn antientropy_take_portion(
     ensures { Calls result replica.old replica.new (portion.new ≡ portion.old) (λ s t. (t ≡ s)
         × MakesIn result (nodes_in portion.old) (nodes_in portion.new) None (IsPortion s.moment most)) }
 {
-    let mut call = |state: &mut RangeState| take_portion(alloc, state, most, portion);
-    with_state(replica, alloc, &mut call)
-}
-
-/// Takes a portion into a handle.
-#[tactic(auto, using(crate::proofs::MakeLaws::already, crate::proofs::MakeLaws::made))]
-fn take_portion(alloc: Global, state: &RangeState, most: u64, portion: &mut PortionHandle) -> u32
-    ensures { MakesIn result (nodes_in portion.old) (nodes_in portion.new) None (IsPortion state.now.moment most) }
-{
-    if let Some(held) = portion.take(alloc) {
-        portion.hold(held);
-        return HELD;
-    }
-    code(&make(alloc, state, most, portion))
-}
-
-/// Takes a portion into an empty handle.
-fn make(
-    alloc: Global,
-    state: &RangeState,
-    most: u64,
-    portion: &mut PortionHandle,
-) -> Result<(), Refusal>
-    requires { portion.old.held ≡ false }
-    ensures { Takes (nodes_in portion.new) None (IsPortion state.now.moment most) result }
-{
-    let taken = boxed(alloc, state, most)?;
-    portion.hold(taken);
-    Ok(())
-}
-
-/// Makes a box with a portion.
-fn boxed(alloc: Global, state: &RangeState, most: u64) -> Result<Box<Portion, Global>, Refusal>
-    ensures { Answers result None (λ portion. IsPortion state.now.moment most portion.value) }
-{
-    let portion = state.take_portion(alloc, most as usize)?;
-    Ok(Box::new(alloc, portion)?)
+    fill_from(replica, portion, alloc, |kept: &Kept| {
+        take_portion(alloc, kept.state(), most)
+    })
 }
 
 /// Hashes the nodes of a portion; those that are hashed stay so. It uses no replica. Refused: EMPTY.

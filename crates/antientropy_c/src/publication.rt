@@ -1,10 +1,10 @@
 //! The handle of a snapshot.
 ghost use Rattle.std.specs.Prelude.{◌≡◌, Some, IfSome};
-ghost use Rattle.antientropy_c.specs.Published.{Shown};
+ghost use Rattle.c_calls.specs.Published.{Shown};
 ghost use Rattle.c_handle.specs.Handles.{c_owns};
-ghost use Rattle.antientropy_c.specs.contracts.published.Published.{the_row};
+ghost use Rattle.c_calls.specs.contracts.published.Published.{the_row};
 
-use crate::published::Published;
+use c_calls::published::Published;
 use c_handle::{Handle, InC};
 use std::alloc::Global;
 use std::marker::Model;

@@ -2,30 +2,14 @@
 ghost use Rattle.std.specs.Prelude.{◌≡◌, length, slice_get};
 ghost use Rattle.range_journal.specs.Journal.{held};
 ghost use Rattle.antientropy_c.specs.Calls.{Calls};
-ghost use Rattle.antientropy_c.specs.Readings.{ReadsVersion};
+ghost use Rattle.c_calls.specs.Readings.{ReadsVersion};
 
 use crate::frame::with_state;
-use crate::numbers::NO_VERSION;
-use crate::output::copy_out;
-use crate::pair::Pair;
 use crate::replica::Replica;
-use crate::versions::{copy_pairs, versions_of};
+use c_calls::pair::Pair;
+use c_calls::readings::{Reading, read};
 use range_state::RangeState;
 use std::alloc::Global;
-
-/// The sizes and the kind of a version.
-#[repr(C)]
-#[derive(Clone, Copy)]
-pub struct Reading {
-    /// The number of versions that are held for the key.
-    pub versions: u64,
-    /// The number of pairs of the version's clock.
-    pub pairs: u64,
-    /// The number of bytes of its value.
-    pub bytes: u64,
-    /// Its kind: 0 live, 1 tombstone.
-    pub kind: u64,
-}
 
 /// Copies out the clock and the value of a version that is held for a key, by its index from 0, and stores their sizes
 /// and the version's kind. Refused, in order: EMPTY, NO_VERSION, SMALL (the pairs or the bytes don't fit: then the
@@ -48,27 +32,4 @@ pub extern "C" fn antientropy_read(
 {
     let mut call = |state: &mut RangeState| read(state, key, index, reading, pairs, value);
     with_state(replica, alloc, &mut call)
-}
-
-/// Copies out the clock and the value of a version, and stores their sizes and its kind.
-fn read(
-    state: &RangeState,
-    key: &[u8],
-    index: u64,
-    reading: &mut Reading,
-    pairs: &mut [Pair],
-    value: &mut [u8],
-) -> u32
-    ensures { ReadsVersion (slice_get (held state.now.store.entries key.now) index) (length (held state.now.store.entries key.now))
-        result reading.old reading.new (pairs.old, value.old) (pairs.new, value.new) }
-{
-    let versions = versions_of(state, key);
-    let Some(version) = versions.get(index as usize) else {
-        return NO_VERSION;
-    };
-    reading.versions = versions.len() as u64;
-    reading.kind = u64::from(version.kind.byte());
-    let clock = copy_pairs(version.clock.pairs(), pairs, &mut reading.pairs);
-    let bytes = copy_out(version.value.as_slice(), value, &mut reading.bytes);
-    if clock == 0 { bytes } else { clock }
 }

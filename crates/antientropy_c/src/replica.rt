@@ -1,10 +1,10 @@
 //! The handle of a replica.
 ghost use Rattle.std.specs.Prelude.{◌≡◌, Some, IfSome};
 ghost use Rattle.c_handle.specs.Handles.{c_owns};
-ghost use Rattle.antientropy_c.specs.Kept.{KeptState};
-ghost use Rattle.antientropy_c.specs.contracts.kept.Kept.{the_row};
+ghost use Rattle.c_calls.specs.Kept.{KeptState};
+ghost use Rattle.c_calls.specs.contracts.kept.Kept.{the_row};
 
-use crate::kept::Kept;
+use c_calls::kept::Kept;
 use c_handle::{Handle, InC};
 use std::alloc::Global;
 use std::marker::Model;

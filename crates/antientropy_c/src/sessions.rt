@@ -1,27 +1,22 @@
 //! Sessions with other replicas.
-ghost use Rattle.std.specs.Prelude.{◌≡◌, ℕ, Result, map, ⊤};
-ghost use Rattle.vclock.specs.Answer.{AnswersAtOnce};
+ghost use Rattle.std.specs.Prelude.{◌≡◌, ℕ, Result, ⊤};
 ghost use Rattle.vclock.specs.Outcome.{DoesAtOnce};
 ghost use Rattle.vclock.specs.declared.refusal.Refusal.{Refusal};
-ghost use Rattle.tree_nodes.specs.Nodes.{contains_node};
 ghost use Rattle.range_state.specs.Endings.{without_ended_sessions};
 ghost use Rattle.range_state.specs.Sessions.{cancel_session};
 ghost use Rattle.range_state.specs.declared.event.AnswerTaken.{AnswerTaken};
 ghost use Rattle.range_state.specs.declared.local_rows.LocalRows.TheVariants as rows;
-ghost use Rattle.antientropy_c.specs.Numbers.{Returns};
-ghost use Rattle.antientropy_c.specs.Calls.{Calls, Reads};
-ghost use Rattle.antientropy_c.specs.Sessions.{Opens, OpensUnless, partner_fault, asked_fault, TellsNumber, TakesWith, TakesMessage, TellsTaken, number_of_state, session_seen};
+ghost use Rattle.c_calls.specs.Numbers.{Returns};
+ghost use Rattle.antientropy_c.specs.Calls.{Calls};
+ghost use Rattle.c_calls.specs.Reads.{Reads};
+ghost use Rattle.c_calls.specs.Sessions.{OpensUnless, partner_fault, TellsNumber, TakesMessage, TellsTaken, session_seen};
 
 use crate::frame::with_state;
-use crate::numbers::code;
 use crate::replica::Replica;
-use range_state::{AnswerTaken, LocalRows, RangeState};
+use c_calls::numbers::code;
+use c_calls::sessions::{TakenReceipt, open, standing_of, take, tell_number, tell_taken};
+use range_state::{LocalRows, RangeState};
 use std::alloc::Global;
-use sync_session::SessionState;
-use tree_nodes::{NodeAt, hash};
-use vclock::Refusal;
-use vclock::limits::NODE_MAX;
-use walk_messages::{Answer, Message, decode};
 
 /// Opens a session with a partner by the bytes of its offer, and stores the session's number, from 0.
 ///
@@ -75,75 +70,6 @@ pub extern "C" fn antientropy_open_at_moment(
     with_state(replica, alloc, &mut call)
 }
 
-/// Opens a session by the bytes of an offer, if the partner's number isn't over 65,535.
-fn open(
-    alloc: Global,
-    state: &mut RangeState,
-    local: LocalRows,
-    partner: u64,
-    bytes: &[u8],
-) -> Result<u64, Refusal>
-    ensures { OpensUnless (partner_fault partner) local state.old partner bytes.now result state.new }
-{
-    if partner > NODE_MAX {
-        return Err(Refusal::BadClock);
-    }
-    open_bytes(alloc, state, local, partner as u16, bytes)
-}
-
-/// Opens a session by the bytes of an offer.
-#[tactic(auto, using(crate::proofs::CallLaws::reads))]
-fn open_bytes(
-    alloc: Global,
-    state: &mut RangeState,
-    local: LocalRows,
-    partner: u16,
-    bytes: &[u8],
-) -> Result<u64, Refusal>
-    ensures { Reads bytes.now (Opens local state.old partner result state.new) }
-{
-    let decoded = decode(alloc, bytes);
-    open_decoded(alloc, state, local, partner, decoded)
-}
-
-/// Opens a session by a decoded message, if it is an offer.
-fn open_decoded(
-    alloc: Global,
-    state: &mut RangeState,
-    local: LocalRows,
-    partner: u16,
-    decoded: Result<Message, Refusal>,
-) -> Result<u64, Refusal>
-    ensures { Opens local state.old partner result state.new decoded }
-{
-    match decoded {
-        Ok(Message::Offer(offer)) => state.open_session_by(alloc, local, partner, offer),
-        Ok(Message::Ask(_) | Message::Answer(_)) => Err(Refusal::BadMessage),
-        Err(refusal) => Err(refusal),
-    }
-}
-
-/// Stores a number, if there was no refusal.
-pub(crate) fn tell_number(outcome: &Result<u64, Refusal>, out: &mut u64)
-    ensures { TellsNumber outcome.now out.old out.new }
-{
-    if let Ok(number) = outcome {
-        *out = *number;
-    }
-}
-
-/// The receipt of an answer that a session took.
-#[repr(C)]
-#[derive(Clone, Copy)]
-pub struct TakenReceipt {
-    /// The number of versions that were new, and are entries of the journal from then on.
-    pub accepted: u64,
-    /// The number of versions that were known.
-    pub known: u64,
-    /// The state of the session: 0 open, 1 finished, 2 failed, 3 cancelled.
-    pub state: u64,
-}
-
 /// Takes the bytes of a partner's answer for a session with the partner's offer of that number.
 ///
 /// Refused, in order: EMPTY, BadMessage (the bytes aren't an answer, or the answer is of another offer); then as
@@ -170,100 +96,6 @@ pub extern "C" fn antientropy_take(
         code(&outcome)
     };
     with_state(replica, alloc, &mut call)
-}
-
-/// Takes the bytes of an answer.
-#[tactic(auto, using(crate::proofs::CallLaws::reads))]
-fn take(
-    alloc: Global,
-    state: &mut RangeState,
-    session: u64,
-    number: u32,
-    bytes: &[u8],
-) -> Result<AnswerTaken, Refusal>
-    ensures { Reads bytes.now (TakesMessage state.old session number result state.new) }
-{
-    let decoded = decode(alloc, bytes);
-    take_decoded(alloc, state, session, number, decoded)
-}
-
-/// Takes a decoded message, if it is an answer.
-fn take_decoded(
-    alloc: Global,
-    state: &mut RangeState,
-    session: u64,
-    number: u32,
-    decoded: Result<Message, Refusal>,
-) -> Result<AnswerTaken, Refusal>
-    ensures { TakesMessage state.old session number result state.new decoded }
-{
-    match decoded {
-        Ok(Message::Answer(answer)) => take_answer(alloc, state, session, number, answer),
-        Ok(Message::Offer(_) | Message::Ask(_)) => Err(Refusal::BadMessage),
-        Err(refusal) => Err(refusal),
-    }
-}
-
-/// Takes an answer, if it is of the offer with that number.
-fn take_answer(
-    alloc: Global,
-    state: &mut RangeState,
-    session: u64,
-    number: u32,
-    answer: Answer,
-) -> Result<AnswerTaken, Refusal>
-    ensures { TakesWith state.old session number answer result state.new }
-{
-    let Answer { offer, node, text } = answer;
-    if offer != number {
-        return Err(Refusal::BadMessage);
-    }
-    check_asked(state, session, node)?;
-    state.take_answer(alloc, 0, session, node, hash(text))
-}
-
-/// Tests that a session has a node outstanding, before a text is hashed for it. Refused, in order: UnknownSession,
-/// NotAsked.
-fn check_asked(state: &RangeState, session: u64, node: NodeAt) -> Result<(), Refusal>
-    ensures { AnswersAtOnce result (asked_fault state.now session node) (λ _. ⊤) }
-{
-    let nodes = state.record(session)?.session().outstanding();
-    if !has(nodes, node) {
-        return Err(Refusal::NotAsked);
-    }
-    Ok(())
-}
-
-/// Returns true if some node of a list is equal to a node.
-fn has(nodes: &[NodeAt], node: NodeAt) -> bool
-    ensures { result ≡ contains_node node nodes.now }
-{
-    nodes.iter().any(|other| node == *other)
-}
-
-/// Stores the receipt of an answer, if it was not refused.
-fn tell_taken(outcome: &Result<AnswerTaken, Refusal>, receipt: &mut TakenReceipt)
-    ensures { TellsTaken outcome.now receipt.old receipt.new }
-{
-    if let Ok(taken) = outcome {
-        *receipt = TakenReceipt {
-            accepted: taken.receipts.len() as u64,
-            known: taken.known,
-            state: number_of(taken.state),
-        };
-    }
-}
-
-/// Returns the number of a session's state.
-fn number_of(state: SessionState) -> u64
-    ensures { result ≡ number_of_state state }
-{
-    match state {
-        SessionState::Open => 0,
-        SessionState::Finished => 1,
-        SessionState::Failed => 2,
-        SessionState::Cancelled => 3,
-    }
 }
 
 /// Cancels a session that is open; a session that has ended is unchanged. Refused, in order: EMPTY, UnknownSession.
@@ -312,11 +144,4 @@ pub extern "C" fn antientropy_drop_sessions(alloc: Global, replica: &mut Replica
         0
     };
     with_state(replica, alloc, &mut call)
-}
-
-/// Returns the number of a session's state. Refused: UnknownSession.
-fn standing_of(state: &RangeState, session: u64) -> Result<u64, Refusal>
-    ensures { result ≡ session_seen state.now session }
-{
-    Ok(number_of(state.record(session)?.session().state()))
 }

@@ -1,53 +1,30 @@
 //! Slots for background work, as numbers.
 ghost use Rattle.std.specs.Prelude.{◌≡◌, ℕ, false, Option, Result, ⊤};
-ghost use Rattle.vclock.specs.Answer.{Answers, AnswersAtOnce};
 ghost use Rattle.vclock.specs.Outcome.{DoesAtOnce};
 ghost use Rattle.vclock.specs.declared.refusal.Refusal.{Refusal};
 ghost use Rattle.admission.specs.Admission.{fresh_admission, lend, give_back, sample, adjust};
 ghost use Rattle.antientropy_c.specs.Calls.{CallsOn};
-ghost use Rattle.antientropy_c.specs.Makes.{MakesIn, Takes};
-ghost use Rattle.antientropy_c.specs.Numbers.{Returns};
-ghost use Rattle.antientropy_c.specs.SlotCalls.{slots_in, bounds_fault, set_target, percentile_from, TellsPercentile, numbers_of};
+ghost use Rattle.antientropy_c.specs.Makes.{MakesIn};
+ghost use Rattle.c_calls.specs.Numbers.{Returns};
+ghost use Rattle.antientropy_c.specs.SlotCalls.{slots_in};
+ghost use Rattle.c_calls.specs.SlotCalls.{bounds_fault, set_target, TellsPercentile, numbers_of};
 
-use crate::frame::with;
-use crate::numbers::{HELD, code};
+use crate::frame::{fill, with};
 use crate::slots::Slots;
 use admission::SlotBudget;
+use c_calls::numbers::{HELD, code};
+use c_calls::slot_calls::{
+    Percentile, SlotNumbers, new_slots, numbers_of, set_target, tell_percentile,
+};
 use c_handle::InC;
 use std::alloc::Global;
-use vclock::Refusal;
-
-/// The greatest number of slots.
-const SLOTS_MAX: u32 = 1_024;
-
-/// The 99th percentile of the latencies of the last minute.
-#[repr(C)]
-#[derive(Clone, Copy)]
-pub struct Percentile {
-    /// 1 if there were samples, and 0 otherwise.
-    pub found: u64,
-    /// The percentile in microseconds: 0 if there were no samples.
-    pub micros: u64,
-}
-
-/// The numbers of slots.
-#[repr(C)]
-#[derive(Clone, Copy)]
-pub struct SlotNumbers {
-    /// The target: the maximum number of slots lent.
-    pub target: u64,
-    /// The number of slots lent.
-    pub lent: u64,
-    /// The number of slots that could be lent now.
-    pub free: u64,
-}
 
 /// Makes slots, as [`SlotBudget::new`] does: none is lent, and the target is the ceiling.
 ///
 /// Refused, in order: HELD (the handle holds slots already), BadRing (the floor is 0 or above the ceiling, or the ceiling
 /// is above 1,024), NoMemory. On error the handle is unchanged.
 #[unsafe(no_mangle)]
-#[tactic(auto, using(crate::proofs::MakeLaws::already, crate::proofs::MakeLaws::made))]
+#[tactic(auto, using(crate::proofs::MakeLaws::already))]
 pub extern "C" fn antientropy_slots_new(
     alloc: Global,
     slots: &mut Slots,
@@ -62,39 +39,8 @@ pub extern "C" fn antientropy_slots_new(
         slots.hold(budget);
         return HELD;
     }
-    code(&make(alloc, slots, floor, ceiling, threshold))
-}
-
-/// Makes slots in an empty handle.
-fn make(
-    alloc: Global,
-    slots: &mut Slots,
-    floor: u32,
-    ceiling: u32,
-    threshold: u32,
-) -> Result<(), Refusal>
-    requires { slots.old.held ≡ false }
-    ensures { Takes (slots_in slots.new) (bounds_fault floor ceiling) (λ budget. budget ≡ fresh_admission floor ceiling threshold) result }
-{
-    let budget = boxed(alloc, floor, ceiling, threshold)?;
-    slots.hold(budget);
-    Ok(())
-}
-
-/// Makes a box with new slots. Refused, in order: BadRing, NoMemory.
-fn boxed(
-    alloc: Global,
-    floor: u32,
-    ceiling: u32,
-    threshold: u32,
-) -> Result<Box<SlotBudget, Global>, Refusal>
-    ensures { Answers result (bounds_fault floor ceiling) (λ budget. budget.value ≡ fresh_admission floor ceiling threshold) }
-{
-    if floor == 0 || floor > ceiling || ceiling > SLOTS_MAX {
-        return Err(Refusal::BadRing);
-    }
-    let budget = SlotBudget::new(alloc, floor, ceiling, threshold)?;
-    Ok(Box::new(alloc, budget)?)
+    let made = new_slots(alloc, floor, ceiling, threshold);
+    fill(slots, made)
 }
 
 /// Frees the slots of a handle, if any.
@@ -177,31 +123,6 @@ pub extern "C" fn antientropy_slots_adjust(
     with(slots, alloc, &mut call)
 }
 
-/// Stores a percentile, if the adjustment was not refused.
-fn tell_percentile(outcome: &Result<Option<u32>, Refusal>, percentile: &mut Percentile)
-    ensures { TellsPercentile outcome.now percentile.old percentile.new }
-{
-    if let Ok(found) = outcome {
-        *percentile = percentile_of(*found);
-    }
-}
-
-/// Returns a percentile in the form that C has.
-fn percentile_of(found: Option<u32>) -> Percentile
-    ensures { result ≡ percentile_from found }
-{
-    match found {
-        Some(micros) => Percentile {
-            found: 1,
-            micros: u64::from(micros),
-        },
-        None => Percentile {
-            found: 0,
-            micros: 0,
-        },
-    }
-}
-
 /// Sets the target. Slots that are lent stay lent. Refused, in order: EMPTY, BadRing (the target is below the floor or
 /// above the ceiling).
 #[unsafe(no_mangle)]
@@ -216,18 +137,6 @@ pub extern "C" fn antientropy_slots_set_target(alloc: Global, slots: &mut Slots,
         code(&outcome)
     };
     with(slots, alloc, &mut call)
-}
-
-/// Sets the target, if it is within the bounds.
-fn set_target(budget: &mut SlotBudget, target: u32) -> Result<(), Refusal>
-    ensures { DoesAtOnce result budget.old budget.new (set_target budget.old target) }
-{
-    let (floor, ceiling) = budget.bounds();
-    if target < floor || target > ceiling {
-        return Err(Refusal::BadRing);
-    }
-    budget.set_target(target);
-    Ok(())
 }
 
 /// Stores the numbers of slots. Refused: EMPTY.
@@ -246,15 +155,4 @@ pub extern "C" fn antientropy_slots_count(
         0
     };
     with(slots, alloc, &mut call)
-}
-
-/// Returns the numbers of slots.
-fn numbers_of(budget: &SlotBudget) -> SlotNumbers
-    ensures { result ≡ numbers_of budget.now }
-{
-    SlotNumbers {
-        target: u64::from(budget.target()),
-        lent: u64::from(budget.lent()),
-        free: u64::from(budget.free()),
-    }
 }

@@ -3,17 +3,17 @@ ghost use Rattle.std.specs.Prelude.{◌≡◌, ℕ, Result, None, ⊤};
 ghost use Rattle.vclock.specs.Answer.{Answers};
 ghost use Rattle.vclock.specs.declared.refusal.Refusal.{Refusal};
 ghost use Rattle.range_state.specs.Trees.{rehashed, HashesSome, IsSameRange};
-ghost use Rattle.antientropy_c.specs.Numbers.{Returns};
+ghost use Rattle.c_calls.specs.Numbers.{Returns};
 ghost use Rattle.antientropy_c.specs.Calls.{Calls};
-ghost use Rattle.antientropy_c.specs.Sessions.{TellsNumber};
+ghost use Rattle.c_calls.specs.Sessions.{TellsNumber};
 
 use crate::frame::with_state;
-use crate::numbers::code;
 use crate::replica::Replica;
-use crate::sessions::tell_number;
+use c_calls::numbers::code;
+use c_calls::sessions::tell_number;
+use c_calls::tree::{rehash, rehash_some};
 use range_state::RangeState;
 use std::alloc::Global;
-use vclock::Refusal;
 
 /// Hashes every dirty node. Refused, in order: EMPTY, NoMemory. After NoMemory some of the dirty nodes may be clean,
 /// and everything else is unchanged.
@@ -28,15 +28,6 @@ pub extern "C" fn antientropy_rehash(alloc: Global, replica: &mut Replica) -> u3
         code(&outcome)
     };
     with_state(replica, alloc, &mut call)
-}
-
-/// Hashes every dirty node of a replica.
-fn rehash(alloc: Global, state: &mut RangeState) -> Result<(), Refusal>
-    ensures ok { Answers result None (λ _. state.new ≡ rehashed state.old) }
-    ensures same { IsSameRange state.old state.new }
-{
-    state.rehash_here(alloc)?;
-    Ok(())
 }
 
 /// Hashes at most `most` of the dirty nodes whose children are clean, and stores the number of nodes that are dirty then.
@@ -58,12 +49,4 @@ pub extern "C" fn antientropy_rehash_some(
         code(&outcome)
     };
     with_state(replica, alloc, &mut call)
-}
-
-/// Hashes at most `most` of the dirty nodes whose children are clean, and returns the number of nodes that are dirty
-/// then.
-fn rehash_some(alloc: Global, state: &mut RangeState, most: u64) -> Result<u64, Refusal>
-    ensures { HashesSome result most state.old state.new }
-{
-    Ok(state.rehash_some(alloc, most as usize)? as u64)
 }

@@ -1,7 +1,0 @@
-use Rattle.std.proofs.Common.{◌≡◌, take}
-use Rattle.std.specs.Prelude.{None}
-use Rattle.antientropy_c.specs.Keys.{key_after}
-use Rattle.antientropy_c.proofs.keys.first_after.Given as goal
-
-abbrev pub invariant-loop-row : goal.invariant-loop-row
-invariant-loop-row l = key_after l.key (take l.row-index l.rows) ≡ None

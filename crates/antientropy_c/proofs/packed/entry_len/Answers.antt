@@ -1,6 +1,0 @@
-use Rattle.std.proofs.Common.{length, ap, arith}
-use Rattle.antientropy_c.proofs.PackedLaws.{entry_length}
-use Rattle.antientropy_c.proofs.packed.entry_len.Goals as goal
-
-pub returns : goal.returns
-returns c = omega (arith, entry_length c.args.format c.args.entry.now, c.version_len.ensures.exact, ap length c.as_slice.ensures)

@@ -1,0 +1,10 @@
+pub mod HintNumberLaws
+pub mod KeptLaws
+pub mod KeyLaws
+pub mod LengthLaws
+pub mod NextLaws
+pub mod PackedLaws
+pub mod PairLaws
+pub mod PartLaws
+pub mod ReadLaws
+pub mod ReaderLaws

@@ -1,0 +1,51 @@
+//! Asks for the nodes that a session has outstanding.
+ghost use Rattle.std.specs.Prelude.{◌≡◌, slice_get, MatchOption};
+ghost use Rattle.vclock.specs.Answer.{AnswersAtOnce};
+ghost use Rattle.range_state.specs.Records.{record_of};
+ghost use Rattle.range_state.specs.Sessions.{unknown_fault};
+ghost use Rattle.c_calls.specs.Asks.{outstanding_count, Asks};
+
+use range_state::RangeState;
+use std::alloc::Global;
+use tree_nodes::{NodeAt, Text};
+use vclock::Refusal;
+use walk_messages::{Ask, Message, encode};
+
+/// Counts the nodes that a session has outstanding. Refused: UnknownSession.
+pub fn count_of(state: &RangeState, session: u64) -> Result<u64, Refusal>
+    ensures { result ≡ outstanding_count state.now session }
+{
+    Ok(state.record(session)?.session().outstanding().len() as u64)
+}
+
+/// Writes the message that asks for the node that a session has outstanding at a place, with the number of the partner's
+/// offer: no bytes if there is none. Refused, in order: UnknownSession, NoMemory.
+pub fn ask(
+    alloc: Global,
+    state: &RangeState,
+    session: u64,
+    place: u64,
+    number: u32,
+) -> Result<Text, Refusal>
+    ensures { Asks state.now session place number result }
+{
+    let Some(node) = node_at(state, session, place)? else {
+        return Ok(Text::from(Vec::new(alloc)));
+    };
+    let ask = Ask {
+        offer: number,
+        node,
+    };
+    let bytes = encode(alloc, &Message::Ask(ask))?;
+    Ok(Text::from(bytes))
+}
+
+/// Returns the node that a session has outstanding at a place, if any. Refused: UnknownSession.
+fn node_at(state: &RangeState, session: u64, place: u64) -> Result<Option<NodeAt>, Refusal>
+    ensures { AnswersAtOnce result (unknown_fault state.now session)
+        (λ node. MatchOption (record_of session state.now.records) ⊥
+        (λ r. node ≡ slice_get r.session.outstanding place)) }
+{
+    let nodes = state.record(session)?.session().outstanding();
+    Ok(nodes.get(place as usize).copied())
+}

@@ -1,0 +1,86 @@
+//! Offers of a replica to another one.
+ghost use Rattle.std.specs.Prelude.{◌≡◌, None};
+ghost use Rattle.vclock.specs.Answer.{Answers};
+ghost use Rattle.walk_messages.specs.Messages.{message_text};
+ghost use Rattle.walk_messages.specs.declared.message.Message.TheVariants as messages;
+ghost use Rattle.range_state.specs.Moments.{shown_fault};
+ghost use Rattle.c_calls.specs.Reads.{Reads};
+ghost use Rattle.c_calls.specs.Offers.{offer_numbered, ServesAsk, Serves};
+ghost use Rattle.c_calls.specs.Published.{shown_by};
+
+use crate::kept::Kept;
+use crate::published::Published;
+use range_state::LocalRows;
+use snapshot::Snapshot;
+use std::alloc::Global;
+use tree_nodes::Text;
+use vclock::Refusal;
+use walk_messages::{Answer, Ask, Message, decode, encode};
+
+/// Publishes the rows now or those of the moment. Copies no row. Refused, in order: Dirty (some node has no digest, or
+/// there is no moment), NoMemory.
+pub fn shown(
+    alloc: Global,
+    kept: &Kept,
+    local: LocalRows,
+) -> Result<Box<Published, Global>, Refusal>
+    ensures { Answers result (shown_fault local kept.now.state) (λ rows. rows.value ≡ shown_by local kept.now) }
+{
+    let snapshot = kept.state().snapshot_of(alloc, local)?;
+    let entries = kept.shown_entries(local);
+    Ok(Box::new(alloc, Published::new(snapshot, entries))?)
+}
+
+/// Writes the message of the offer of a snapshot with a number. Refused: NoMemory.
+pub fn offer(alloc: Global, snapshot: &Snapshot, number: u32) -> Result<Text, Refusal>
+    ensures { Answers result None (λ bytes. bytes ≡ message_text (messages.Offer (offer_numbered number snapshot.now))) }
+{
+    let bytes = encode(alloc, &Message::Offer(snapshot.offer(number)))?;
+    Ok(Text::from(bytes))
+}
+
+/// Writes the message that answers an ask, if it is for the offer with this number.
+///
+/// Refused, in order: BadMessage (the bytes aren't an ask), Gone (the ask is for another offer), BadMessage (the tree has
+/// no such node), NoMemory. If the bytes are an answer, NoMemory may replace BadMessage.
+#[tactic(auto, using(crate::proofs::ReadLaws::reads))]
+pub fn serve(alloc: Global, snapshot: &Snapshot, number: u32, bytes: &[u8]) -> Result<Text, Refusal>
+    ensures { Reads bytes.now (Serves snapshot.now number result) }
+{
+    let decoded = decode(alloc, bytes);
+    serve_decoded(alloc, snapshot, number, decoded)
+}
+
+/// Answers a decoded message from a snapshot, if it is an ask.
+fn serve_decoded(
+    alloc: Global,
+    snapshot: &Snapshot,
+    number: u32,
+    decoded: Result<Message, Refusal>,
+) -> Result<Text, Refusal>
+    ensures { Serves snapshot.now number result decoded }
+{
+    let message = decoded?;
+    let Message::Ask(ask) = &message else {
+        return Err(Refusal::BadMessage);
+    };
+    serve_ask(alloc, snapshot, number, ask)
+}
+
+/// Answers an ask from a snapshot. Refused, in order: Gone, BadMessage, NoMemory.
+fn serve_ask(alloc: Global, snapshot: &Snapshot, number: u32, ask: &Ask) -> Result<Text, Refusal>
+    ensures { ServesAsk snapshot.now number ask.now result }
+{
+    let Ask { offer, node } = *ask;
+    if offer != number {
+        return Err(Refusal::Gone);
+    }
+    let text = snapshot.answer(alloc, Ask { offer, node })?;
+    let answer = Answer {
+        offer,
+        node,
+        text: Text::from(text),
+    };
+    let bytes = encode(alloc, &Message::Answer(answer))?;
+    Ok(Text::from(bytes))
+}
