@@ -1,8 +1,9 @@
 //! Hints: versions that a carrier keeps for replicas that are down.
-ghost use Rattle.std.specs.Prelude.{◌≡◌, ℕ, false, None, Result, ⊤};
+ghost use Rattle.std.specs.Prelude.{◌≡◌, ◌-◌, ◌^◌, ℕ, false, min, None, Result, ⊤};
 ghost use Rattle.vclock.specs.Outcome.{Does, DoesAtOnce};
 ghost use Rattle.vclock.specs.declared.refusal.Refusal.{Refusal};
 ghost use Rattle.hint_store.specs.Counts.{counts_of};
+ghost use Rattle.hint_store.specs.Sizes.{hints_len};
 ghost use Rattle.antientropy_c.specs.Calls.{CallsOn};
 ghost use Rattle.c_calls.specs.Carried.{named, keep_at, next_number, settle_at, renew, restore_fault, restored};
 ghost use Rattle.antientropy_c.specs.Handoff.{hints_in, ShowsHints};
@@ -268,6 +269,26 @@ pub extern "C" fn antientropy_hints_count(
         return EMPTY;
     };
     *counts = count(&store);
+    hints.store.hold(store);
+    0
+}
+
+/// Stores the size of hints in bytes, pending or delivered, at most 2^64 - 1: their keys, values and clocks, 10 bytes for
+/// each pair of a clock. Refused: EMPTY.
+#[unsafe(no_mangle)]
+#[tactic(auto, using(crate::proofs::CallLaws::empty, crate::proofs::HintCallLaws::held))]
+pub extern "C" fn antientropy_hints_bytes(
+    alloc: Global,
+    hints: &mut Carrier,
+    bytes: &mut u64,
+) -> u32
+    ensures { ShowsHints result hints.old hints.new (bytes.new ≡ bytes.old)
+        (λ s. (result ≡ 0) × (bytes.new ≡ min (hints_len s.hints) (2 ^ 64 - 1))) }
+{
+    let Some(store) = hints.store.take(alloc) else {
+        return EMPTY;
+    };
+    *bytes = store.bytes();
     hints.store.hold(store);
     0
 }

@@ -31,6 +31,7 @@ pub mod renewal;
 pub mod replica;
 pub mod rows;
 pub mod sessions;
+pub mod sizes;
 pub mod slot_calls;
 pub mod slots;
 pub mod spots;

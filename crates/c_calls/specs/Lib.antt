@@ -27,3 +27,4 @@ pub mod Shows
 pub mod SlotCalls
 pub mod Spots
 pub mod Versions
+pub mod Sizes

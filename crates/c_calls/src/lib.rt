@@ -6,7 +6,7 @@
 //! - [`published`]: a snapshot, with the number of its entries; [`offers`], [`readers`], [`loads`]: the calls on it.
 //! - [`pair`], [`clocks`]: clocks as pairs; [`puts`]: puts, and versions of other replicas.
 //! - [`rows`], [`versions`], [`readings`], [`keys`], [`counters`]: reads of a replica.
-//! - [`counts`], [`about`], [`entries`], [`packed`]: its counts, its place, and its entries.
+//! - [`counts`], [`sizes`], [`about`], [`entries`], [`packed`]: its counts, its size, its place, and its entries.
 //! - [`tree`], [`moments`], [`portions`]: hashing; [`sessions`], [`asks`], [`offer_parts`]: sessions with partners.
 //! - [`hint_calls`]: hints, whose numbers go on through renewals; [`laws`]: that no number names two of them.
 //! - [`slot_calls`]: slots for background work; [`spots`]: the range and the leaf of a key.
@@ -46,6 +46,7 @@ pub mod readings;
 pub mod renewal;
 pub mod rows;
 pub mod sessions;
+pub mod sizes;
 pub mod slot_calls;
 pub mod spots;
 pub mod tree;
