@@ -11,7 +11,8 @@
  *
  * In each way both trees are hashed after each round, and node 2 makes a snapshot. The line has the bytes that malloc
  * lends at the end, the number of sessions kept, the milliseconds of freeing node 1's replica, and those of a round's
- * session, as a mean. The status is 1 if a call is refused, or the roots differ at the end. */
+ * session, as a mean; then the bytes of node 1's rows, journal and sessions, and the milliseconds of asking for them. The
+ * status is 1 if a call is refused, or the roots differ at the end. */
 #include "entries.h"
 
 #include <malloc.h>
@@ -141,10 +142,15 @@ int main(int count, char **words)
     compare_roots();
     struct antientropy_counts counts;
     must("count", antientropy_count(&here, &counts));
-    size_t kept = mallinfo2().uordblks;
+    struct antientropy_bytes bytes;
     double begin = now_ms();
+    must("bytes", antientropy_bytes(&here, &bytes));
+    double asked = now_ms() - begin;
+    size_t kept = mallinfo2().uordblks;
+    begin = now_ms();
     antientropy_free(&here);
-    printf("%zu %" PRIu64 " %.1f %.2f\n", kept, counts.sessions, now_ms() - begin, sessions / (double)rounds);
+    printf("%zu %" PRIu64 " %.1f %.2f ", kept, counts.sessions, now_ms() - begin, sessions / (double)rounds);
+    printf("%" PRIu64 " %" PRIu64 " %" PRIu64 " %.2f\n", bytes.rows, bytes.journal, bytes.sessions, asked);
     antientropy_free(&there);
     free(counters);
     return 0;
