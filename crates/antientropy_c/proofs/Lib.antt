@@ -1,13 +1,5 @@
 pub mod CallLaws
-pub mod KeptLaws
-pub mod PackedLaws
 pub mod MakeLaws
 pub mod HintCallLaws
-pub mod HintNumberLaws
 pub mod PortionLaws
-pub mod KeyLaws
-pub mod ReaderLaws
-pub mod PairLaws
-pub mod PartLaws
-pub mod LengthLaws
 pub mod Structs
