@@ -41,6 +41,7 @@ static int inside;
 static struct antientropy_replica replica;
 static struct antientropy_snapshot first, second;
 static struct antientropy_receipt receipt;
+static struct antientropy_bytes sizes;
 static const struct antientropy_pair clock_1 = {1, 1}, clock_2 = {1, 2};
 static uint8_t value[ANTIENTROPY_VALUE_MAX_2 + 1], out[ROOM], message[HEAD + LONG];
 static char keys[MANY_KEYS + MANY][40];
@@ -158,6 +159,7 @@ static void range(uint64_t format, size_t len_of_keys)
     COST("a second one of the same key", put(2, &clock_2, 1));
     COST("a rehash after it", antientropy_rehash(&replica));
     COST("an opening after it", open());
+    COST("the sizes with sessions", antientropy_bytes(&replica, &sizes));
     antientropy_snapshot_free(&first);
     antientropy_snapshot_free(&second);
     antientropy_free(&replica);

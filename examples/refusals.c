@@ -329,6 +329,18 @@ static void positions(void)
     antientropy_free(&replica);
 }
 
+/* The sizes of the replica `made`, which has two versions of one key and no session, and of its row. */
+static void sizes(void)
+{
+    struct antientropy_bytes bytes;
+    SEE(bytes, EMPTY, antientropy_bytes(&none, &bytes));
+    OK(antientropy_bytes(&made, &bytes));
+    OK(antientropy_get(&made, KEY, 4, out, ROOM, &need));
+    is("the rows have the length of the row", bytes.rows == need && need > 0);
+    is("the journal has two keys, two values and two pairs", bytes.journal == 2 * (4 + 4 + 10));
+    is("no session keeps anything", bytes.sessions == 0);
+}
+
 static void reads(void)
 {
     struct antientropy_reading reading;
@@ -375,6 +387,7 @@ static void reads(void)
     OK(antientropy_about(&made, &about));
     is("two entries of format 2 in the only range",
        about.format == 2 && about.bits == 0 && about.range == 0 && about.entries == 2);
+    sizes();
     SEE(top_counter, EMPTY, antientropy_top_counter(&none, 0, KEY, 4, 2, &source));
     SEE(top_counter, BAD_CLOCK, antientropy_top_counter(&made, 0, KEY, 4, 2, &source));
     SEE(top_counter, BAD_CLOCK, antientropy_top_counter(&made, ANTIENTROPY_NODE_MAX + 1, KEY, 4, 2, &source));
@@ -456,7 +469,7 @@ static void snapshots_and_loads(void)
     struct antientropy_replica half = {0}, full = {0}, small = {0}, one = {0};
     uint8_t offer[ANTIENTROPY_OFFER_LEN], ask[ANTIENTROPY_ASK_LEN] = {2, 0, 0, 0, OFFER, 0, 0, 0}, row[ROOM];
     struct antientropy_about about;
-    uint64_t row_len;
+    uint64_t row_len, bytes;
     SEE(snapshot, DIRTY, antientropy_snapshot(&made, &snapshot));
     offer_now(&made, &snapshot, offer);
     SEE(snapshot, EMPTY, antientropy_snapshot(&none, &nothing));
@@ -464,6 +477,10 @@ static void snapshots_and_loads(void)
     SEE(snapshot_about, EMPTY, antientropy_snapshot_about(&nothing, &about));
     OK(antientropy_snapshot_about(&snapshot, &about));
     is("the snapshot has two entries of format 2", about.format == 2 && about.range == 0 && about.entries == 2);
+    SEE(snapshot_bytes, EMPTY, antientropy_snapshot_bytes(&nothing, &bytes));
+    OK(antientropy_snapshot_bytes(&snapshot, &bytes));
+    OK(antientropy_get(&made, KEY, 4, out, ROOM, &need));
+    is("the snapshot has the length of the row", bytes == need);
     SEE(root, EMPTY, antientropy_root(&nothing, out, ROOM, &need));
     SEE(root, SMALL, antientropy_root(&snapshot, out, ANTIENTROPY_ROOT_LEN - 1, &need));
     SEE(offer, EMPTY, antientropy_offer(&nothing, OFFER, out, ROOM, &need));
@@ -619,7 +636,7 @@ static void hints(void)
 {
     struct antientropy_hints empty = {0}, full = {0};
     struct antientropy_hint_counts counts;
-    uint64_t id, owner;
+    uint64_t id, owner, bytes;
     uint8_t kind;
     OK(antientropy_hints_new(&full));
     SEE(hints_new, HELD, antientropy_hints_new(&full));
@@ -654,6 +671,7 @@ static void hints(void)
     SEE(hint_confirm, UNKNOWN_HINT, antientropy_hint_confirm(&full, 1, false));
     SEE(hints_renew, EMPTY, antientropy_hints_renew(&empty));
     SEE(hints_count, EMPTY, antientropy_hints_count(&empty, &counts));
+    SEE(hints_bytes, EMPTY, antientropy_hints_bytes(&empty, &bytes));
     antientropy_hints_free(&full);
 }
 
@@ -678,7 +696,7 @@ static void hint_numbers(void)
 {
     struct antientropy_hints hints = {0};
     struct antientropy_hint_counts counts;
-    uint64_t id;
+    uint64_t id, bytes;
     OK(antientropy_hints_new(&hints));
     is("cart is 1", keep(&hints, "cart") == 1);
     is("order is 2", keep(&hints, "order") == 2);
@@ -694,6 +712,8 @@ static void hint_numbers(void)
     is_hint(&hints, id, "payment");
     OK(antientropy_hints_count(&hints, &counts));
     is("both are pending", counts.pending == 2 && counts.delivered == 0);
+    OK(antientropy_hints_bytes(&hints, &bytes));
+    is("they have two keys, two values and two pairs", bytes == 5 + 4 + 10 + 7 + 4 + 10);
     antientropy_hints_free(&hints);
 
     OK(antientropy_hints_restore(&hints, UINT64_MAX - 1));
@@ -745,6 +765,7 @@ static struct results {
     struct antientropy_taken taken;
     struct antientropy_loaded loaded;
     struct antientropy_counts counts;
+    struct antientropy_bytes sizes;
     struct antientropy_about about;
     struct antientropy_hint_counts hint_counts;
     struct antientropy_slot_counts slot_counts;
@@ -774,6 +795,7 @@ static void empty_replicas(struct results *at)
     EMPTY(antientropy_entry_source(&empty, 0, &at->number));
     EMPTY(antientropy_entries(&empty, 0, at->bytes, sizeof at->bytes, &at->number, &at->next));
     EMPTY(antientropy_about(&empty, &at->about));
+    EMPTY(antientropy_bytes(&empty, &at->sizes));
     EMPTY(antientropy_top_counter(&empty, 1, KEY, 4, 1, &at->number));
     EMPTY(antientropy_rehash(&empty));
     EMPTY(antientropy_rehash_some(&empty, 1, &at->number));
@@ -801,6 +823,7 @@ static void empty_others(struct results *at)
     static struct antientropy_hints hints;
     static struct antientropy_slots slots;
     EMPTY(antientropy_snapshot_about(&snapshot, &at->about));
+    EMPTY(antientropy_snapshot_bytes(&snapshot, &at->number));
     EMPTY(antientropy_root(&snapshot, at->bytes, sizeof at->bytes, &at->number));
     EMPTY(antientropy_offer(&snapshot, OFFER, at->bytes, sizeof at->bytes, &at->number));
     EMPTY(antientropy_serve(&snapshot, OFFER, VALUE, 4, at->bytes, sizeof at->bytes, &at->number));
@@ -818,6 +841,7 @@ static void empty_others(struct results *at)
     EMPTY(antientropy_hint_confirm(&hints, 1, false));
     EMPTY(antientropy_hints_renew(&hints));
     EMPTY(antientropy_hints_count(&hints, &at->hint_counts));
+    EMPTY(antientropy_hints_bytes(&hints, &at->number));
     EMPTY(antientropy_slot_lend(&slots));
     EMPTY(antientropy_slot_give_back(&slots));
     EMPTY(antientropy_slots_sample(&slots, 1, 1));

@@ -368,6 +368,12 @@ using Spot = c::antientropy_spot;
 /// `first`. `front` is `entries` at the last moment that was whole: `first` if there was none since a renewal.
 using Counts = c::antientropy_counts;
 
+/// The size of a replica in bytes. `rows` are as `Snapshot::rows` returns them. `journal` is the keys, values and
+/// clocks of the entries from `first` of the counts on, 10 bytes for each pair of a clock. `sessions` is what sessions
+/// keep in addition: the texts that they took, and the leaves of their rows that have changed since or have no digest
+/// now.
+using Bytes = struct c::antientropy_bytes;
+
 /// What a checkpoint or a log has to name: the `format` of a replica or a snapshot (1 or 2), the `bits` of the ring,
 /// the number of the `range`, and the count of `entries`, which is the number of the next one.
 using About = struct c::antientropy_about;
@@ -1031,6 +1037,13 @@ public:
     /// Number of entries at the moment of the snapshot: a log goes on there.
     std::uint64_t entries() const noexcept { return about_.entries; }
 
+    /// Returns the size of the rows in bytes, as `rows` returns them.
+    Result<std::uint64_t> bytes() {
+        std::uint64_t bytes = 0;
+        const auto number = c::antientropy_snapshot_bytes(at(), &bytes);
+        return detail::result(number, bytes);
+    }
+
     /// Returns the digest of the root: 32 bytes. Replicas of a range with equal roots hold the same versions.
     Result<std::string> root() {
         return detail::bytes([&](auto... out) { return c::antientropy_root(at(), out...); });
@@ -1475,6 +1488,14 @@ public:
         Counts counts = {};
         const auto number = c::antientropy_count(at(), &counts);
         return detail::result(number, counts);
+    }
+
+    /// Returns the size in bytes; the replica takes several times as much memory. It looks at each chunk of 15 rows and
+    /// at the digests of each session's leaves: call it once in some seconds, not at each put.
+    Result<Bytes> bytes() {
+        Bytes bytes = {};
+        const auto number = c::antientropy_bytes(at(), &bytes);
+        return detail::result(number, bytes);
     }
 
     // ---- versions
@@ -1975,6 +1996,14 @@ public:
         HintCounts counts = {};
         const auto number = c::antientropy_hints_count(at(), &counts);
         return detail::result(number, counts);
+    }
+
+    /// Returns the size in bytes of all hints, also of those that are delivered: their keys, values and clocks, 10
+    /// bytes for each pair of a clock.
+    Result<std::uint64_t> bytes() {
+        std::uint64_t bytes = 0;
+        const auto number = c::antientropy_hints_bytes(at(), &bytes);
+        return detail::result(number, bytes);
     }
 
 private:

@@ -165,3 +165,13 @@ func (h *Hints) Count() (HintCounts, error) {
 	err := check(C.antientropy_hints_count(&held.handle, &counts))
 	return HintCounts{Pending: uint64(counts.pending), Delivered: uint64(counts.delivered)}, err
 }
+
+// Bytes returns the size in bytes of all hints, also of those that are delivered: their keys, values and clocks, 10
+// bytes for each pair of a clock.
+func (h *Hints) Bytes() (uint64, error) {
+	var bytes C.uint64_t
+	held := h.at.locked()
+	defer held.lock.Unlock()
+	err := check(C.antientropy_hints_bytes(&held.handle, &bytes))
+	return uint64(bytes), err
+}

@@ -33,6 +33,19 @@ func TestKeptAndConfirmed(t *testing.T) {
 	equal(t, must(hints.Pending(2).All()), []antientropy.Hint{third})
 }
 
+// Delivered hints count until a renewal.
+func TestBytesOfHints(t *testing.T) {
+	hints := must(antientropy.NewHints())
+	equal(t, must(hints.Bytes()), uint64(0))
+	must(hints.Keep(2, []byte("cart"), antientropy.Version{Clock: clock(1, 2, 3, 4), Value: []byte("milk")}))
+	must(hints.Keep(3, []byte("gift list"), antientropy.Version{Clock: clock(1, 3), Kind: antientropy.Tombstone}))
+	equal(t, must(hints.Bytes()), uint64(8+20+9+10))
+	check(hints.Confirm(1, false))
+	equal(t, must(hints.Bytes()), uint64(47))
+	check(hints.Renew())
+	equal(t, must(hints.Bytes()), uint64(19))
+}
+
 func TestDelivered(t *testing.T) {
 	hints, owner := must(antientropy.NewHints()), newReplica()
 	must(hints.Keep(2, []byte("cart"), live(1, 1, "milk")))

@@ -40,6 +40,13 @@ type Counts struct {
 	Front        uint64 // Entries at the last moment that was whole; First if there was none since a renewal
 }
 
+// Bytes is the size of a replica in bytes. The replica takes several times as much memory.
+type Bytes struct {
+	Rows     uint64 // the rows, as [Snapshot.Rows] returns them
+	Journal  uint64 // the keys, values and clocks of the entries from First on: 10 bytes for each pair of a clock
+	Sessions uint64 // what sessions keep in addition: texts that they took, and leaves of their rows that have changed
+}
+
 // About has what a checkpoint or a log has to name: the range of a replica or a snapshot, and its position.
 type About struct {
 	Format  uint8  // format of the tree: 1 or 2
@@ -199,6 +206,16 @@ func (r *replica) count() (Counts, error) {
 		First:        uint64(counts.first),
 		Front:        uint64(counts.front),
 	}, err
+}
+
+// Bytes returns the size of the replica. It looks at each chunk of 15 rows and at the digests of each session's leaves:
+// call it once in some seconds, not at each put.
+func (r *Replica) Bytes() (Bytes, error) {
+	var bytes C.struct_antientropy_bytes
+	held := r.at.locked()
+	defer held.lock.Unlock()
+	err := check(C.antientropy_bytes(&held.handle, &bytes))
+	return Bytes{Rows: uint64(bytes.rows), Journal: uint64(bytes.journal), Sessions: uint64(bytes.sessions)}, err
 }
 
 // Put puts a value for a key at a node, after a read: the context is the merged clock of all versions that were read.

@@ -182,6 +182,39 @@ func TestCountsAndRenewal(t *testing.T) {
 	refused(t, err, antientropy.ErrBadRing)
 }
 
+// lengthOfRows returns the lengths of the rows that a replica holds, in all.
+func lengthOfRows(r *antientropy.Replica) (length uint64) {
+	for _, row := range stateOf(r).rows {
+		length += uint64(len(row))
+	}
+	return length
+}
+
+// lengthOfEntries returns the lengths of the entries of a journal in all, with 10 bytes for each pair of a clock.
+func lengthOfEntries(r *antientropy.Replica) (length uint64) {
+	for _, entry := range stateOf(r).entries {
+		length += uint64(len(entry.Key) + len(entry.Version.Value) + 10*len(entry.Version.Clock))
+	}
+	return length
+}
+
+func TestBytes(t *testing.T) {
+	r := newReplica()
+	equal(t, must(r.Bytes()), antientropy.Bytes{})
+	put(r, "cart", "milk")
+	must(r.Put(1, []byte("cart"), []byte("milk, eggs"), clock(1, 1, 7, 3)))
+	must(r.Accept([]byte("list"), antientropy.Version{Clock: clock(2, 5), Kind: antientropy.Tombstone}))
+	snapshot, rows, journal := must(r.Snapshot()), lengthOfRows(r), lengthOfEntries(r)
+	equal(t, []any{journal, rows != journal}, []any{uint64(8 + 10 + 14 + 20 + 4 + 10), true})
+	equal(t, must(r.Bytes()), antientropy.Bytes{Rows: rows, Journal: journal})
+	put(r, "gift", "tea")
+	equal(t, must(r.Bytes()), antientropy.Bytes{Rows: lengthOfRows(r), Journal: journal + 17})
+	equal(t, []any{must(snapshot.Bytes()), must(r.Bytes()).Rows > rows}, []any{rows, true})
+	renewed := must(r.Renew(10))
+	equal(t, must(renewed.Bytes()), antientropy.Bytes{Rows: lengthOfRows(r), Journal: lengthOfEntries(renewed)})
+	equal(t, must(renewed.Bytes()).Journal, journal-1)
+}
+
 func TestAbout(t *testing.T) {
 	config := antientropy.Config{Format: 1, Bits: 4, Range: 9, Limit: 10}
 	r := must(antientropy.NewReplica(config))

@@ -132,6 +132,26 @@ func TestDroppedSessions(t *testing.T) {
 	equal(t, must(must(r.Renew(100)).Open(1, offer)).Number(), uint64(3))
 }
 
+// A session keeps the leaf of a key that is put again, until it is dropped.
+func TestBytesOfSessions(t *testing.T) {
+	_, offer := offered()
+	r := filled(50)
+	before := must(r.Snapshot())
+	session := must(r.Open(1, offer))
+	equal(t, must(r.Bytes()).Sessions, uint64(0))
+	must(r.Put(1, []byte("key 3"), []byte("a longer value"), clock(1, 1)))
+	check(r.Rehash())
+	leaf := must(before.Rows(must(antientropy.Place(2, 0, []byte("key 3"))).Leaf))
+	bytes := must(r.Bytes())
+	equal(t, []any{bytes.Sessions, len(leaf) > 0}, []any{uint64(len(leaf)), true})
+	equal(t, bytes.Rows, must(before.Bytes())+uint64(len("a longer value")-len("value")))
+	check(session.Cancel())
+	equal(t, must(r.Bytes()), bytes)
+	check(r.DropSessions())
+	bytes.Sessions = 0
+	equal(t, must(r.Bytes()), bytes)
+}
+
 func TestRefusedAsks(t *testing.T) {
 	snapshot, offer := offered()
 	ask := asked(must(newReplica().Open(1, offer)))

@@ -108,6 +108,15 @@ func (s *Snapshot) About() (About, error) {
 	return aboutOf(C.antientropy_snapshot_about(&held.handle, &about), &about)
 }
 
+// Bytes returns the size of the rows in bytes, as [Snapshot.Rows] returns them.
+func (s *Snapshot) Bytes() (uint64, error) {
+	var bytes C.uint64_t
+	held := s.at.locked()
+	defer held.lock.Unlock()
+	err := check(C.antientropy_snapshot_bytes(&held.handle, &bytes))
+	return uint64(bytes), err
+}
+
 // Entries returns the number of the next entry at the moment of the snapshot: a log goes on there.
 func (s *Snapshot) Entries() uint64 {
 	return s.entries

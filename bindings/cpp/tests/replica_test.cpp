@@ -307,6 +307,42 @@ void ranges() {
     REFUSED(OtherRange, other.load_rows(sure(own.row("cart"))));
 }
 
+/// The lengths of the rows that a replica holds, in all.
+std::uint64_t length_of_rows(Replica &replica) {
+    std::uint64_t length = 0;
+    for (const auto &key : all(replica.keys())) length += sure(replica.row(key)).size();
+    return length;
+}
+
+/// The lengths of the entries of a journal in all, with 10 bytes for each pair of a clock.
+std::uint64_t length_of_entries(Replica &replica) {
+    std::uint64_t length = 0;
+    for (const auto &[number, key, version, source] : all(sure(replica.entries(sure(replica.count()).first)))) {
+        length += key.size() + version.value.size() + 10 * version.clock.size();
+    }
+    return length;
+}
+
+void sizes_in_bytes() {
+    Replica replica = sure(Replica::make());
+    const Bytes none = sure(replica.bytes());
+    CHECK(none.rows == 0 && none.journal == 0 && none.sessions == 0);
+    sure(replica.put(1, "cart", "milk"));
+    sure(replica.put(1, "cart", "milk, eggs", {{1, 1}, {7, 3}}));
+    sure(replica.accept("list", {{{2, 5}}, Kind::Tombstone, ""}));
+    Snapshot snapshot = sure(replica.snapshot());
+    const std::uint64_t rows = length_of_rows(replica), journal = length_of_entries(replica);
+    const Bytes before = sure(replica.bytes());
+    CHECK(before.rows == rows && before.journal == journal && before.sessions == 0);
+    CHECK(journal == 8 + 10 + 14 + 20 + 4 + 10 && rows != journal);
+    sure(replica.put(1, "gift", "tea"));
+    CHECK(sure(replica.bytes()).rows == length_of_rows(replica) && sure(replica.bytes()).journal == journal + 17);
+    CHECK(sure(snapshot.bytes()) == rows && sure(replica.bytes()).rows > rows);
+    Replica renewed = sure(replica.renew());
+    CHECK(sure(renewed.bytes()).rows == length_of_rows(replica));
+    CHECK(sure(renewed.bytes()).journal == length_of_entries(renewed) && length_of_entries(renewed) == journal - 1);
+}
+
 void rehash_by_steps() {
     Replica replica = sure(Replica::make(1)), other = sure(Replica::make(1));
     for (int n = 0; n < 50; n++) {
@@ -388,6 +424,7 @@ void closed() {
     REFUSED(Empty, replica.about());
     REFUSED(Empty, replica.drop_sessions());
     REFUSED(Empty, replica.count());
+    REFUSED(Empty, replica.bytes());
     REFUSED(Empty, replica.renew());
     REFUSED(Empty, replica.root());
     REFUSED(Empty, replica.migrate());
@@ -401,6 +438,7 @@ void closed() {
     CHECK(snapshot.entries() == 1 && snapshot.root());
     snapshot.close();
     REFUSED(Empty, snapshot.root());
+    REFUSED(Empty, snapshot.bytes());
     std::ostringstream file;
     CHECK(name(snapshot.save(file).error()) == "Refused: Empty");
     CHECK(name(replica.save(file).error()) == "Refused: Empty");
@@ -477,6 +515,19 @@ void hints() {
     CHECK(sure(hints.count()).delivered == 0 && sure(hints.next(3)) == 4u);
 }
 
+/// Delivered hints count until a renewal.
+void sizes_of_hints() {
+    Hints hints = sure(Hints::make());
+    CHECK(sure(hints.bytes()) == 0);
+    sure(hints.keep(2, "cart", {{{1, 2}, {3, 4}}, Kind::Live, "milk"}));
+    sure(hints.keep(3, "gift list", {{{1, 3}}, Kind::Tombstone, ""}));
+    CHECK(sure(hints.bytes()) == 8 + 20 + 9 + 10);
+    sure(hints.confirm(1));
+    CHECK(sure(hints.bytes()) == 47);
+    sure(hints.renew());
+    CHECK(sure(hints.bytes()) == 19);
+}
+
 /// The number of a hint before a renewal names no other hint, and neither do those of a log after a restart.
 void numbers_of_hints() {
     Hints hints = sure(Hints::make());
@@ -504,6 +555,7 @@ void refused_hints() {
     REFUSED(UnknownHint, hints.confirm((std::uint64_t(1) << 32) + 1));
     Hints moved = std::move(hints);
     REFUSED(Empty, hints.count());
+    REFUSED(Empty, hints.bytes());
     REFUSED(Empty, ended(hints.pending(2)));
     moved.close();
     REFUSED(Empty, moved.renew());
@@ -567,6 +619,7 @@ int main() {
                 {"rows", rows},
                 {"rows of a format", rows_of_a_format},
                 {"ranges", ranges},
+                {"sizes in bytes", sizes_in_bytes},
                 {"rehash by steps", rehash_by_steps},
                 {"renewal and migration", renewal_and_migration},
                 {"moves", moves},
@@ -575,6 +628,7 @@ int main() {
                 {"checkpoint of the page", checkpoint_of_the_page},
                 {"damaged checkpoints", damaged_checkpoints},
                 {"hints", hints},
+                {"sizes of hints", sizes_of_hints},
                 {"numbers of hints", numbers_of_hints},
                 {"refused hints", refused_hints},
                 {"slots", slots},

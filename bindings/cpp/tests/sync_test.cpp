@@ -147,6 +147,25 @@ void dropped_sessions() {
     CHECK(opened(renewed, offer) == 2);
 }
 
+/// A session keeps the leaf of a key that is put again, until it is dropped.
+void sizes_of_sessions() {
+    Replica a = filled(50), b = filled(50);
+    sure(a.put(2, "later", ""));
+    const std::string offer = sure(sure(a.snapshot()).offer(1));
+    Snapshot before = sure(b.snapshot());
+    Session session = sure(b.open(1, offer));
+    CHECK(sure(b.bytes()).sessions == 0);
+    sure(b.put(1, "key 3", "a longer value", {{1, 1}}));
+    sure(b.rehash());
+    const std::string leaf = sure(before.rows(sure(place(2, 0, "key 3")).leaf));
+    const Bytes bytes = sure(b.bytes());
+    CHECK(bytes.sessions == leaf.size() && bytes.sessions > 0 && bytes.rows > sure(before.bytes()));
+    sure(session.cancel());
+    CHECK(sure(b.bytes()).sessions == leaf.size());
+    sure(b.drop_sessions());
+    CHECK(sure(b.bytes()).sessions == 0 && sure(b.bytes()).rows == bytes.rows);
+}
+
 void bad_answers() {
     Replica a = filled(50), b = sure(Replica::make());
     Snapshot offered = sure(a.snapshot());
@@ -345,6 +364,7 @@ int main() {
                 {"shared snapshots", shared_snapshots},
                 {"session", session},
                 {"dropped sessions", dropped_sessions},
+                {"sizes of sessions", sizes_of_sessions},
                 {"bad answers", bad_answers},
                 {"refused offers", refused_offers},
                 {"empty ranges", empty_ranges},

@@ -20,6 +20,7 @@
     X(migrate, 1, LONG)                                                                                                \
     X(about, 1, SHORT)                                                                                                 \
     X(count, 1, SHORT)                                                                                                 \
+    X(bytes, 1, LONG)                                                                                                  \
     X(rehash, 1, LONG)                                                                                                 \
     X(rehash_some, 2, LONG)                                                                                            \
     X(hold, 1, LONG)                                                                                                   \
@@ -48,6 +49,7 @@
     X(snapshot_share, 1, SHORT)                                                                                        \
     X(snapshot_close, 1, LONG)                                                                                         \
     X(snapshot_info, 1, SHORT)                                                                                         \
+    X(snapshot_bytes, 1, LONG)                                                                                         \
     X(snapshot_row, 2, SHORT)                                                                                          \
     X(snapshot_key_after, 3, SHORT)                                                                                    \
     X(root, 1, SHORT)                                                                                                  \
@@ -74,6 +76,7 @@
     X(hint_confirm, 3, SHORT)                                                                                          \
     X(hints_renew, 1, LONG)                                                                                            \
     X(hints_count, 1, SHORT)                                                                                           \
+    X(hints_bytes, 1, SHORT)                                                                                           \
     X(slots_new, 3, SHORT)                                                                                             \
     X(slots_close, 1, SHORT)                                                                                           \
     X(slot_lend, 1, SHORT)                                                                                             \

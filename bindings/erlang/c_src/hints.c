@@ -113,3 +113,11 @@ CALL(HINTS, hints_count)
     const ERL_NIF_TERM values[] = {enif_make_uint64(env, counts.pending), enif_make_uint64(env, counts.delivered)};
     return ok(env, make_map(env, 2, keys, values));
 }
+
+/* hints_bytes(Hints) -> {ok, Bytes} */
+CALL(HINTS, hints_bytes)
+{
+    uint64_t bytes;
+    uint32_t number = antientropy_hints_bytes(&at->hints, &bytes);
+    return number == ANTIENTROPY_OK ? ok(env, enif_make_uint64(env, bytes)) : refused(env, number);
+}

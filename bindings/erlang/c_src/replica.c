@@ -83,6 +83,19 @@ CALL(REPLICA, count)
     return ok(env, make_map(env, 7, keys, values));
 }
 
+/* bytes(Replica) -> {ok, Bytes} */
+CALL(REPLICA, bytes)
+{
+    struct antientropy_bytes bytes;
+    uint32_t number = antientropy_bytes(&at->replica, &bytes);
+    if (number != ANTIENTROPY_OK)
+        return refused(env, number);
+    const ERL_NIF_TERM keys[] = {atoms.rows, atoms.journal, atoms.sessions};
+    const ERL_NIF_TERM values[] = {enif_make_uint64(env, bytes.rows), enif_make_uint64(env, bytes.journal),
+                                   enif_make_uint64(env, bytes.sessions)};
+    return ok(env, make_map(env, 3, keys, values));
+}
+
 /* rehash(Replica) -> ok */
 CALL(REPLICA, rehash)
 {

@@ -51,6 +51,14 @@ CALL(SNAPSHOT, snapshot_info)
     return ok(env, make_map(env, 5, keys, values));
 }
 
+/* snapshot_bytes(Snapshot) -> {ok, Bytes} */
+CALL(SNAPSHOT, snapshot_bytes)
+{
+    uint64_t bytes;
+    uint32_t number = antientropy_snapshot_bytes(&at->snapshot, &bytes);
+    return number == ANTIENTROPY_OK ? ok(env, enif_make_uint64(env, bytes)) : refused(env, number);
+}
+
 /* root(Snapshot) -> {ok, Root} */
 CALL(SNAPSHOT, root)
 {

@@ -34,6 +34,7 @@
     X(from, "from")                                                                                                    \
     X(front, "front")                                                                                                  \
     X(hint, "hint")                                                                                                    \
+    X(journal, "journal")                                                                                              \
     X(key, "key")                                                                                                      \
     X(known, "known")                                                                                                  \
     X(leaf, "leaf")                                                                                                    \
@@ -55,6 +56,7 @@
     X(range, "range")                                                                                                  \
     X(root, "root")                                                                                                    \
     X(row_broken, "row_broken")                                                                                        \
+    X(rows, "rows")                                                                                                    \
     X(sessions, "sessions")                                                                                            \
     X(source, "source")                                                                                                \
     X(state, "state")                                                                                                  \

@@ -13,7 +13,7 @@
 -module(antientropy).
 
 -export([version/0, name/1, place/3, compare/2, merge/1, read_offer/1]).
--export([new/0, new/1, new_seeded/3, close/1, renew/1, renew/2, migrate/1, about/1, info/1, count/1]).
+-export([new/0, new/1, new_seeded/3, close/1, renew/1, renew/2, migrate/1, about/1, info/1, count/1, bytes/1]).
 -export([put/4, put/5, put_unread/5, accept/3, get/2, read/3, count_versions/2, value/3, clock/3, row/2]).
 -export([key_after/3, keys/1, keys/2, fold_keys/3, entry/2, entries/2, fold_entries/4, top_counter/3, top_counter/4]).
 -export([packed_entries/2, unpack_entries/1]).
@@ -192,6 +192,19 @@ info(Replica) ->
     }.
 count(Replica) ->
     antientropy_nif:count(Replica).
+
+%% @doc Returns the size of a replica in bytes. The replica takes several times as much memory.
+%%
+%% `rows' are as {@link antientropy_snapshot:rows/2} returns them. `journal' is the keys, values and clocks of the
+%% entries from `first' of {@link count/1} on, 10 bytes for each pair of a clock. `sessions' is what sessions keep in
+%% addition: the texts that they took, and the leaves of their rows that have changed since or have no digest now.
+%%
+%% It looks at each chunk of 15 rows and at the digests of each session's leaves: call it once in some seconds, not at
+%% each put.
+-spec bytes(replica()) -> {ok, Bytes} | refused() when
+    Bytes :: #{rows := non_neg_integer(), journal := non_neg_integer(), sessions := non_neg_integer()}.
+bytes(Replica) ->
+    antientropy_nif:bytes(Replica).
 
 %% ---- versions
 

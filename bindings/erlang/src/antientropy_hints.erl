@@ -3,7 +3,7 @@
 %% A hint is of no range, and its number never names another one.
 -module(antientropy_hints).
 
--export([new/0, restore/1, close/1, keep/4, next/3, hint/2, pending/2, fold/4, confirm/3, renew/1, count/1]).
+-export([new/0, restore/1, close/1, keep/4, next/3, hint/2, pending/2, fold/4, confirm/3, renew/1, count/1, bytes/1]).
 
 -export_type([hints/0, hint/0]).
 
@@ -100,3 +100,9 @@ renew(Hints) ->
     Counts :: #{pending := non_neg_integer(), delivered := non_neg_integer()}.
 count(Hints) ->
     antientropy_nif:hints_count(Hints).
+
+%% @doc Returns the size in bytes of all hints, also of those that are delivered: their keys, values and clocks, 10
+%% bytes for each pair of a clock.
+-spec bytes(hints()) -> {ok, Bytes :: non_neg_integer()} | antientropy:refused().
+bytes(Hints) ->
+    antientropy_nif:hints_bytes(Hints).

@@ -5,14 +5,14 @@
 
 -export([
     version/0, name/1, place/3, compare/2, merge/2, read_offer/1, new/4, new_seeded/6, close/1, renew/2, migrate/1,
-    about/1, count/1, rehash/1, rehash_some/2, hold/1, drop_moment/1, hash_moment/2, moment/1, snapshot_of_moment/3,
-    open_at_moment/3, open_of_moment/6, load_rows/2, load_format/3, put/5, put_unread/5, accept/3, get/2, read/3,
-    count_versions/2, value/3, clock/3, row/2, key_after/3, entry/2, packed_entries/2, top_counter/4, snapshot/1,
-    snapshot_share/1, snapshot_close/1, snapshot_info/1, snapshot_row/2, snapshot_key_after/3, root/1, digest/3,
-    offer/2, serve/3, rows/2, open/3, session/2, outstanding/2, ask/3, ask_at/4, asks/3, take/4, cancel/2,
-    close_session/2, drop_sessions/1, hints_new/0, hints_restore/1, hints_close/1, hint_keep/4, hint_next/3, hint/2,
-    hint_confirm/3, hints_renew/1, hints_count/1, slots_new/3, slots_close/1, slot_lend/1, slot_give_back/1,
-    slots_sample/3, slots_adjust/2, slots_set_target/2, slots_count/1
+    about/1, count/1, bytes/1, rehash/1, rehash_some/2, hold/1, drop_moment/1, hash_moment/2, moment/1,
+    snapshot_of_moment/3, open_at_moment/3, open_of_moment/6, load_rows/2, load_format/3, put/5, put_unread/5, accept/3,
+    get/2, read/3, count_versions/2, value/3, clock/3, row/2, key_after/3, entry/2, packed_entries/2, top_counter/4,
+    snapshot/1, snapshot_share/1, snapshot_close/1, snapshot_info/1, snapshot_bytes/1, snapshot_row/2,
+    snapshot_key_after/3, root/1, digest/3, offer/2, serve/3, rows/2, open/3, session/2, outstanding/2, ask/3, ask_at/4,
+    asks/3, take/4, cancel/2, close_session/2, drop_sessions/1, hints_new/0, hints_restore/1, hints_close/1,
+    hint_keep/4, hint_next/3, hint/2, hint_confirm/3, hints_renew/1, hints_count/1, hints_bytes/1, slots_new/3,
+    slots_close/1, slot_lend/1, slot_give_back/1, slots_sample/3, slots_adjust/2, slots_set_target/2, slots_count/1
 ]).
 
 -define(NOT_LOADED, erlang:nif_error(not_loaded)).
@@ -36,6 +36,7 @@ renew(_Replica, _Limit) -> ?NOT_LOADED.
 migrate(_Replica) -> ?NOT_LOADED.
 about(_Replica) -> ?NOT_LOADED.
 count(_Replica) -> ?NOT_LOADED.
+bytes(_Replica) -> ?NOT_LOADED.
 rehash(_Replica) -> ?NOT_LOADED.
 rehash_some(_Replica, _Most) -> ?NOT_LOADED.
 hold(_Replica) -> ?NOT_LOADED.
@@ -64,6 +65,7 @@ snapshot(_Replica) -> ?NOT_LOADED.
 snapshot_share(_Snapshot) -> ?NOT_LOADED.
 snapshot_close(_Snapshot) -> ?NOT_LOADED.
 snapshot_info(_Snapshot) -> ?NOT_LOADED.
+snapshot_bytes(_Snapshot) -> ?NOT_LOADED.
 snapshot_row(_Snapshot, _Key) -> ?NOT_LOADED.
 snapshot_key_after(_Snapshot, _Leaf, _Key) -> ?NOT_LOADED.
 root(_Snapshot) -> ?NOT_LOADED.
@@ -90,6 +92,7 @@ hint(_Hints, _Number) -> ?NOT_LOADED.
 hint_confirm(_Hints, _Number, _Outcome) -> ?NOT_LOADED.
 hints_renew(_Hints) -> ?NOT_LOADED.
 hints_count(_Hints) -> ?NOT_LOADED.
+hints_bytes(_Hints) -> ?NOT_LOADED.
 slots_new(_Floor, _Ceiling, _Threshold) -> ?NOT_LOADED.
 slots_close(_Slots) -> ?NOT_LOADED.
 slot_lend(_Slots) -> ?NOT_LOADED.

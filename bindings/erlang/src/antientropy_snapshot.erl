@@ -4,7 +4,7 @@
 %% lock then; by {@link share/1} each has a snapshot of its own.
 -module(antientropy_snapshot).
 
--export([share/1, close/1, info/1, root/1, digest/3, offer/2, serve/3, rows/2, save/2]).
+-export([share/1, close/1, info/1, bytes/1, root/1, digest/3, offer/2, serve/3, rows/2, save/2]).
 -export([row/2, key_after/3, keys/1, keys/2, fold_keys/3]).
 
 -export_type([snapshot/0, info/0]).
@@ -36,6 +36,11 @@ close(Snapshot) ->
 -spec info(snapshot()) -> {ok, info()} | antientropy:refused().
 info(Snapshot) ->
     antientropy_nif:snapshot_info(Snapshot).
+
+%% @doc Returns the size of the rows in bytes, as {@link rows/2} returns them.
+-spec bytes(snapshot()) -> {ok, Bytes :: non_neg_integer()} | antientropy:refused().
+bytes(Snapshot) ->
+    antientropy_nif:snapshot_bytes(Snapshot).
 
 %% @doc Returns the digest of the root: 32 bytes.
 -spec root(snapshot()) -> {ok, Root :: binary()} | antientropy:refused().

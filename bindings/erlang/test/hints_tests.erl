@@ -15,6 +15,7 @@ hints_test_() ->
             fun deliver_and_renew/1,
             fun no_number_names_two_hints/1,
             fun confirm_one/1,
+            fun bytes/1,
             fun refusals/1,
             fun wrong_types/1,
             fun empty/1
@@ -98,6 +99,16 @@ confirm_one(Hints) ->
     ?assertMatch({ok, [#{number := 3}]}, antientropy_hints:pending(Hints, 3)),
     ?assertEqual({error, unknown_hint}, antientropy_hints:confirm(Hints, 2, known)).
 
+%% Delivered hints count until a renewal.
+bytes(Hints) ->
+    ?assertEqual({ok, (8 + 10) + (4 + 20) + (8 + 10)}, antientropy_hints:bytes(Hints)),
+    ok = antientropy_hints:confirm(Hints, 2, new),
+    ?assertEqual({ok, 60}, antientropy_hints:bytes(Hints)),
+    ok = antientropy_hints:renew(Hints),
+    ?assertEqual({ok, 36}, antientropy_hints:bytes(Hints)),
+    {ok, None} = antientropy_hints:new(),
+    ?assertEqual({ok, 0}, antientropy_hints:bytes(None)).
+
 state(Hints) ->
     {antientropy_hints:count(Hints), antientropy_hints:pending(Hints, 2), antientropy_hints:pending(Hints, 3)}.
 
@@ -150,7 +161,8 @@ empty(Hints) ->
             {pending, [2]},
             {confirm, [1, new]},
             {renew, []},
-            {count, []}
+            {count, []},
+            {bytes, []}
         ]
     ].
 

@@ -194,6 +194,7 @@ empty(Replica) ->
             {about, []},
             {info, []},
             {count, []},
+            {bytes, []},
             {rehash, []},
             {rehash_some, [1]},
             {hold, []},
@@ -364,4 +365,7 @@ other_handles(Replica) ->
     badarg(fun() -> antientropy:count(Snapshot) end),
     badarg(fun() -> antientropy_snapshot:root(Replica) end),
     badarg(fun() -> antientropy_hints:count(Slots) end),
-    badarg(fun() -> antientropy_slots:count(Hints) end).
+    badarg(fun() -> antientropy_slots:count(Hints) end),
+    badarg(fun() -> antientropy:bytes(Hints) end),
+    badarg(fun() -> antientropy_snapshot:bytes(Replica) end),
+    badarg(fun() -> antientropy_hints:bytes(Snapshot) end).

@@ -111,6 +111,37 @@ keys_test() ->
     ?assertEqual(lists:usort(KeysOfLeaf), KeysOfLeaf),
     ?assertEqual({ok, hd(KeysOfLeaf)}, antientropy:key_after(Replica, Leaf, <<>>)).
 
+bytes_test() ->
+    Replica = replica(),
+    ?assertEqual({ok, #{rows => 0, journal => 0, sessions => 0}}, antientropy:bytes(Replica)),
+    {ok, _} = antientropy:put(Replica, 1, <<"cart">>, <<"milk">>),
+    {ok, _} = antientropy:put(Replica, 1, <<"cart">>, <<"milk, eggs">>, #{1 => 1, 7 => 3}),
+    {ok, new} = antientropy:accept(Replica, <<"list">>, live(#{2 => 5}, tombstone)),
+    {Rows, Journal} = lengths(Replica),
+    ?assertEqual(8 + 10 + 14 + 20 + 4 + 10, Journal),
+    ?assertNotEqual(Journal, Rows),
+    ?assertEqual({ok, #{rows => Rows, journal => Journal, sessions => 0}}, antientropy:bytes(Replica)),
+    {ok, Snapshot} = antientropy:snapshot(Replica),
+    {ok, _} = antientropy:put(Replica, 1, <<"gift">>, <<"tea">>),
+    {Later, _} = lengths(Replica),
+    ?assertEqual({ok, #{rows => Later, journal => Journal + 17, sessions => 0}}, antientropy:bytes(Replica)),
+    ?assertEqual({ok, Rows}, antientropy_snapshot:bytes(Snapshot)),
+    ?assert(Later > Rows),
+    {ok, Renewed} = antientropy:renew(Replica),
+    ?assertEqual({Later, Journal - 1}, lengths(Renewed)),
+    ?assertEqual({ok, #{rows => Later, journal => Journal - 1, sessions => 0}}, antientropy:bytes(Renewed)).
+
+%% The lengths of the rows that a replica holds, in all, and of its entries, with 10 bytes for each pair of a clock.
+lengths(Replica) ->
+    {_, Entries, Rows} = support:state(Replica),
+    Length = fun(#{key := Key, clock := Clock, value := Value}) ->
+        byte_size(Key) + length_of(Value) + 10 * map_size(Clock)
+    end,
+    {lists:sum([byte_size(Row) || {ok, Row} <- Rows]), lists:sum([Length(Entry) || Entry <- Entries])}.
+
+length_of(tombstone) -> 0;
+length_of(Value) -> byte_size(Value).
+
 entries_test() ->
     Replica = replica(),
     {ok, _} = antientropy:put(Replica, 1, <<"a">>, <<"x">>),

@@ -23,6 +23,7 @@ sessions_test_() ->
             fun session/1,
             fun session_is_cancelled/1,
             fun sessions_are_dropped/1,
+            fun bytes_of_sessions/1,
             fun gone_and_bad_message/1,
             fun not_asked_and_wrong_digest/1,
             fun not_canonical/1,
@@ -153,6 +154,23 @@ sessions_are_dropped(#pair{b = B, offer = Offer} = Pair) ->
     {ok, Session} = antientropy:open(Renewed, 1, Offer),
     ?assertEqual(3, element(3, Session)).
 
+%% A session keeps the leaf of a key that is put again, until it is dropped.
+bytes_of_sessions(#pair{a = A, snapshot = Snapshot, offer = Offer}) ->
+    {ok, #{leaf := Leaf}} = antientropy:place(2, 0, key(3)),
+    {ok, Rows} = antientropy_snapshot:rows(Snapshot, Leaf),
+    {ok, Before} = antientropy_snapshot:bytes(Snapshot),
+    {ok, Session} = antientropy:open(A, 1, Offer),
+    ?assertMatch({ok, #{sessions := 0}}, antientropy:bytes(A)),
+    {ok, _} = antientropy:put(A, 1, key(3), <<"a longer value">>, #{1 => 1}),
+    ok = antientropy:rehash(A),
+    {ok, #{rows := Now, sessions := Kept} = Bytes} = antientropy:bytes(A),
+    ?assertEqual({byte_size(Rows), Before + 9}, {Kept, Now}),
+    ?assert(Kept > 0),
+    ok = antientropy_session:cancel(Session),
+    ?assertEqual({ok, Bytes}, antientropy:bytes(A)),
+    ok = antientropy:drop_sessions(A),
+    ?assertEqual({ok, Bytes#{sessions := 0}}, antientropy:bytes(A)).
+
 gone_and_bad_message(#pair{a = A, b = B, snapshot = Snapshot} = Pair) ->
     Session = open(Pair),
     {ok, Ask} = antientropy_session:ask(Session),
@@ -241,6 +259,7 @@ empty(#pair{b = B, snapshot = Snapshot} = Pair) ->
             antientropy_session:outstanding(Session),
             antientropy_snapshot:root(Snapshot),
             antientropy_snapshot:info(Snapshot),
+            antientropy_snapshot:bytes(Snapshot),
             antientropy_snapshot:offer(Snapshot, 1),
             antientropy_snapshot:serve(Snapshot, 1, <<>>),
             antientropy_snapshot:rows(Snapshot, 0),

@@ -20,6 +20,7 @@ from ._slots import Slots
 from ._snapshot import Snapshot
 from ._values import (
     About,
+    ByteCounts,
     Clock,
     ClockLike,
     Counts,
@@ -43,6 +44,7 @@ from ._values import (
 
 __all__ = [
     "About",
+    "ByteCounts",
     "Clock",
     "ClockLike",
     "Counts",

@@ -88,3 +88,10 @@ class Hints(Handle):
     def count(self) -> HintCounts:
         """Returns the counts of pending and of delivered hints."""
         return HintCounts(*self._get_words(2, "hints_count"))
+
+    def count_bytes(self) -> int:
+        """Returns the size in bytes of all hints, also of those that are delivered.
+
+        It is that of their keys, values and clocks, 10 bytes for each pair of a clock.
+        """
+        return self._get_words(1, "hints_bytes")[0]

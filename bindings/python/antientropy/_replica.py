@@ -16,7 +16,7 @@ from ._refused import class_of
 from ._rows import Rows
 from ._session import Session
 from ._snapshot import Snapshot
-from ._values import Clock, ClockLike, Counts, Entry, Loaded, Packed, Put, Receipt, Source, Synced, Version
+from ._values import ByteCounts, Clock, ClockLike, Counts, Entry, Loaded, Packed, Put, Receipt, Source, Synced, Version
 
 _LIMIT = 1_000_000
 
@@ -83,6 +83,14 @@ class Replica(Rows):
     def count(self) -> Counts:
         """Returns the counts of entries, dirty nodes and sessions, and of the entries at the last whole moment."""
         return Counts(*self._get_words(7, "count"))
+
+    def count_bytes(self) -> ByteCounts:
+        """Returns the size of the rows, of the journal and of what sessions keep.
+
+        It looks at each chunk of 15 rows and at the digests of each session's leaves: call it once in some seconds, not
+        at each put.
+        """
+        return ByteCounts(*self._get_words(3, "bytes"))
 
     @property
     def format(self) -> int:

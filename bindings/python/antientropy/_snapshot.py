@@ -67,6 +67,10 @@ class Snapshot(Rows):
         shared._describe_held()
         return shared
 
+    def count_bytes(self) -> int:
+        """Returns the size of the rows in bytes, as `rows` returns them."""
+        return self._get_words(1, "snapshot_bytes")[0]
+
     def root(self) -> bytes:
         """Returns the digest of the root: 32 bytes."""
         return self._get_bytes("root")

@@ -172,6 +172,19 @@ class Counts(NamedTuple):
     front: int
 
 
+class ByteCounts(NamedTuple):
+    """The size of a replica in bytes. The replica takes several times as much memory.
+
+    `rows` are as `Snapshot.rows` returns them. `journal` is the keys, values and clocks of the entries from
+    `count().first` on, 10 bytes for each pair of a clock. `sessions` is what sessions keep in addition: the texts that
+    they took, and the leaves of their rows that have changed since or have no digest now.
+    """
+
+    rows: int
+    journal: int
+    sessions: int
+
+
 class HintCounts(NamedTuple):
     """Counts of hints."""
 

@@ -14,8 +14,8 @@ SETUP = Path(__file__).resolve().parents[1] / "setup.cfg"
 TEXT = re.sub(r"/\*.*?\*/", "", HEADER.read_text(encoding="utf-8"), flags=re.S)
 SCALARS = {"uint8_t": c_uint8, "uint32_t": c_uint32, "uint64_t": c_uint64, "size_t": c_size_t, "bool": c_bool}
 STRUCTS = {"receipt": _values.Receipt, "spot": _values.Spot, "offer_parts": _values.OfferParts, "taken": _values.Taken,
-           "counts": _values.Counts, "about": _values.About, "hint_counts": _values.HintCounts,
-           "slot_counts": _values.SlotCounts}
+           "counts": _values.Counts, "bytes": _values.ByteCounts, "about": _values.About,
+           "hint_counts": _values.HintCounts, "slot_counts": _values.SlotCounts}
 
 
 def argument(text):

@@ -47,6 +47,16 @@ class HintsTest(unittest.TestCase):
         self.assertEqual(self.hints.count(), HintCounts(1, 0))
         self.assertEqual(list(self.hints.pending(3)), [Hint(4, 3, b"cart", {1: 1}, b"milk")])
 
+    def test_count_bytes(self):
+        """Delivered hints count until a renewal."""
+        self.assertEqual(self.hints.count_bytes(), (8 + 10) + (4 + 20) + (8 + 10))
+        self.hints.confirm(2)
+        self.assertEqual(self.hints.count_bytes(), 60)
+        self.hints.renew()
+        self.assertEqual(self.hints.count_bytes(), 36)
+        with Hints() as none:
+            self.assertEqual(none.count_bytes(), 0)
+
     def test_no_number_names_two_hints(self):
         self.hints.confirm(1)
         self.hints.renew()
@@ -98,7 +108,7 @@ class HintsTest(unittest.TestCase):
         self.hints.close()
         for call, *args in (
             (self.hints.keep, 2, b"k", {}, b""), (self.hints.next, 2), (self.hints.hint, 1), (self.hints.confirm, 1),
-            (self.hints.renew,), (self.hints.count,),
+            (self.hints.renew,), (self.hints.count,), (self.hints.count_bytes,),
         ):
             with self.subTest(call), self.assertRaises(antientropy.Empty):
                 call(*args)

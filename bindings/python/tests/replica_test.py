@@ -3,9 +3,19 @@
 import unittest
 
 import antientropy
-from antientropy import Kind, Order, Receipt, Replica, Source, Version
+from antientropy import ByteCounts, Kind, Order, Receipt, Replica, Source, Version
 
 from tests.support import ReplicaCase, crowd
+
+
+def length_of_rows(replica):
+    """The lengths of the rows that a replica holds, in all."""
+    return sum(len(replica.row(key)) for key in replica.keys())
+
+
+def length_of_entries(replica):
+    """The lengths of the entries of a journal in all, with 10 bytes for each pair of a clock."""
+    return sum(len(key) + len(value or b"") + 10 * len(clock) for _, key, clock, value, _ in replica.entries())
 
 
 class ReplicaTest(ReplicaCase):
@@ -149,6 +159,24 @@ class ReplicaTest(ReplicaCase):
             with replica.renew() as renewed, Replica.seeded(1, 2, 1, 4, 9) as seeded:
                 self.assertEqual(renewed.about(), (2, 4, 9, 1))
                 self.assertEqual(seeded.about(), (1, 4, 9, 0))
+
+    def test_count_bytes(self):
+        self.assertEqual(self.replica.count_bytes(), (0, 0, 0))
+        self.replica.put(1, b"cart", b"milk")
+        self.replica.put(1, b"cart", b"milk, eggs", {1: 1, 7: 3})
+        self.replica.accept(b"list", {2: 5}, None)
+        rows, journal = length_of_rows(self.replica), length_of_entries(self.replica)
+        self.assertEqual(journal, 8 + 10 + 14 + 20 + 4 + 10)
+        self.assertNotEqual(rows, journal)
+        with self.replica.snapshot() as snapshot:
+            self.assertEqual(self.replica.count_bytes(), ByteCounts(rows=rows, journal=journal, sessions=0))
+            self.replica.put(1, b"gift", b"tea")
+            later = ByteCounts(length_of_rows(self.replica), journal + 17, 0)
+            self.assertEqual((snapshot.count_bytes(), self.replica.count_bytes()), (rows, later))
+            self.assertGreater(later.rows, rows)
+        with self.replica.renew() as renewed:
+            self.assertEqual(renewed.count_bytes(), (later.rows, journal - 1, 0))
+            self.assertEqual(length_of_entries(renewed), journal - 1)
 
     def test_counts_and_rehash(self):
         self.replica.rehash()
@@ -331,7 +359,7 @@ class RefusalTest(ReplicaCase):
             (self.replica.accept, b"k", {1: 1}, b""), (self.replica.get, b"k"), (self.replica.row, b"k"),
             (self.replica.rehash,), (self.replica.rehash_some, 1), (self.replica.snapshot,), (self.replica.hold,),
             (self.replica.drop_moment,), (self.replica.hash_moment, 1), (self.replica.moment,),
-            (self.replica.count,), (self.replica.migrate,), (self.replica.renew,),
+            (self.replica.count,), (self.replica.count_bytes,), (self.replica.migrate,), (self.replica.renew,),
             (list, self.replica.keys()), (self.replica.entries,), (self.replica.top_counter, 1, b"k"),
             (self.replica.entries, 0), (self.replica.packed_entries,), (self.replica.about,),
             (self.replica.drop_sessions,), (lambda: self.replica.format,),

@@ -58,6 +58,7 @@ class SessionTest(ReplicaCase):
                 self.assert_refused("BadMessage", self.a, shared.digest, depth, index)
         for call, *args in (
             (shared.share,), (shared.row, b"key 3"), (list, shared.keys()), (shared.digest, 0, 0), (shared.about,),
+            (shared.count_bytes,),
         ):
             self.assert_refused("Empty", self.a, call, *args)
 
@@ -101,6 +102,21 @@ class SessionTest(ReplicaCase):
             still_open.take(answer)
         with self.b.renew() as renewed:
             self.assertEqual((renewed.count().sessions, renewed.open(1, self.offer).number), (0, 3))
+
+    def test_bytes_of_sessions(self):
+        """A session keeps the leaf of a key that is put again, until it is dropped."""
+        leaf = self.snapshot.rows(antientropy.place(2, 0, b"key 3").leaf)
+        with self.a.open(1, self.offer) as session:
+            self.assertEqual(self.a.count_bytes().sessions, 0)
+            self.a.put(1, b"key 3", b"a longer value", {1: 1})
+            self.a.rehash()
+            kept = self.a.count_bytes()
+            self.assertEqual((kept.sessions, kept.rows), (len(leaf), self.snapshot.count_bytes() + 9))
+            session.cancel()
+        self.assertGreater(kept.sessions, 0)
+        self.assertEqual(self.a.count_bytes(), kept)
+        self.a.drop_sessions()
+        self.assertEqual(self.a.count_bytes(), kept._replace(sessions=0))
 
     def test_a_session_that_is_dropped_while_it_is_used(self):
         with self.b.open(1, self.offer) as session:

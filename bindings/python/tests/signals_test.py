@@ -46,12 +46,12 @@ def use(replica, hints):
     results += [sync(replica, partner), replica.get(b"cart"), replica.get(b"crowded"), replica.row(b"large")]
     results += [list(replica.keys()), list(replica.entries()), replica.value(b"cart", 1), replica.clock(b"cart", 0)]
     results += [replica.count().entries, replica.top_counter(1, b"cart"), replica.load_rows(replica.row(b"tea"))]
-    results += [replica.packed_entries(room=100), replica.about(), replica.drop_sessions()]
+    results += [replica.packed_entries(room=100), replica.about(), replica.drop_sessions(), replica.count_bytes()]
     with replica.snapshot() as snapshot, snapshot.share() as shared:
         results += [snapshot.entries, snapshot.root(), snapshot.offer(1), snapshot.rows(0), replica.renew().count()]
-        results += [shared.entries, list(shared.keys()), shared.row(b"cart"), shared.digest(1, 0)]
+        results += [shared.entries, list(shared.keys()), shared.row(b"cart"), shared.digest(1, 0), shared.count_bytes()]
     results += [hints.keep(2, b"cart", {1: 1}, b"milk"), hints.keep(2, b"tea", {1: 2}, None), list(hints.pending(2))]
-    return results + [hints.confirm(1), hints.count(), replica.migrate(), replica.root()]
+    return results + [hints.confirm(1), hints.count(), hints.count_bytes(), replica.migrate(), replica.root()]
 
 
 class SignalsTest(unittest.TestCase):

@@ -129,6 +129,16 @@ impl Hints {
         })
     }
 
+    /// Returns the size in bytes of all hints, also of those that are delivered.
+    ///
+    /// It is that of their keys, values and clocks, 10 bytes for each pair of a clock.
+    pub fn bytes(&mut self) -> Result<u64, Refusal> {
+        written(|bytes| {
+            // SAFETY: as in `sys`.
+            unsafe { sys::antientropy_hints_bytes(self.handle.raw(), bytes) }
+        })
+    }
+
     fn hint_parts(&mut self, number: u64) -> Result<Hint, Refusal> {
         let handle = self.handle.raw();
         // SAFETY: as in `sys`, for the four calls.

@@ -33,6 +33,6 @@ pub use slots::Slots;
 pub use snapshot::Snapshot;
 pub use sync::{Bounds, Synced};
 pub use values::{
-    About, Clock, Counts, Entry, Hint, HintCounts, Kind, Loaded, OfferParts, Order, Pair, Receipt, Root, SlotCounts,
-    Source, Spot, State, Taken, Version,
+    About, Bytes, Clock, Counts, Entry, Hint, HintCounts, Kind, Loaded, OfferParts, Order, Pair, Receipt, Root,
+    SlotCounts, Source, Spot, State, Taken, Version,
 };

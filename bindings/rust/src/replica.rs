@@ -16,7 +16,7 @@ use crate::session::{Session, SessionId};
 use crate::snapshot::Snapshot;
 use crate::sync::{self, Bounds, Synced};
 use crate::sys;
-use crate::values::{kind_of, About, Clock, Counts, Entry, Kind, Loaded, Pair, Receipt, Root, Source, Version};
+use crate::values::{kind_of, About, Bytes, Clock, Counts, Entry, Kind, Loaded, Pair, Receipt, Root, Source, Version};
 
 /// A call that puts a version.
 type PutCall = unsafe extern "C" fn(
@@ -150,6 +150,17 @@ impl Replica {
         written(|counts| {
             // SAFETY: as in `sys`.
             unsafe { sys::antientropy_count(self.handle.raw(), counts) }
+        })
+    }
+
+    /// Returns the size of the rows, of the journal and of what sessions keep.
+    ///
+    /// It looks at each chunk of 15 rows and at the digests of each session's leaves: call it once in some seconds, not
+    /// at each put.
+    pub fn bytes(&mut self) -> Result<Bytes, Refusal> {
+        written(|bytes| {
+            // SAFETY: as in `sys`.
+            unsafe { sys::antientropy_bytes(self.handle.raw(), bytes) }
         })
     }
 }

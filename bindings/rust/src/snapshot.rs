@@ -82,6 +82,14 @@ impl Snapshot {
         self.about.entries
     }
 
+    /// Returns the size of the rows in bytes, as [`rows`](Snapshot::rows) returns them.
+    pub fn bytes(&mut self) -> Result<u64, Refusal> {
+        written(|bytes| {
+            // SAFETY: as in `sys`.
+            unsafe { sys::antientropy_snapshot_bytes(self.handle.raw(), bytes) }
+        })
+    }
+
     /// Returns the digest of the root.
     pub fn root(&mut self) -> Result<Root, Refusal> {
         let (mut root, mut need) = (Root::default(), 0);

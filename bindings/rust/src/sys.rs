@@ -8,7 +8,7 @@
 
 use std::ffi::c_void;
 
-use crate::values::{Counts, HintCounts, Pair, Receipt, Root, SlotCounts};
+use crate::values::{Bytes, Counts, HintCounts, Pair, Receipt, Root, SlotCounts};
 
 /// A handle. Hints have all of these fields, the other four structs of handles in the header the first two.
 #[repr(C)]
@@ -94,6 +94,7 @@ extern "C" {
     pub fn antientropy_migrate(replica: *mut Handle) -> u32;
     pub fn antientropy_count(replica: *mut Handle, counts: *mut Counts) -> u32;
     pub fn antientropy_about(replica: *mut Handle, about: *mut About) -> u32;
+    pub fn antientropy_bytes(replica: *mut Handle, bytes: *mut Bytes) -> u32;
     pub fn antientropy_put_read(
         replica: *mut Handle,
         node: u64,
@@ -251,6 +252,7 @@ extern "C" {
     pub fn antientropy_moment(replica: *mut Handle, snapshot: *mut Handle) -> u32;
     pub fn antientropy_snapshot(replica: *mut Handle, snapshot: *mut Handle) -> u32;
     pub fn antientropy_snapshot_about(snapshot: *mut Handle, about: *mut About) -> u32;
+    pub fn antientropy_snapshot_bytes(snapshot: *mut Handle, bytes: *mut u64) -> u32;
     pub fn antientropy_snapshot_share(snapshot: *mut Handle, other: *mut Handle) -> u32;
     pub fn antientropy_snapshot_free(snapshot: *mut Handle);
     pub fn antientropy_snapshot_get(
@@ -370,6 +372,7 @@ extern "C" {
     pub fn antientropy_hint_confirm(hints: *mut Handle, id: u64, known: bool) -> u32;
     pub fn antientropy_hints_renew(hints: *mut Handle) -> u32;
     pub fn antientropy_hints_count(hints: *mut Handle, counts: *mut HintCounts) -> u32;
+    pub fn antientropy_hints_bytes(hints: *mut Handle, bytes: *mut u64) -> u32;
     pub fn antientropy_slots_new(slots: *mut Handle, floor: u32, ceiling: u32, threshold: u32) -> u32;
     pub fn antientropy_slots_free(slots: *mut Handle);
     pub fn antientropy_slot_lend(slots: *mut Handle) -> u32;

@@ -293,6 +293,19 @@ pub struct Counts {
     pub front: u64,
 }
 
+/// The size of a replica in bytes. The replica takes several times as much memory.
+#[repr(C)]
+#[derive(Clone, Copy, Debug, Default, PartialEq, Eq, Hash)]
+pub struct Bytes {
+    /// The rows, as [`Snapshot::rows`](crate::Snapshot::rows) returns them.
+    pub rows: u64,
+    /// The keys, values and clocks of the entries from `first` of the counts on: 10 bytes for each pair of a clock.
+    pub journal: u64,
+    /// What sessions keep in addition: the texts that they took, and the leaves of their rows that have changed since
+    /// or have no digest now.
+    pub sessions: u64,
+}
+
 /// The range of a replica or a snapshot, and the position of its journal: what a checkpoint or a log has to name.
 #[derive(Clone, Copy, Debug, PartialEq, Eq, Hash)]
 pub struct About {

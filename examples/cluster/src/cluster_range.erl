@@ -29,10 +29,11 @@
     limit := pos_integer(),
     dirty := non_neg_integer(),
     sessions := non_neg_integer(),
+    bytes := #{rows := non_neg_integer(), journal := non_neg_integer(), sessions := non_neg_integer()},
     joined := boolean(),
     root := binary() | null
 }.
-%% (`entries' are those of the journal, at most `limit'.)
+%% (`entries' are those of the journal, at most `limit'. The bytes are those of {@link antientropy:bytes/1}.)
 -type row() :: {Key :: binary(), [antientropy:version()]}.
 -type request() :: tuple() | atom().
 
@@ -302,6 +303,7 @@ answer({give_back, Replica, Taken}, {Borrower, _}, State) ->
 answer(counts, _, #state{range = Range, replica = Replica, lacking = Lacking} = State) ->
     {ok, #{entries := Entries, first := First, limit := Limit} = Counts} = antientropy:count(Replica),
     #{dirty := Dirty, sessions := Sessions} = Counts,
+    {ok, Bytes} = antientropy:bytes(Replica),
     {
         #{
             range => Range,
@@ -309,6 +311,7 @@ answer(counts, _, #state{range = Range, replica = Replica, lacking = Lacking} = 
             limit => Limit,
             dirty => Dirty,
             sessions => Sessions,
+            bytes => Bytes,
             joined => Lacking =:= [],
             root => cluster_replica:root(Replica)
         },

@@ -148,8 +148,11 @@ sessions_test_() ->
         {ok, Replica} = cluster_range:borrow(?RANGE),
         [{ok, #{state := cancelled}} = sync(Replica, Offer) || _ <- lists:seq(1, 1100)],
         ok = cluster_range:give_back(?RANGE, Replica, some),
-        ?assertMatch(#{sessions := 0}, cluster_range:counts(?RANGE)),
+        #{sessions := 0, bytes := Bytes} = cluster_range:counts(?RANGE),
         ?assertMatch({ok, #{sessions := 0, first := 0}}, antientropy:count(Replica)),
+        Journal = lists:sum([byte_size(key(Number)) + byte_size(<<"value">>) + 10 || Number <- lists:seq(1, 3)]),
+        ?assertMatch(#{sessions := 0, journal := Journal}, Bytes),
+        ?assertEqual({ok, Bytes}, antientropy:bytes(Replica)),
         ?assertEqual(Before, dump())
     end).
 

@@ -25,6 +25,20 @@ fn kept_and_confirmed() {
     assert_eq!(hints.next_pending(3, 0).unwrap().unwrap().number, 4);
 }
 
+/// Delivered hints count until a renewal.
+#[test]
+fn sizes_of_hints() {
+    let mut hints = Hints::new().unwrap();
+    assert_eq!(hints.bytes(), Ok(0));
+    hints.keep(2, b"cart", &live([(1, 2), (3, 4)], b"milk")).unwrap();
+    hints.keep(3, b"gift list", &Version { clock: Clock::from([(1, 3)]), value: None }).unwrap();
+    assert_eq!(hints.bytes(), Ok(8 + 20 + 9 + 10));
+    hints.confirm(1, false).unwrap();
+    assert_eq!(hints.bytes(), Ok(47));
+    hints.renew().unwrap();
+    assert_eq!(hints.bytes(), Ok(19));
+}
+
 #[test]
 fn no_number_names_two_hints() {
     let mut hints = Hints::new().unwrap();

@@ -1,9 +1,9 @@
 //! Puts, reads and the journal of a replica.
 
 use antientropy::{merge, place, Refusal, Replica, RowsRefused};
-use antientropy::{About, Clock, Config, Counts, Entry, Kind, Packed, Receipt, Source, Version};
+use antientropy::{About, Bytes, Clock, Config, Counts, Entry, Kind, Packed, Receipt, Source, Version};
 
-use crate::support::{assert_refused, crowd, filled, live, replica, with_limit, NONE};
+use crate::support::{assert_refused, crowd, filled, live, replica, state, with_limit, NONE};
 
 #[test]
 fn put_and_read() {
@@ -199,6 +199,38 @@ fn counts_and_renewal() {
     assert_eq!(renewed.count(), Ok(Counts { limit: 5, first: 1, front: 1, ..counts }));
     assert_eq!(renewed.get(b"cart"), replica.get(b"cart"));
     assert_eq!(replica.renew(0).err(), Some(Refusal::BadRing));
+}
+
+/// Returns the lengths of the rows that a replica holds, in all, and of its entries, with 10 bytes for each pair of a
+/// clock.
+fn lengths(replica: &mut Replica) -> (u64, u64) {
+    let (_, entries, rows) = state(replica);
+    let entry_len = |entry: &Entry| {
+        let value_len = entry.version.value.as_ref().map_or(0, Vec::len);
+        entry.key.len() + value_len + 10 * entry.version.clock.pairs().len()
+    };
+    let (rows, journal): (usize, usize) = (rows.iter().map(Vec::len).sum(), entries.iter().map(entry_len).sum());
+    (rows as u64, journal as u64)
+}
+
+#[test]
+fn sizes_in_bytes() {
+    let mut replica = replica();
+    assert_eq!(replica.bytes(), Ok(Bytes::default()));
+    replica.put(1, b"cart", Some(b"milk"), &NONE).unwrap();
+    replica.put(1, b"cart", Some(b"milk, eggs"), &Clock::from([(1, 1), (7, 3)])).unwrap();
+    replica.accept(b"list", &Version { clock: Clock::from([(2, 5)]), value: None }).unwrap();
+    let mut snapshot = replica.snapshot().unwrap();
+    let (rows, journal) = lengths(&mut replica);
+    assert!(journal == 8 + 10 + 14 + 20 + 4 + 10 && rows != journal);
+    assert_eq!(replica.bytes(), Ok(Bytes { rows, journal, sessions: 0 }));
+    replica.put(1, b"gift", Some(b"tea"), &NONE).unwrap();
+    let (later, _) = lengths(&mut replica);
+    assert_eq!(replica.bytes(), Ok(Bytes { rows: later, journal: journal + 17, sessions: 0 }));
+    assert_eq!((snapshot.bytes(), later > rows), (Ok(rows), true));
+    let mut renewed = replica.renew(10).unwrap();
+    assert_eq!(lengths(&mut renewed), (later, journal - 1));
+    assert_eq!(renewed.bytes(), Ok(Bytes { rows: later, journal: journal - 1, sessions: 0 }));
 }
 
 #[test]

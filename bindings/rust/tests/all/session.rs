@@ -1,6 +1,8 @@
 //! Snapshots and sessions.
 
-use antientropy::{place, read_offer, Config, Refusal, Replica, Session, SessionId, Snapshot, Source, State};
+use antientropy::{
+    place, read_offer, Bytes, Clock, Config, Refusal, Replica, Session, SessionId, Snapshot, Source, State,
+};
 
 use crate::support::{assert_refused, filled, opened, replica, NONE};
 
@@ -113,6 +115,25 @@ fn dropped_sessions() {
     assert_eq!(replica.count().unwrap().sessions, 0);
     assert!(replica.entries(0).unwrap().all(|entry| entry.unwrap().source == Source::Copy));
     assert_eq!(opened(&mut replica.renew(100).unwrap(), &offer), 2);
+}
+
+/// A session keeps the leaf of a key that is put again, until it is dropped.
+#[test]
+fn sizes_of_sessions() {
+    let mut replica = filled(50);
+    let mut before = replica.snapshot().unwrap();
+    let id = replica.open(1, &offered().1).unwrap();
+    assert_eq!(replica.bytes().unwrap().sessions, 0);
+    replica.put(1, b"key 3", Some(b"a longer value"), &Clock::from([(1, 1)])).unwrap();
+    replica.rehash().unwrap();
+    let leaf = before.rows(place(2, 0, b"key 3").unwrap().leaf).unwrap();
+    let bytes = replica.bytes().unwrap();
+    assert_eq!((bytes.sessions, leaf.is_empty()), (leaf.len() as u64, false));
+    assert_eq!(bytes.rows, before.bytes().unwrap() + 9);
+    replica.session(id).cancel().unwrap();
+    assert_eq!(replica.bytes(), Ok(bytes));
+    replica.drop_sessions().unwrap();
+    assert_eq!(replica.bytes(), Ok(Bytes { sessions: 0, ..bytes }));
 }
 
 #[test]
