@@ -237,12 +237,13 @@ struct antientropy_counts {
     uint64_t front;         /* `entries` at the last moment that was whole; `first` if there was none since a renewal */
 };
 
-/* The size of a replica in bytes. The replica takes several times as much memory; its moment isn't counted. */
+/* The size of a replica: lengths of contents in bytes. Memory differs, since rows, entries and sessions share values; the
+ * moment isn't counted. */
 struct antientropy_bytes {
     uint64_t rows;     /* the rows, as antientropy_rows copies them out */
     uint64_t journal;  /* the keys, values and clocks of the entries since `first`: 10 bytes for each pair of a clock */
-    uint64_t sessions; /* what sessions keep in addition: the texts that they took, and the leaves of their rows that have
-                        * changed since (each once: it counts with the last session that has it) or have no digest now */
+    uint64_t sessions; /* the texts that sessions took, and the leaves of their rows that have changed since (each once: it
+                        * counts with the last session that has it) or have no digest now: at most what they keep */
 };
 
 /* The range of a replica or a snapshot, and the position of its journal: what a checkpoint or a log has to name. */

@@ -4,8 +4,8 @@ ghost use Rattle.c_calls.specs.Sizes.{sizes_of};
 
 use range_state::RangeState;
 
-/// The size of a replica in bytes: each number at most 2^64 - 1. The replica takes several times as much memory; what its
-/// moment keeps isn't counted.
+/// The size of a replica: lengths of contents in bytes, each at most 2^64 - 1. Memory differs, since rows, entries and
+/// sessions share values. What the moment keeps isn't counted.
 #[repr(C)]
 #[derive(Clone, Copy)]
 pub struct Sizes {
@@ -13,7 +13,7 @@ pub struct Sizes {
     pub rows: u64,
     /// The keys, values and clocks of the journal's entries: 10 bytes for each pair of a clock.
     pub journal: u64,
-    /// What sessions keep in addition: the texts that they took, and the leaves that only they keep.
+    /// The texts that sessions took, and the texts of the leaves of their rows that have changed since.
     pub sessions: u64,
 }
 

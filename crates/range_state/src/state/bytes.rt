@@ -11,16 +11,17 @@ use snapshot::Snapshot;
 use sync_session::{Session, Taken};
 use tree_nodes::{Digest, NodeAt, tree_depth};
 
-/// The size of a range at one moment, in bytes: each number at most 2^64 - 1. The range takes several times as much
-/// memory; what its moment keeps isn't counted.
+/// The size of a range at one moment: lengths of contents in bytes, each at most 2^64 - 1. Memory differs, since rows,
+/// entries and sessions share values. What the moment keeps isn't counted.
 #[derive(Clone, Copy, Debug, PartialEq, Eq)]
 pub struct RangeBytes {
     /// The texts of the rows.
     pub rows: u64,
     /// The keys, values and clocks of the journal's entries: 10 bytes for each pair of a clock.
     pub journal: u64,
-    /// The texts that sessions took, and of each leaf's rows those that only sessions keep: the texts of the leaves of
-    /// their rows that the next session, or else the range now, has with another digest or with none.
+    /// The texts that sessions took, and at most what only they keep of rows: the texts of the leaves of their rows that the
+    /// next session, or else the range now, has with another digest or with none. Of these leaves they keep only the
+    /// chunks of 15 rows that have changed.
     pub sessions: u64,
 }
 
