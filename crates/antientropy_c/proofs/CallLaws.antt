@@ -4,15 +4,12 @@ use Rattle.std.specs.Prelude.{Bool, true, false, Result}
 use Rattle.vclock.specs.declared.refusal.Refusal.{Refusal}
 use Rattle.c_calls.specs.Numbers.{code_of, Returns, EMPTY}
 use Rattle.antientropy_c.specs.Calls.{CallsOn, CallsOnState, OnHeld}
-use Rattle.c_calls.specs.Reads.{Reads}
 use Rattle.c_calls.specs.Hands.{HandsOut, HandsOutRight}
 use Rattle.c_calls.specs.Kept.{KeptState}
 use Rattle.c_calls.specs.Merges.{HandsClock, GivesClock}
 use Rattle.c_calls.specs.declared.pair.Pair.{Pair}
 use Rattle.vclock.specs.Clock.{Pairs}
 use Rattle.range_state.specs.State.{State}
-use Rattle.walk_messages.specs.Messages.{Decodes}
-use Rattle.walk_messages.specs.declared.message.Message.{Message}
 
 pub on_held : (was now : Bool) (code : ℕ) (Same Right : Type 0) → was ≡ true → now ≡ true → Right → OnHeld was now code Same Right
 on_held true now code Same Right is_was is_now right = (is_now, right)

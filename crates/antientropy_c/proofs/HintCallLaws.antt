@@ -1,5 +1,5 @@
 -- What a call on a carrier's hints owes, from what its parts did to the store.
-use Rattle.std.proofs.Common.{◌≡◌, ℕ, ◌-◌, Bool, true, List, Option, ap}
+use Rattle.std.proofs.Common.{◌≡◌, ℕ, Bool, true, List, Option, ap}
 use Rattle.vclock.specs.declared.refusal.Refusal.{Refusal}
 use Rattle.hint_store.specs.declared.hint.Kept.{Kept}
 use Rattle.antientropy_c.specs.Calls.{CallsOn}

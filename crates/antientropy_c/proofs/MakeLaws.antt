@@ -6,7 +6,7 @@ use Rattle.vclock.specs.declared.refusal.Refusal.{Refusal}
 use Rattle.range_state.specs.State.{State}
 use Rattle.c_calls.specs.Kept.{KeptState}
 use Rattle.c_calls.specs.Numbers.{code_of, HELD}
-use Rattle.antientropy_c.specs.Makes.{MakesIn, MadeWhere, Takes, Fills, FillsWhere}
+use Rattle.antientropy_c.specs.Makes.{MakesIn, MadeWhere, Takes, FillsWhere}
 use Rattle.antientropy_c.specs.Calls.{CallsOn, CallsOnState, OnHeld}
 use Rattle.antientropy_c.proofs.CallLaws.{returns}
 

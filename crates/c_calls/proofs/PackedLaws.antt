@@ -1,12 +1,12 @@
 -- Bytes that are written to a buffer one after the other, and the entries whose texts fit into it.
-use Rattle.std.proofs.Common.{◌≡◌, ℕ, suc, ◌+◌, ◌-◌, ◌<◌, ◌≤◌, Bool, cond, List, [], ◌∷◌, ◌++◌, length, take, drop, get_or, refl, ap, sym, subst, ◌∙◌, arith, append_assoc, drop-cons, length-append, length-drop}
+use Rattle.std.proofs.Common.{◌≡◌, ℕ, suc, ◌+◌, ◌-◌, ◌<◌, ◌≤◌, Bool, cond, List, [], ◌∷◌, ◌++◌, length, take, drop, get_or, ap, sym, subst, ◌∙◌, arith, append_assoc, drop-cons, length-append, length-drop}
 use Rattle.std.proofs.Math.Seq.{take-append-add, take-append_seam, drop-append-add}
 use Rattle.std.proofs.lemmas.Bool.{le-leb}
 use Rattle.std.proofs.lemmas.List.{append-nil, drop-drop, length-take-le, take-append-drop, take_more}
 use Rattle.std.proofs.lemmas.List.Folds.{length-flat_map-take}
 use Rattle.std.proofs.lemmas.Grind.{flat_map-append}
 use Rattle.std.specs.Int.{w16, to_be_bytes}
-use Rattle.std.specs.List.{flat_map, splice, AllByRecursion}
+use Rattle.std.specs.List.{flat_map, AllByRecursion}
 use Rattle.vclock.specs.declared.format.Format.{Format}
 use Rattle.version_set.specs.Version.{version_text}
 use Rattle.range_journal.specs.declared.journal.Entry.{Entry}
@@ -15,7 +15,7 @@ use Rattle.row_bytes.proofs.TextLengthLaws.{row_text_len}
 use Rattle.range_store.specs.Config.{Config}
 use Rattle.range_store.specs.Store.{IsOwn}
 use Rattle.c_calls.specs.Entries.{number_of_source}
-use Rattle.c_calls.specs.Packed.{IsWritten, IsWithin, entry_text, entries_text, fitting}
+use Rattle.c_calls.specs.Packed.{IsWritten, IsWithin, entry_text, fitting}
 
 front : (n : ℕ) (P a D : List ℕ) → length P ≡ n → take (n + length a) (P ++ (a ++ D)) ≡ P ++ a
 front n P a D is = subst (λ (k : ℕ). take (k + length a) (P ++ (a ++ D)) ≡ P ++ a) is (take-append-add P (a ++ D) (length a) ∙ ap (λ (xs : List ℕ). P ++ xs) (take-append_seam a D))

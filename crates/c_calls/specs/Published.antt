@@ -1,6 +1,5 @@
 -- Snapshots that are published, for C: their rows, and the number of entries that made these.
 use Rattle.std.specs.Prelude.{ℕ, ◌+◌}
-use Rattle.vclock.specs.Format.{format_number}
 use Rattle.snapshot.specs.RowMaps.{RowMap}
 use Rattle.range_state.specs.Moments.{front_of, shown_rows}
 use Rattle.range_state.specs.declared.local_rows.LocalRows.{LocalRows}
