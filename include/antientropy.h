@@ -237,13 +237,13 @@ struct antientropy_counts {
     uint64_t front;         /* `entries` at the last moment that was whole; `first` if there was none since a renewal */
 };
 
-/* The size of a replica: lengths of contents in bytes. Memory differs, since rows, entries and sessions share values; the
- * moment isn't counted. */
+/* The size of a replica: lengths of contents in bytes. Memory differs, since rows, entries and sessions share values.
+ * The moment isn't counted. */
 struct antientropy_bytes {
     uint64_t rows;     /* the rows, as antientropy_rows copies them out */
     uint64_t journal;  /* the keys, values and clocks of the entries since `first`: 10 bytes for each pair of a clock */
-    uint64_t sessions; /* the texts that sessions took, and the leaves of their rows that have changed since (each once: it
-                        * counts with the last session that has it) or have no digest now: at most what they keep */
+    uint64_t sessions; /* the texts that sessions took, and the leaves of their rows that have changed since or have no
+                        * digest now (each counts once, with the last session that has it): at most what they keep */
 };
 
 /* The range of a replica or a snapshot, and the position of its journal: what a checkpoint or a log has to name. */
@@ -338,8 +338,8 @@ uint32_t antientropy_count(struct antientropy_replica *replica, struct antientro
 /* Returns the range of a replica, and the number of its entries. Refused: EMPTY. */
 uint32_t antientropy_about(struct antientropy_replica *replica, struct antientropy_about *about);
 
-/* Returns the size of a replica. It looks at each chunk of 15 rows and at the digests of each session's leaves, so ask for
- * it once in some seconds, not at each put. Refused: EMPTY. */
+/* Returns the size of a replica. It looks at each chunk of 15 rows and at the digests of each session's leaves, so ask
+ * for it once in some seconds, not at each put. Refused: EMPTY. */
 uint32_t antientropy_bytes(struct antientropy_replica *replica, struct antientropy_bytes *bytes);
 
 /* ---- versions */
