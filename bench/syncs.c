@@ -10,9 +10,9 @@
  *     keeps     by a sync that keeps its session
  *
  * In each way both trees are hashed after each round, and node 2 makes a snapshot. The line has the bytes that malloc
- * lends at the end, the number of sessions kept, the milliseconds of freeing node 1's replica, and those of a round's
- * session, as a mean; then the bytes of node 1's rows, journal and sessions, and the milliseconds of asking for them. The
- * status is 1 if a call is refused, or the roots differ at the end. */
+ * lends at the end, with those of blocks that it maps, the number of sessions kept, the milliseconds of freeing node 1's
+ * replica, and those of a round's session, as a mean; then the bytes of node 1's rows, journal and sessions, and the
+ * milliseconds of asking for them. The status is 1 if a call is refused, or the roots differ at the end. */
 #include "entries.h"
 
 #include <malloc.h>
@@ -143,10 +143,11 @@ int main(int count, char **words)
     struct antientropy_counts counts;
     must("count", antientropy_count(&here, &counts));
     struct antientropy_bytes bytes;
+    struct mallinfo2 lent = mallinfo2();
+    size_t kept = lent.uordblks + lent.hblkhd;
     double begin = now_ms();
     must("bytes", antientropy_bytes(&here, &bytes));
     double asked = now_ms() - begin;
-    size_t kept = mallinfo2().uordblks;
     begin = now_ms();
     antientropy_free(&here);
     printf("%zu %" PRIu64 " %.1f %.2f ", kept, counts.sessions, now_ms() - begin, sessions / (double)rounds);
