@@ -1490,7 +1490,7 @@ public:
         return detail::result(number, counts);
     }
 
-    /// Returns the size in bytes; the replica takes several times as much memory. It looks at each chunk of 15 rows and
+    /// Returns the size: lengths of contents in bytes; the memory differs. It looks at each chunk of 15 rows and
     /// at the digests of each session's leaves: call it once in some seconds, not at each put.
     Result<Bytes> bytes() {
         Bytes bytes = {};

@@ -40,7 +40,7 @@ type Counts struct {
 	Front        uint64 // Entries at the last moment that was whole; First if there was none since a renewal
 }
 
-// Bytes is the size of a replica in bytes. The replica takes several times as much memory.
+// Bytes is the size of a replica: lengths of contents in bytes. Its memory differs.
 type Bytes struct {
 	Rows     uint64 // the rows, as [Snapshot.Rows] returns them
 	Journal  uint64 // the keys, values and clocks of the entries from First on: 10 bytes for each pair of a clock

@@ -193,7 +193,7 @@ info(Replica) ->
 count(Replica) ->
     antientropy_nif:count(Replica).
 
-%% @doc Returns the size of a replica in bytes. The replica takes several times as much memory.
+%% @doc Returns the size of a replica: lengths of contents in bytes. Its memory differs.
 %%
 %% `rows' are as {@link antientropy_snapshot:rows/2} returns them. `journal' is the keys, values and clocks of the
 %% entries from `first' of {@link count/1} on, 10 bytes for each pair of a clock. `sessions' is what sessions keep in

@@ -173,7 +173,7 @@ class Counts(NamedTuple):
 
 
 class ByteCounts(NamedTuple):
-    """The size of a replica in bytes. The replica takes several times as much memory.
+    """The size of a replica: lengths of contents in bytes. Its memory differs.
 
     `rows` are as `Snapshot.rows` returns them. `journal` is the keys, values and clocks of the entries from
     `count().first` on, 10 bytes for each pair of a clock. `sessions` is what sessions keep in addition: the texts that

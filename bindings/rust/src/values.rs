@@ -293,7 +293,7 @@ pub struct Counts {
     pub front: u64,
 }
 
-/// The size of a replica in bytes. The replica takes several times as much memory.
+/// The size of a replica: lengths of contents in bytes. Its memory differs.
 #[repr(C)]
 #[derive(Clone, Copy, Debug, Default, PartialEq, Eq, Hash)]
 pub struct Bytes {
