@@ -45,7 +45,7 @@ static void put(struct antientropy *replica, unsigned long i, unsigned long of, 
                                 &receipt));
 }
 
-static void get(struct antientropy *replica, unsigned long i)
+static void get(const struct antientropy *replica, unsigned long i)
 {
     uint8_t key[KEY_ROOM];
     uint64_t need;
@@ -54,7 +54,7 @@ static void get(struct antientropy *replica, unsigned long i)
 }
 
 /* Reads the clock and the value of a key's only version. */
-static void read_version(struct antientropy *replica, unsigned long i)
+static void read_version(const struct antientropy *replica, unsigned long i)
 {
     struct antientropy_reading reading;
     struct antientropy_pair clock[ANTIENTROPY_CLOCK_MAX];

@@ -63,7 +63,7 @@ static void put(struct antientropy_replica *at, unsigned node, struct antientrop
 }
 
 /* Syncs node 1 with a snapshot of node 2. */
-static void sync_with(struct antientropy_snapshot *snapshot, enum way way)
+static void sync_with(const struct antientropy_snapshot *snapshot, enum way way)
 {
     static uint8_t answer[ANSWER_ROOM];
     uint8_t offer[ANTIENTROPY_OFFER_LEN], ask[ANTIENTROPY_ASK_LEN];

@@ -24,14 +24,14 @@ void snapshot_of(struct antientropy_replica *replica, struct antientropy_snapsho
 }
 
 /* Writes the root of a snapshot, of ANTIENTROPY_ROOT_LEN bytes. */
-static void root_of(struct antientropy_snapshot *snapshot, uint8_t *root)
+static void root_of(const struct antientropy_snapshot *snapshot, uint8_t *root)
 {
     uint64_t len;
     want("root", antientropy_root(snapshot, root, ANTIENTROPY_ROOT_LEN, &len), ANTIENTROPY_OK);
 }
 
 /* Appends the rows of a leaf, with their length before them. */
-static void add_leaf(struct bytes *file, struct antientropy_snapshot *snapshot, unsigned leaf)
+static void add_leaf(struct bytes *file, const struct antientropy_snapshot *snapshot, unsigned leaf)
 {
     uint64_t len;
     uint8_t *at = more(file, 8);

@@ -48,7 +48,7 @@ static void put(struct antientropy_replica *replica, uint64_t node, const char *
 }
 
 /* The versions of a key. */
-static unsigned long long versions(struct antientropy_replica *replica, const char *key)
+static unsigned long long versions(const struct antientropy_replica *replica, const char *key)
 {
     uint64_t count;
     want("versions", antientropy_versions(replica, (const uint8_t *)key, strlen(key), &count), ANTIENTROPY_OK);
@@ -104,7 +104,7 @@ static bool is_bad_answer(uint32_t got)
 
 /* Answers the ask from a snapshot, and returns the number of bytes. If they don't fit, it makes room and serves
  * again. */
-static uint64_t serve(struct antientropy_snapshot *offered, uint64_t ask_len)
+static uint64_t serve(const struct antientropy_snapshot *offered, uint64_t ask_len)
 {
     uint64_t len;
     uint32_t got = antientropy_serve(offered, OFFER, ask, ask_len, answer, room, &len);
@@ -158,7 +158,7 @@ static void sync(struct antientropy_replica *replica, struct antientropy_replica
 }
 
 /* Prints the entries of a replica's journal from a number on: what calls since then have brought. */
-static void follow(struct antientropy_replica *replica, uint64_t from)
+static void follow(const struct antientropy_replica *replica, uint64_t from)
 {
     static const char *const sources[] = {"a put", "a copy", "a hint", "a partner"};
     struct antientropy_counts counts;

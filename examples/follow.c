@@ -44,7 +44,7 @@ static size_t show(uint64_t number, const uint8_t *entry)
 }
 
 /* Reads the entries from a position on, and moves it. Returns false if it is no position of the journal. */
-static bool follow(struct antientropy_replica *replica, uint64_t *position)
+static bool follow(const struct antientropy_replica *replica, uint64_t *position)
 {
     uint8_t packed[ROOM];
     uint64_t len, next;

@@ -53,7 +53,7 @@ static void fill(struct antientropy_replica *replica, uint64_t node, unsigned st
     must("rehash", antientropy_rehash(replica));
 }
 
-static void remember(struct antientropy_replica *replica, struct antientropy_counts *counts)
+static void remember(const struct antientropy_replica *replica, struct antientropy_counts *counts)
 {
     uint8_t key[16];
     must("count", antientropy_count(replica, counts));
@@ -62,7 +62,7 @@ static void remember(struct antientropy_replica *replica, struct antientropy_cou
 }
 
 /* Ends the program unless the replica is unchanged. */
-static void compare(struct antientropy_replica *replica, const struct antientropy_counts *counts)
+static void compare(const struct antientropy_replica *replica, const struct antientropy_counts *counts)
 {
     struct antientropy_counts now;
     uint8_t key[16];

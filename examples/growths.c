@@ -124,9 +124,11 @@ static void hash_moment(struct antientropy_replica *replica)
     while (left > 0);
 }
 
-/* Holds a moment of each replica, and opens a session at the one of b. */
+/* Holds a moment of each replica, and opens a session and an exchange at the one of b. */
 static void hold(void)
 {
+    static const struct antientropy_bounds bounds = {.asks = 1, .bytes = ROOM, .bad = 1, .lost = 1};
+    struct antientropy_exchange exchange = {0};
     struct antientropy_portion portion = {0};
     struct antientropy_snapshot snapshot = {0};
     uint8_t offer[ANTIENTROPY_OFFER_LEN];
@@ -141,8 +143,11 @@ static void hold(void)
     DO("antientropy_hold", antientropy_hold(&b));
     hash_moment(&b);
     DO("antientropy_open_at_moment", antientropy_open_at_moment(&b, 1, offer, sizeof offer, &session));
+    DO("antientropy_exchange_open", antientropy_exchange_open(&b, &exchange, 1, offer, sizeof offer, &bounds));
     DO("antientropy_drop_moment", antientropy_drop_moment(&b));
     antientropy_cancel(&b, session);
+    antientropy_exchange_close(&exchange, &b);
+    antientropy_exchange_free(&exchange);
     antientropy_snapshot_free(&snapshot);
 }
 

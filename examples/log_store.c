@@ -90,7 +90,7 @@ static struct key *new_keys(struct store *store, size_t count)
 }
 
 /* Appends the row of a key. */
-static void add_row(struct bytes *record, struct antientropy_replica *replica, const struct key *key)
+static void add_row(struct bytes *record, const struct antientropy_replica *replica, const struct key *key)
 {
     uint64_t len;
     uint8_t *at = more(record, 4096);
@@ -434,7 +434,7 @@ void store_close(struct store *store)
 /* ---- puts, checkpoints, and a migration */
 
 /* Merges the clocks of all versions of a key: the context of a put in their place. Returns the number of pairs. */
-static uint64_t context_of(struct antientropy_replica *replica, const uint8_t *key, size_t key_len,
+static uint64_t context_of(const struct antientropy_replica *replica, const uint8_t *key, size_t key_len,
                            struct antientropy_pair *context)
 {
     struct antientropy_pair clock[ANTIENTROPY_CLOCK_MAX], merged[ANTIENTROPY_CLOCK_MAX];

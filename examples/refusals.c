@@ -632,6 +632,83 @@ static void sessions(void)
     antientropy_free(&small);
 }
 
+/* Exchanges with the offer of a snapshot, at a replica that has none of it. */
+static void exchanges(void)
+{
+    static const struct antientropy_bounds bounds = {.asks = 1, .bytes = ROOM, .bad = 1, .lost = 1};
+    struct antientropy_replica replica = {0}, one = {0}, half = {0};
+    struct antientropy_snapshot snapshot = {0};
+    struct antientropy_exchange exchange = {0}, empty = {0};
+    struct antientropy_progress progress;
+    struct antientropy_verdict verdict;
+    struct antientropy_node node;
+    uint8_t offer[ANTIENTROPY_OFFER_LEN], ask[ANTIENTROPY_ASK_LEN];
+    uint64_t session;
+    offer_now(&made, &snapshot, offer);
+    OK(antientropy_new(&replica, 2, 0, 0, 1000));
+    OK(antientropy_new(&one, 1, 0, 0, 1000));
+    OK(antientropy_new(&half, 2, 1, 1, 1000));
+    SEE(exchange_open, EMPTY, antientropy_exchange_open(&none, &exchange, 2, offer, sizeof offer, &bounds));
+    SEE(exchange_open, BAD_CLOCK, antientropy_exchange_open(&replica, &exchange, ANTIENTROPY_NODE_MAX + 1, offer,
+                                                            sizeof offer - 1, &bounds));
+    SEE(exchange_open, BAD_MESSAGE,
+        antientropy_exchange_open(&replica, &exchange, 2, offer, sizeof offer - 1, &bounds));
+    SEE(exchange_open, OTHER_FORMAT, antientropy_exchange_open(&one, &exchange, 2, offer, sizeof offer, &bounds));
+    SEE(exchange_open, OTHER_RANGE, antientropy_exchange_open(&half, &exchange, 2, offer, sizeof offer, &bounds));
+    SEE(exchange_open, DIRTY, antientropy_exchange_open(&replica, &exchange, 2, offer, sizeof offer, &bounds));
+    OK(antientropy_hold(&replica));
+    do
+        OK(antientropy_hash_moment(&replica, ANTIENTROPY_LEAVES_2, &need));
+    while (need > 0);
+    OK(antientropy_exchange_open(&replica, &exchange, 2, offer, sizeof offer, &bounds));
+    SEE(exchange_open, HELD,
+        antientropy_exchange_open(&replica, &exchange, ANTIENTROPY_NODE_MAX + 1, offer, sizeof offer, &bounds));
+    SEE(exchange_next, EMPTY, antientropy_exchange_next(&empty, &replica, ask, sizeof ask, &need));
+    SEE(exchange_next, EMPTY, antientropy_exchange_next(&exchange, &none, ask, sizeof ask, &need));
+    SEE(exchange_next, SMALL, antientropy_exchange_next(&exchange, &replica, ask, sizeof ask - 1, &need));
+    is("8 bytes are needed", need == ANTIENTROPY_ASK_LEN);
+    OK(antientropy_exchange_next(&exchange, &replica, ask, sizeof ask, &need));
+    is("the root is asked", need == sizeof ask && ask[5] == 0);
+    OK(antientropy_exchange_next(&exchange, &replica, ask, sizeof ask, &need));
+    is("the bounds leave no room", need == 0 && ask[0] == 2);
+    SEE(exchange_take, EMPTY, antientropy_exchange_take(&empty, &replica, ask, sizeof ask, &verdict));
+    SEE(exchange_take, EMPTY, antientropy_exchange_take(&exchange, &none, ask, sizeof ask, &verdict));
+    OK(antientropy_exchange_take(&exchange, &replica, ask, sizeof ask, &verdict));
+    is("an ask is no answer",
+       verdict.verdict == ANTIENTROPY_VERDICT_BAD && verdict.cause == ANTIENTROPY_BAD_MESSAGE);
+    SEE(exchange_lose, EMPTY, antientropy_exchange_lose(&empty, ask, sizeof ask));
+    SEE(exchange_lose, BAD_MESSAGE, antientropy_exchange_lose(&exchange, offer, sizeof offer));
+    ask[4] = OTHER_OFFER;
+    OK(antientropy_exchange_lose(&exchange, ask, sizeof ask));
+    SEE(exchange_report, EMPTY, antientropy_exchange_report(&empty, &replica, &progress));
+    SEE(exchange_report, EMPTY, antientropy_exchange_report(&exchange, &none, &progress));
+    OK(antientropy_exchange_report(&exchange, &replica, &progress));
+    is("no ask is lost", progress.lost == 0 && progress.bad == 1 && progress.on_way == 1);
+    ask[4] = OFFER;
+    OK(antientropy_exchange_lose(&exchange, ask, sizeof ask));
+    OK(antientropy_exchange_report(&exchange, &replica, &progress));
+    is("the root is lost", progress.lost == 1 && progress.on_way == 0 && progress.report == ANTIENTROPY_REPORT_WAITING);
+    SEE(exchange_go_on, EMPTY, antientropy_exchange_go_on(&empty));
+    OK(antientropy_exchange_go_on(&exchange));
+    SEE(exchange_left, EMPTY, antientropy_exchange_left(&empty, &replica, 0, &node));
+    SEE(exchange_left, EMPTY, antientropy_exchange_left(&exchange, &none, 0, &node));
+    SEE(exchange_left, NO_VERSION, antientropy_exchange_left(&exchange, &replica, 0, &node));
+    SEE(exchange_close, EMPTY, antientropy_exchange_close(&empty, &replica));
+    SEE(exchange_close, EMPTY, antientropy_exchange_close(&exchange, &none));
+    OK(antientropy_exchange_close(&exchange, &replica));
+    OK(antientropy_exchange_report(&exchange, &replica, &progress));
+    is("the exchange is closed", progress.report == ANTIENTROPY_REPORT_CLOSED);
+    for (unsigned n = 0; n < ANTIENTROPY_OPEN_SESSIONS_MAX; n++)
+        OK(antientropy_open_at_moment(&replica, 2, offer, sizeof offer, &session));
+    SEE(exchange_open, SESSIONS_FULL, antientropy_exchange_open(&replica, &empty, 2, offer, sizeof offer, &bounds));
+    is("nothing is held then", !empty.held);
+    antientropy_exchange_free(&exchange);
+    antientropy_snapshot_free(&snapshot);
+    antientropy_free(&replica);
+    antientropy_free(&one);
+    antientropy_free(&half);
+}
+
 static void hints(void)
 {
     struct antientropy_hints empty = {0}, full = {0};
@@ -770,6 +847,9 @@ static struct results {
     struct antientropy_hint_counts hint_counts;
     struct antientropy_slot_counts slot_counts;
     struct antientropy_percentile percentile;
+    struct antientropy_verdict verdict;
+    struct antientropy_progress progress;
+    struct antientropy_node node;
 } results;
 
 #define EMPTY(got) is(#got " is EMPTY", (got) == ANTIENTROPY_EMPTY)
@@ -820,6 +900,7 @@ static void empty_others(struct results *at)
 {
     static struct antientropy_snapshot snapshot;
     static struct antientropy_portion portion;
+    static struct antientropy_exchange exchange;
     static struct antientropy_hints hints;
     static struct antientropy_slots slots;
     EMPTY(antientropy_snapshot_about(&snapshot, &at->about));
@@ -832,6 +913,13 @@ static void empty_others(struct results *at)
     EMPTY(antientropy_snapshot_key_next(&snapshot, 0, at->bytes, sizeof at->bytes, &at->number));
     EMPTY(antientropy_digest(&snapshot, 0, 0, at->bytes, sizeof at->bytes, &at->number));
     EMPTY(antientropy_hash_portion(&portion));
+    EMPTY(antientropy_exchange_next(&exchange, &made, at->bytes, sizeof at->bytes, &at->number));
+    EMPTY(antientropy_exchange_take(&exchange, &made, VALUE, 4, &at->verdict));
+    EMPTY(antientropy_exchange_lose(&exchange, VALUE, 4));
+    EMPTY(antientropy_exchange_go_on(&exchange));
+    EMPTY(antientropy_exchange_report(&exchange, &made, &at->progress));
+    EMPTY(antientropy_exchange_left(&exchange, &made, 0, &at->node));
+    EMPTY(antientropy_exchange_close(&exchange, &made));
     EMPTY(antientropy_hint_keep(&hints, 2, KEY, 4, many, 1, 0, VALUE, 4, &at->number));
     EMPTY(antientropy_hint_next(&hints, 2, 0, &at->number));
     EMPTY(antientropy_hint_owner(&hints, 1, &at->number));
@@ -848,11 +936,12 @@ static void empty_others(struct results *at)
     EMPTY(antientropy_slots_adjust(&slots, 1, &at->percentile));
     EMPTY(antientropy_slots_set_target(&slots, 1));
     EMPTY(antientropy_slots_count(&slots, &at->slot_counts));
-    is("the handles are empty", !snapshot.held && !portion.held && !hints.held && !slots.held);
+    is("the handles are empty",
+       !snapshot.held && !portion.held && !exchange.held && !hints.held && !slots.held);
 }
 
 /* Reads the root of a snapshot. */
-static void root_of(struct antientropy_snapshot *snapshot, uint8_t *root)
+static void root_of(const struct antientropy_snapshot *snapshot, uint8_t *root)
 {
     OK(antientropy_root(snapshot, root, ANTIENTROPY_ROOT_LEN, &need));
 }
@@ -916,6 +1005,7 @@ int main(void)
     clocks();
     snapshots_and_loads();
     sessions();
+    exchanges();
     hints();
     hint_numbers();
     slots();
@@ -923,6 +1013,7 @@ int main(void)
     antientropy_free(&made);
     antientropy_free(NULL);
     antientropy_snapshot_free(NULL);
+    antientropy_exchange_free(NULL);
     antientropy_hints_free(NULL);
     antientropy_slots_free(NULL);
     return 0;

@@ -97,7 +97,7 @@ static void crowd(struct antientropy_replica *replica)
 }
 
 /* Syncs a replica up to the leaf, which is refused. */
-static void refuse(struct antientropy_replica *replica, struct antientropy_snapshot *offered, uint32_t cause)
+static void refuse(struct antientropy_replica *replica, const struct antientropy_snapshot *offered, uint32_t cause)
 {
     static uint8_t offer[ANTIENTROPY_OFFER_LEN], ask[ANTIENTROPY_ASK_LEN], answer[ROOM];
     struct antientropy_taken taken;

@@ -34,7 +34,7 @@ static void put(struct antientropy_replica *replica, unsigned node, const char *
 }
 
 /* Prints the versions of the key at a node. */
-static void show(struct antientropy_replica *replica, unsigned node)
+static void show(const struct antientropy_replica *replica, unsigned node)
 {
     struct antientropy_pair clock[32];
     uint8_t value[64], kind;
@@ -79,7 +79,7 @@ static void sync(struct antientropy_replica *replica, unsigned node, struct anti
 }
 
 /* Compares what a sync brought, the entries from `before` on, with what the replica had of its own node until then. */
-static void compare(struct antientropy_replica *replica, unsigned node, uint64_t before)
+static void compare(const struct antientropy_replica *replica, unsigned node, uint64_t before)
 {
     struct antientropy_counts counts;
     struct antientropy_pair clock[32];

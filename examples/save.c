@@ -63,7 +63,7 @@ static struct bytes save(const char *folder, const char *name, struct antientrop
 }
 
 /* Returns the text of a key's row, as a log keeps it. */
-static struct bytes row_of(struct antientropy_replica *replica, const char *key)
+static struct bytes row_of(const struct antientropy_replica *replica, const char *key)
 {
     struct bytes row = {0};
     uint64_t len;

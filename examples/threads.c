@@ -1,8 +1,8 @@
-/* A replica and its snapshots in several threads. Four threads put into one replica, which a mutex guards. A fifth
- * makes snapshots of it, whose nodes it hashes without the mutex, and syncs another replica from them. Then four threads
- * read one snapshot without a mutex, each by a handle of its own. It ends with status 1 if a call returns another number
- * than the one wanted. */
-#define _POSIX_C_SOURCE 200809L
+/* A replica and its snapshots in several threads, under a reader-writer lock. Four threads put into one replica, and
+ * four others read it at once. A ninth makes snapshots of it, whose nodes it hashes without the lock, and syncs another
+ * replica from them. Then four threads read one snapshot without a lock: by one handle at once, and each by a handle of
+ * its own. It ends with status 1 if a call returns another number than the one wanted, or a read another version. */
+#define _GNU_SOURCE
 #include "antientropy.h"
 
 #include <pthread.h>
@@ -12,9 +12,10 @@
 
 enum { WRITERS = 4, READERS = 4, KEYS = 500, SYNCS = 10, ROOM = 1 << 16, PORTION = 16 };
 
-/* The replica of node 1, which all threads use. */
+/* The replica of node 1, which all threads use. Its lock lets a waiting writer go first: with the usual one of glibc,
+ * readers that follow one another without pause keep the writers out. */
 static struct antientropy_replica shared;
-static pthread_mutex_t lock = PTHREAD_MUTEX_INITIALIZER;
+static pthread_rwlock_t lock = PTHREAD_RWLOCK_WRITER_NONRECURSIVE_INITIALIZER_NP;
 
 /* The names of the writers, with which their keys begin. */
 static char names[WRITERS][2] = {"a", "b", "c", "d"};
@@ -28,6 +29,30 @@ static void want(const char *call, uint32_t got, uint32_t wanted)
     }
 }
 
+/* Takes the lock for calls that take the replica as const. */
+static void lock_to_read(void)
+{
+    pthread_rwlock_rdlock(&lock);
+}
+
+/* Takes the lock for any calls. */
+static void lock_to_write(void)
+{
+    pthread_rwlock_wrlock(&lock);
+}
+
+static void unlock(void)
+{
+    pthread_rwlock_unlock(&lock);
+}
+
+/* The key of a number: those of each writer in turn. */
+static const char *key_of(int number, char *key, size_t len)
+{
+    snprintf(key, len, "%s%d", names[number % WRITERS], number / WRITERS);
+    return key;
+}
+
 /* Reads a key and puts it again, with the clock of its one version as the context. */
 static void put(const char *key)
 {
@@ -37,13 +62,13 @@ static void put(const char *key)
     const uint8_t *bytes = (const uint8_t *)key;
     size_t len = strlen(key);
     uint8_t value[32];
-    pthread_mutex_lock(&lock);
+    lock_to_write();
     uint32_t got = antientropy_read(&shared, bytes, len, 0, &reading, context, ANTIENTROPY_CLOCK_MAX, value,
                                     sizeof value);
     if (got != ANTIENTROPY_NO_VERSION)
         want("read", got, ANTIENTROPY_OK);
     got = antientropy_put_read(&shared, 1, bytes, len, context, reading.pairs, ANTIENTROPY_LIVE, bytes, len, &receipt);
-    pthread_mutex_unlock(&lock);
+    unlock();
     want("put", got, ANTIENTROPY_OK);
 }
 
@@ -58,6 +83,44 @@ static void *write_keys(void *name)
     return NULL;
 }
 
+/* Reads a key of the shared replica, by three calls that must agree. Returns false if it has no version yet. The caller
+ * holds the lock, to read. */
+static bool read_version(const char *key)
+{
+    struct antientropy_pair clock[ANTIENTROPY_CLOCK_MAX];
+    struct antientropy_reading reading = {0};
+    const uint8_t *bytes = (const uint8_t *)key;
+    size_t len = strlen(key);
+    uint64_t versions, row_len;
+    uint8_t value[32], row[128];
+    uint32_t got = antientropy_read(&shared, bytes, len, 0, &reading, clock, ANTIENTROPY_CLOCK_MAX, value,
+                                    sizeof value);
+    bool found = got != ANTIENTROPY_NO_VERSION;
+    want("read", got, found ? ANTIENTROPY_OK : ANTIENTROPY_NO_VERSION);
+    want("versions", antientropy_versions(&shared, bytes, len, &versions), ANTIENTROPY_OK);
+    want("get", antientropy_get(&shared, bytes, len, row, sizeof row, &row_len), ANTIENTROPY_OK);
+    bool right = found ? versions == 1 && row_len > 0 && reading.bytes == len && memcmp(value, key, len) == 0
+                             && reading.pairs == 1 && clock[0].node == 1 && clock[0].counter <= 2
+                       : versions == 0 && row_len == 0;
+    want("the version", right ? ANTIENTROPY_OK : ANTIENTROPY_BAD_VALUE, ANTIENTROPY_OK);
+    return found;
+}
+
+/* A reader reads each key of each writer again and again, until each has a version. */
+static void *read_versions(void *none)
+{
+    char key[16];
+    for (int found = 0; found < WRITERS * KEYS;) {
+        found = 0;
+        for (int n = 0; n < WRITERS * KEYS; n++) {
+            lock_to_read();
+            found += read_version(key_of(n, key, sizeof key));
+            unlock();
+        }
+    }
+    return none;
+}
+
 /* Hashes a portion of the shared replica's moment, without the lock. When nothing is left, it makes the snapshot before
  * the lock is released, since another thread may hold another moment later, and drops the moment: its rows are freed
  * with the snapshot then, and not under the lock by the next hold. Returns true if it made it. */
@@ -65,26 +128,26 @@ static bool hash_portion(struct antientropy_snapshot *snapshot)
 {
     struct antientropy_portion portion = {0};
     uint64_t left;
-    pthread_mutex_lock(&lock);
+    lock_to_read();
     want("take_portion", antientropy_take_portion(&shared, PORTION, &portion), ANTIENTROPY_OK);
-    pthread_mutex_unlock(&lock);
+    unlock();
     want("hash_portion", antientropy_hash_portion(&portion), ANTIENTROPY_OK);
-    pthread_mutex_lock(&lock);
+    lock_to_write();
     want("install_portion", antientropy_install_portion(&shared, &portion, &left), ANTIENTROPY_OK);
     if (left == 0) {
         want("moment", antientropy_moment(&shared, snapshot), ANTIENTROPY_OK);
         want("drop_moment", antientropy_drop_moment(&shared), ANTIENTROPY_OK);
     }
-    pthread_mutex_unlock(&lock);
+    unlock();
     return left == 0;
 }
 
 /* Makes a snapshot of the shared replica: holds a moment, and hashes it while the writers go on. */
 static void publish(struct antientropy_snapshot *snapshot)
 {
-    pthread_mutex_lock(&lock);
+    lock_to_write();
     want("hold", antientropy_hold(&shared), ANTIENTROPY_OK);
-    pthread_mutex_unlock(&lock);
+    unlock();
     while (!hash_portion(snapshot))
         ;
 }
@@ -109,7 +172,7 @@ static void sync_from(struct antientropy_snapshot *snapshot, struct antientropy_
     antientropy_snapshot_free(snapshot);
 }
 
-/* The fifth thread syncs a replica from snapshots while the writers go on. */
+/* The ninth thread syncs a replica from snapshots while the writers go on. */
 static void *sync_often(void *replica)
 {
     for (uint32_t number = 1; number <= SYNCS; number++) {
@@ -120,34 +183,40 @@ static void *sync_often(void *replica)
     return NULL;
 }
 
-/* A reader gets each key of each writer by its own handle of a snapshot, and frees the handle. */
-static void *read_keys(void *handle)
+/* Gets the row of each key of each writer from a snapshot. */
+static void get_rows(const struct antientropy_snapshot *snapshot)
 {
-    struct antientropy_snapshot *snapshot = handle;
     uint8_t row[128];
     uint64_t len;
     char key[16];
     for (int n = 0; n < WRITERS * KEYS; n++) {
-        snprintf(key, sizeof key, "%s%d", names[n % WRITERS], n / WRITERS);
+        key_of(n, key, sizeof key);
         want("snapshot_get",
              antientropy_snapshot_get(snapshot, (const uint8_t *)key, strlen(key), row, sizeof row, &len),
              ANTIENTROPY_OK);
         want("the row", len > 0 ? ANTIENTROPY_OK : ANTIENTROPY_NO_VERSION, ANTIENTROPY_OK);
     }
-    antientropy_snapshot_free(snapshot);
+}
+
+/* A thread gets the rows of a snapshot by the handle that all threads use, and then by a handle of its own. */
+static void *read_rows(void *handle)
+{
+    const struct antientropy_snapshot *snapshot = handle;
+    struct antientropy_snapshot own = {0};
+    get_rows(snapshot);
+    want("snapshot_share", antientropy_snapshot_share(snapshot, &own), ANTIENTROPY_OK);
+    get_rows(&own);
+    antientropy_snapshot_free(&own);
     return NULL;
 }
 
 /* Reads a snapshot in several threads. Returns false if a thread can't be started. */
 static bool read_beside(struct antientropy_snapshot *snapshot)
 {
-    struct antientropy_snapshot handles[READERS] = {0};
     pthread_t threads[READERS];
-    for (int n = 0; n < READERS; n++) {
-        want("snapshot_share", antientropy_snapshot_share(snapshot, &handles[n]), ANTIENTROPY_OK);
-        if (pthread_create(&threads[n], NULL, read_keys, &handles[n]) != 0)
+    for (int n = 0; n < READERS; n++)
+        if (pthread_create(&threads[n], NULL, read_rows, snapshot) != 0)
             return false;
-    }
     for (int n = 0; n < READERS; n++)
         pthread_join(threads[n], NULL);
     return true;
@@ -170,15 +239,18 @@ int main(void)
     struct antientropy_replica other = {0};
     struct antientropy_snapshot last = {0};
     struct antientropy_counts counts;
-    pthread_t threads[WRITERS + 1];
+    pthread_t threads[WRITERS + READERS + 1];
     want("new", antientropy_new(&shared, 2, 0, 0, 100000), ANTIENTROPY_OK);
     want("new", antientropy_new(&other, 2, 0, 0, 100000), ANTIENTROPY_OK);
     for (int n = 0; n < WRITERS; n++)
         if (pthread_create(&threads[n], NULL, write_keys, names[n]) != 0)
             return 1;
-    if (pthread_create(&threads[WRITERS], NULL, sync_often, &other) != 0)
+    for (int n = WRITERS; n < WRITERS + READERS; n++)
+        if (pthread_create(&threads[n], NULL, read_versions, NULL) != 0)
+            return 1;
+    if (pthread_create(&threads[WRITERS + READERS], NULL, sync_often, &other) != 0)
         return 1;
-    for (int n = 0; n <= WRITERS; n++)
+    for (int n = 0; n <= WRITERS + READERS; n++)
         pthread_join(threads[n], NULL);
     publish(&last);
     if (!read_beside(&last))
@@ -188,8 +260,9 @@ int main(void)
     root_of(&other, there);
     want("count", antientropy_count(&shared, &counts), ANTIENTROPY_OK);
     printf("%d threads put %llu versions\n", WRITERS, (unsigned long long)counts.entries);
+    printf("%d threads read %d versions at once\n", READERS, WRITERS * KEYS);
     printf("roots equal: %s\n", memcmp(here, there, sizeof here) == 0 ? "yes" : "no");
-    printf("%d threads got %d rows of one snapshot each\n", READERS, WRITERS * KEYS);
+    printf("%d threads got %d rows of one snapshot at once\n", READERS, WRITERS * KEYS);
     antientropy_free(&shared);
     antientropy_free(&other);
     return 0;

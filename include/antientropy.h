@@ -24,13 +24,14 @@
  * - Each pointer is valid, aligned and not NULL, even if its length is 0; a call that frees accepts NULL. Memory for
  *   out, need and the like is the caller's, and doesn't overlap the call's other arguments. No call gets one handle
  *   twice. The library keeps no pointer that it is passed.
- * - A handle (struct antientropy_replica, antientropy_snapshot, antientropy_portion, antientropy_hints,
- *   antientropy_slots) is initialised with `= {0}`, and its fields are left alone. It may be moved in memory between
- *   calls; of copies only one is used. All bytes zero means that it holds nothing.
- * - ONE CALL AT A TIME ON A HANDLE, READS TOO. A reader-writer lock isn't enough: two concurrent reads can leave the
- *   replica empty for good. A handle may go to another thread if the program orders that: by a lock, by a thread's
- *   start or join, or by a sequentially consistent atomic. Different handles may be used at once, even a replica, its
- *   snapshots and its portions.
+ * - A handle (struct antientropy_replica, antientropy_snapshot, antientropy_portion, antientropy_exchange,
+ *   antientropy_hints, antientropy_slots) is initialised with `= {0}`, and its fields are left alone. It may be moved
+ *   in memory between calls; of copies only one is used. All bytes zero means that it holds nothing.
+ * - READS AT ONCE, CHANGES ALONE. A call that takes a handle as const reads it, and any number of threads may make such
+ *   calls of one handle at once. A call that takes it without const has it alone: no other call of that handle, not
+ *   even a read, is in progress meanwhile. A reader-writer lock does that. A handle may go to another thread if the
+ *   program orders that: by a lock, by a thread's start or join, or by a sequentially consistent atomic. Different
+ *   handles may be used at once, even a replica, its snapshots and its portions.
  * - No call from a signal handler, or from the forked child of a process with threads.
  * - malloc, realloc and free are of one allocator, which aligns blocks to 16 bytes.
  * - A put that follows a read is antientropy_put_read, which replaces only versions that its client has read. Before
@@ -43,7 +44,8 @@
  *   clock has at most 32 pairs, and a number that was used stays in it. See docs/EMBEDDING_C.md, "Restarts", and
  *   examples/restart.c.
  * - What was made is freed: antientropy_free, antientropy_snapshot_free, antientropy_portion_free,
- *   antientropy_hints_free, antientropy_slots_free. A snapshot or a portion may outlive its replica.
+ *   antientropy_exchange_free, antientropy_hints_free, antientropy_slots_free. A snapshot, a portion or an exchange may
+ *   outlive its replica.
  */
 #ifndef ANTIENTROPY_H
 #define ANTIENTROPY_H
@@ -57,8 +59,8 @@ extern "C" {
 #endif
 
 /* The version of this header. A struct that gets a field, or a call that gets another argument, is a new soname. */
-#define ANTIENTROPY_VERSION_MAJOR 1
-#define ANTIENTROPY_VERSION_MINOR 1
+#define ANTIENTROPY_VERSION_MAJOR 2
+#define ANTIENTROPY_VERSION_MINOR 0
 #define ANTIENTROPY_VERSION_PATCH 0
 #define ANTIENTROPY_VERSION \
     (10000 * ANTIENTROPY_VERSION_MAJOR + 100 * ANTIENTROPY_VERSION_MINOR + ANTIENTROPY_VERSION_PATCH)
@@ -119,7 +121,7 @@ enum {
     ANTIENTROPY_SMALL = 33,           /* the room is too small */
     ANTIENTROPY_EMPTY = 34,           /* the handle holds nothing */
     ANTIENTROPY_HELD = 35,            /* the handle holds something already */
-    ANTIENTROPY_NO_VERSION = 36,      /* there is no such version, entry or hint, or none that follows */
+    ANTIENTROPY_NO_VERSION = 36,      /* there is no such version, entry, hint or leaf, or none that follows */
     ANTIENTROPY_BAD_POSITION = 37     /* no entry is to be read from this number on: see antientropy_entries */
 };
 
@@ -142,6 +144,29 @@ enum {
     ANTIENTROPY_CANCELLED = 3  /* it was ended before it was finished */
 };
 
+/* Verdicts of an exchange on an answer. */
+enum {
+    ANTIENTROPY_VERDICT_TAKEN = 0,   /* the session took it */
+    ANTIENTROPY_VERDICT_LEFT = 1,    /* the leaf was left: a key in its text is crowded */
+    ANTIENTROPY_VERDICT_BAD = 2,     /* it counts as bad: its cause is BAD_MESSAGE, NOT_ASKED or WRONG_DIGEST */
+    ANTIENTROPY_VERDICT_LATE = 3,    /* it is late, of another offer, or the exchange is over: it counts as nothing */
+    ANTIENTROPY_VERDICT_REFUSED = 4, /* there was no room for it: its cause is JOURNAL_FULL or NO_MEMORY */
+    ANTIENTROPY_VERDICT_FAILED = 5   /* the digest is right, but the text isn't a node's: the session has failed */
+};
+
+/* Reports of an exchange. It sends asks while it is WAITING. */
+enum {
+    ANTIENTROPY_REPORT_FINISHED = 0,      /* the replica holds each version of the offer, or one that has seen it */
+    ANTIENTROPY_REPORT_WAITING = 1,       /* some node is to be asked, or its ask is on its way */
+    ANTIENTROPY_REPORT_LEFT = 2,          /* only leaves that were left are outstanding */
+    ANTIENTROPY_REPORT_STOPPED = 3,       /* there was no room for an answer: go on, or close */
+    ANTIENTROPY_REPORT_TOO_MANY_BAD = 4,  /* more answers were bad than the bounds allow */
+    ANTIENTROPY_REPORT_TOO_MANY_LOST = 5, /* more asks were lost than the bounds allow */
+    ANTIENTROPY_REPORT_FAILED = 6,        /* the session has failed */
+    ANTIENTROPY_REPORT_CLOSED = 7,        /* antientropy_exchange_close closed it */
+    ANTIENTROPY_REPORT_GONE = 8           /* the replica doesn't have the session, or it was cancelled */
+};
+
 /* A handle of a replica of a range. It may hold nothing. (In C its name before version 1.0.0 still works.) */
 struct antientropy_replica {
     void *at;
@@ -161,6 +186,12 @@ typedef struct antientropy_snapshot antientropy_offered;
 
 /* A handle of a portion of the nodes of a replica's moment. It may hold nothing. */
 struct antientropy_portion {
+    void *at;
+    bool held;
+};
+
+/* A handle of an exchange with a partner. It may hold nothing. */
+struct antientropy_exchange {
     void *at;
     bool held;
 };
@@ -219,6 +250,42 @@ struct antientropy_taken {
     uint64_t state;    /* state of the session */
 };
 
+/* The bounds of an exchange. `asks`, `bad` and `lost` over 2^32 - 1 count as that number. */
+struct antientropy_bounds {
+    uint64_t asks;  /* maximum of asks on their way; one may always be */
+    uint64_t bytes; /* maximum of bytes of the answers to them, as far as they can be estimated; one may be longer */
+    uint64_t bad;   /* maximum of bad answers: after one more the exchange is over */
+    uint64_t lost;  /* maximum of lost asks: after one more the exchange is over */
+};
+
+/* The verdict on an answer. */
+struct antientropy_verdict {
+    uint64_t verdict;  /* the verdict */
+    uint64_t cause;    /* the number of the cause, if it is BAD or REFUSED; otherwise 0 */
+    uint64_t accepted; /* number of new versions, if it is TAKEN: they are now entries of the journal; otherwise 0 */
+    uint64_t known;    /* number of known versions, if it is TAKEN; otherwise 0 */
+};
+
+/* How far an exchange is. */
+struct antientropy_progress {
+    uint64_t report;       /* the report */
+    uint64_t cause;        /* JOURNAL_FULL or NO_MEMORY if it is STOPPED; otherwise 0 */
+    uint64_t asks;         /* asks that were sent */
+    uint64_t on_way;       /* asks on their way */
+    uint64_t bytes_on_way; /* bytes of the answers to them, as far as they can be estimated */
+    uint64_t bad;          /* bad answers */
+    uint64_t lost;         /* lost asks */
+    uint64_t accepted;     /* new versions in the answers that were taken */
+    uint64_t known;        /* known versions in them */
+    uint64_t leaves;       /* leaves that were taken */
+};
+
+/* A node of a tree: its depth, 0 for the root, and its index there, from 0. */
+struct antientropy_node {
+    uint64_t depth;
+    uint64_t index;
+};
+
 /* The result of a load. */
 struct antientropy_loaded {
     uint64_t taken;  /* number of new versions: they are now entries of the journal */
@@ -273,6 +340,74 @@ struct antientropy_percentile {
     uint64_t micros; /* the percentile in microseconds */
 };
 
+/* ---- shares: what the inline functions below call */
+
+/* A program in C or C++ calls the inline functions, which have these names without `share_`. A language without a C
+ * compiler calls these, with a copy of the handle's struct as `share`. This call alone uses the copy: it writes it, and
+ * leaves it unchanged at its end. It doesn't write the handle. */
+uint32_t antientropy_share_renew(struct antientropy_replica *share, struct antientropy_replica *into, uint64_t limit);
+uint32_t antientropy_share_count(struct antientropy_replica *share, struct antientropy_counts *counts);
+uint32_t antientropy_share_about(struct antientropy_replica *share, struct antientropy_about *about);
+uint32_t antientropy_share_bytes(struct antientropy_replica *share, struct antientropy_bytes *bytes);
+uint32_t antientropy_share_get(struct antientropy_replica *share, const uint8_t *key, size_t key_len, uint8_t *out,
+                               size_t out_len, uint64_t *need);
+uint32_t antientropy_share_versions(struct antientropy_replica *share, const uint8_t *key, size_t key_len,
+                                    uint64_t *count);
+uint32_t antientropy_share_value(struct antientropy_replica *share, const uint8_t *key, size_t key_len, uint64_t index,
+                                 uint8_t *kind, uint8_t *out, size_t out_len, uint64_t *need);
+uint32_t antientropy_share_clock(struct antientropy_replica *share, const uint8_t *key, size_t key_len, uint64_t index,
+                                 struct antientropy_pair *out, size_t out_len, uint64_t *need);
+uint32_t antientropy_share_read(struct antientropy_replica *share, const uint8_t *key, size_t key_len, uint64_t index,
+                                struct antientropy_reading *reading, struct antientropy_pair *pairs, size_t pairs_len,
+                                uint8_t *value, size_t value_len);
+uint32_t antientropy_share_key_after(struct antientropy_replica *share, uint64_t leaf, const uint8_t *key,
+                                     size_t key_len, uint8_t *out, size_t out_len, uint64_t *need);
+uint32_t antientropy_share_key_next(struct antientropy_replica *share, uint64_t leaf, uint8_t *key, size_t key_room,
+                                    uint64_t *key_len);
+uint32_t antientropy_share_entries(struct antientropy_replica *share, uint64_t from, uint8_t *out, size_t out_len,
+                                   uint64_t *need, uint64_t *next);
+uint32_t antientropy_share_entry_key(struct antientropy_replica *share, uint64_t number, uint8_t *out, size_t out_len,
+                                     uint64_t *need);
+uint32_t antientropy_share_entry_value(struct antientropy_replica *share, uint64_t number, uint8_t *kind, uint8_t *out,
+                                       size_t out_len, uint64_t *need);
+uint32_t antientropy_share_entry_clock(struct antientropy_replica *share, uint64_t number, struct antientropy_pair *out,
+                                       size_t out_len, uint64_t *need);
+uint32_t antientropy_share_entry_source(struct antientropy_replica *share, uint64_t number, uint64_t *source);
+uint32_t antientropy_share_top_counter(struct antientropy_replica *share, uint64_t node, const uint8_t *key,
+                                       size_t key_len, uint64_t entries, uint64_t *counter);
+uint32_t antientropy_share_take_portion(struct antientropy_replica *share, uint64_t most,
+                                        struct antientropy_portion *portion);
+uint32_t antientropy_share_moment(struct antientropy_replica *share, struct antientropy_snapshot *snapshot);
+uint32_t antientropy_share_snapshot(struct antientropy_replica *share, struct antientropy_snapshot *snapshot);
+uint32_t antientropy_share_snapshot_share(struct antientropy_snapshot *share, struct antientropy_snapshot *other);
+uint32_t antientropy_share_snapshot_about(struct antientropy_snapshot *share, struct antientropy_about *about);
+uint32_t antientropy_share_snapshot_bytes(struct antientropy_snapshot *share, uint64_t *bytes);
+uint32_t antientropy_share_snapshot_get(struct antientropy_snapshot *share, const uint8_t *key, size_t key_len,
+                                        uint8_t *out, size_t out_len, uint64_t *need);
+uint32_t antientropy_share_snapshot_key_next(struct antientropy_snapshot *share, uint64_t leaf, uint8_t *key,
+                                             size_t key_room, uint64_t *key_len);
+uint32_t antientropy_share_digest(struct antientropy_snapshot *share, uint64_t depth, uint64_t index, uint8_t *out,
+                                  size_t out_len, uint64_t *need);
+uint32_t antientropy_share_root(struct antientropy_snapshot *share, uint8_t *out, size_t out_len, uint64_t *need);
+uint32_t antientropy_share_offer(struct antientropy_snapshot *share, uint32_t number, uint8_t *out, size_t out_len,
+                                 uint64_t *need);
+uint32_t antientropy_share_serve(struct antientropy_snapshot *share, uint32_t number, const uint8_t *ask,
+                                 size_t ask_len, uint8_t *out, size_t out_len, uint64_t *need);
+uint32_t antientropy_share_rows(struct antientropy_snapshot *share, uint64_t leaf, uint8_t *out, size_t out_len,
+                                uint64_t *need);
+uint32_t antientropy_share_outstanding(struct antientropy_replica *share, uint64_t session, uint64_t *count);
+uint32_t antientropy_share_ask_at(struct antientropy_replica *share, uint64_t session, uint64_t place, uint32_t number,
+                                  uint8_t *out, size_t out_len, uint64_t *need);
+uint32_t antientropy_share_ask(struct antientropy_replica *share, uint64_t session, uint32_t number, uint8_t *out,
+                               size_t out_len, uint64_t *need);
+uint32_t antientropy_share_session(struct antientropy_replica *share, uint64_t session, uint64_t *state);
+uint32_t antientropy_share_exchange_next(struct antientropy_exchange *exchange, struct antientropy_replica *share,
+                                         uint8_t *out, size_t out_len, uint64_t *need);
+uint32_t antientropy_share_exchange_report(struct antientropy_exchange *exchange, struct antientropy_replica *share,
+                                           struct antientropy_progress *progress);
+uint32_t antientropy_share_exchange_left(struct antientropy_exchange *exchange, struct antientropy_replica *share,
+                                         uint64_t place, struct antientropy_node *node);
+
 /* ---- the library */
 
 /* Returns the version of the library, as ANTIENTROPY_VERSION. */
@@ -326,21 +461,38 @@ void antientropy_free(struct antientropy_replica *replica);
  * gets a number that was never used. The entries from the new `first` to that count are the versions carried over.
  * Refused, in order: EMPTY (`from`), HELD (`into` holds one already), BAD_RING (the limit), JOURNAL_FULL (more versions
  * are held than the limit, or `entries` + 1,000,000 is over 2^64 - 1), NO_MEMORY. */
-uint32_t antientropy_renew(struct antientropy_replica *from, struct antientropy_replica *into, uint64_t limit);
+static inline uint32_t antientropy_renew(const struct antientropy_replica *from, struct antientropy_replica *into,
+                                         uint64_t limit)
+{
+    struct antientropy_replica share = *from;
+    return antientropy_share_renew(&share, into, limit);
+}
 
 /* Converts a replica of format 1 to format 2. All nodes become dirty, and open sessions are cancelled. A replica of
  * format 2 is left unchanged. Refused, in order: EMPTY, NO_MEMORY. */
 uint32_t antientropy_migrate(struct antientropy_replica *replica);
 
 /* Returns the counts of a replica. Refused: EMPTY. */
-uint32_t antientropy_count(struct antientropy_replica *replica, struct antientropy_counts *counts);
+static inline uint32_t antientropy_count(const struct antientropy_replica *replica, struct antientropy_counts *counts)
+{
+    struct antientropy_replica share = *replica;
+    return antientropy_share_count(&share, counts);
+}
 
 /* Returns the range of a replica, and the number of its entries. Refused: EMPTY. */
-uint32_t antientropy_about(struct antientropy_replica *replica, struct antientropy_about *about);
+static inline uint32_t antientropy_about(const struct antientropy_replica *replica, struct antientropy_about *about)
+{
+    struct antientropy_replica share = *replica;
+    return antientropy_share_about(&share, about);
+}
 
 /* Returns the size of a replica. It looks at each chunk of 15 rows and at the digests of each session's leaves, so ask
  * for it once in some seconds, not at each put. Refused: EMPTY. */
-uint32_t antientropy_bytes(struct antientropy_replica *replica, struct antientropy_bytes *bytes);
+static inline uint32_t antientropy_bytes(const struct antientropy_replica *replica, struct antientropy_bytes *bytes)
+{
+    struct antientropy_replica share = *replica;
+    return antientropy_share_bytes(&share, bytes);
+}
 
 /* ---- versions */
 
@@ -383,44 +535,75 @@ uint32_t antientropy_accept(struct antientropy_replica *replica, const uint8_t *
 
 /* Returns the text of the row of a key (docs/FORMATS.md): the key with all versions held for it. If none is held,
  * `need` is 0. Refused, in order: EMPTY, BAD_KEY, NO_MEMORY, SMALL. */
-uint32_t antientropy_get(struct antientropy_replica *replica, const uint8_t *key, size_t key_len, uint8_t *out,
-                         size_t out_len, uint64_t *need);
+static inline uint32_t antientropy_get(const struct antientropy_replica *replica, const uint8_t *key, size_t key_len,
+                                       uint8_t *out, size_t out_len, uint64_t *need)
+{
+    struct antientropy_replica share = *replica;
+    return antientropy_share_get(&share, key, key_len, out, out_len, need);
+}
 
 /* Returns the number of versions held for a key. Several are concurrent. Refused: EMPTY. */
-uint32_t antientropy_versions(struct antientropy_replica *replica, const uint8_t *key, size_t key_len, uint64_t *count);
+static inline uint32_t antientropy_versions(const struct antientropy_replica *replica, const uint8_t *key,
+                                            size_t key_len, uint64_t *count)
+{
+    struct antientropy_replica share = *replica;
+    return antientropy_share_versions(&share, key, key_len, count);
+}
 
 /* Returns the value and the kind of one of the versions held for a key, by its index from 0.
  * Refused, in order: EMPTY, NO_VERSION, SMALL (`kind` is written anyway). */
-uint32_t antientropy_value(struct antientropy_replica *replica, const uint8_t *key, size_t key_len, uint64_t index,
-                           uint8_t *kind, uint8_t *out, size_t out_len, uint64_t *need);
+static inline uint32_t antientropy_value(const struct antientropy_replica *replica, const uint8_t *key, size_t key_len,
+                                         uint64_t index, uint8_t *kind, uint8_t *out, size_t out_len, uint64_t *need)
+{
+    struct antientropy_replica share = *replica;
+    return antientropy_share_value(&share, key, key_len, index, kind, out, out_len, need);
+}
 
 /* Returns the clock of one of the versions held for a key, by its index from 0: at most 32 pairs, by rising node.
  * `out_len` and `need` count pairs. Refused, in order: EMPTY, NO_VERSION, SMALL. */
-uint32_t antientropy_clock(struct antientropy_replica *replica, const uint8_t *key, size_t key_len, uint64_t index,
-                           struct antientropy_pair *out, size_t out_len, uint64_t *need);
+static inline uint32_t antientropy_clock(const struct antientropy_replica *replica, const uint8_t *key, size_t key_len,
+                                         uint64_t index, struct antientropy_pair *out, size_t out_len, uint64_t *need)
+{
+    struct antientropy_replica share = *replica;
+    return antientropy_share_clock(&share, key, key_len, index, out, out_len, need);
+}
 
 /* Returns one of the versions held for a key, by its index from 0, in one call: its clock in `pairs`, its value in
  * `value`, and in `reading` its kind, the sizes of both, and the number of versions held.
  * Refused, in order: EMPTY, NO_VERSION, SMALL (of the clock and the value at least one doesn't fit: `reading` is
  * written anyway, and so is the one that fits). */
-uint32_t antientropy_read(struct antientropy_replica *replica, const uint8_t *key, size_t key_len, uint64_t index,
-                          struct antientropy_reading *reading, struct antientropy_pair *pairs, size_t pairs_len,
-                          uint8_t *value, size_t value_len);
+static inline uint32_t antientropy_read(const struct antientropy_replica *replica, const uint8_t *key, size_t key_len,
+                                        uint64_t index, struct antientropy_reading *reading,
+                                        struct antientropy_pair *pairs, size_t pairs_len, uint8_t *value,
+                                        size_t value_len)
+{
+    struct antientropy_replica share = *replica;
+    return antientropy_share_read(&share, key, key_len, index, reading, pairs, pairs_len, value, value_len);
+}
 
 /* Returns the least key of a leaf above a key, or the first one for a key of no bytes: so the keys of a replica are
  * listed leaf by leaf. Leaves are counted from 0 to 255, in format 2 to 4,095. Keys that are put meanwhile are listed
  * if they lie ahead. Refused, in order: EMPTY, BAD_MESSAGE (the tree has no such leaf), NO_VERSION (no key follows),
  * SMALL. */
-uint32_t antientropy_key_after(struct antientropy_replica *replica, uint64_t leaf, const uint8_t *key, size_t key_len,
-                               uint8_t *out, size_t out_len, uint64_t *need);
+static inline uint32_t antientropy_key_after(const struct antientropy_replica *replica, uint64_t leaf,
+                                             const uint8_t *key, size_t key_len, uint8_t *out, size_t out_len,
+                                             uint64_t *need)
+{
+    struct antientropy_replica share = *replica;
+    return antientropy_share_key_after(&share, leaf, key, key_len, out, out_len, need);
+}
 
 /* Lists the keys of a leaf with one buffer. The key that was seen is the first `key_len` bytes of `key`: none at first.
  * The least key of the leaf above it takes its place, and `key_len` becomes its length. `key_room` is the room at
  * `key`, and 255 bytes are enough. After a refusal `key` and `key_len` are unchanged.
  * Refused, in order: EMPTY, BAD_MESSAGE (the tree has no such leaf), BAD_KEY (`key_len` is over `key_room`), NO_VERSION
  * (no key follows), SMALL. */
-uint32_t antientropy_key_next(struct antientropy_replica *replica, uint64_t leaf, uint8_t *key, size_t key_room,
-                              uint64_t *key_len);
+static inline uint32_t antientropy_key_next(const struct antientropy_replica *replica, uint64_t leaf, uint8_t *key,
+                                            size_t key_room, uint64_t *key_len)
+{
+    struct antientropy_replica share = *replica;
+    return antientropy_share_key_next(&share, leaf, key, key_room, key_len);
+}
 
 /* Orders of two clocks. */
 enum {
@@ -459,33 +642,58 @@ uint32_t antientropy_merge(const struct antientropy_pair *first, size_t first_le
  * `need` bytes, at most ANTIENTROPY_ENTRY_MAX; `next` is unchanged.
  * Refused, in order: EMPTY; BAD_POSITION (`from` is over the count of entries; or it is below the count at the last
  * renewal, and isn't `first`: read from `first` then, which gives the whole journal); SMALL. */
-uint32_t antientropy_entries(struct antientropy_replica *replica, uint64_t from, uint8_t *out, size_t out_len,
-                             uint64_t *need, uint64_t *next);
+static inline uint32_t antientropy_entries(const struct antientropy_replica *replica, uint64_t from, uint8_t *out,
+                                           size_t out_len, uint64_t *need, uint64_t *next)
+{
+    struct antientropy_replica share = *replica;
+    return antientropy_share_entries(&share, from, out, out_len, need, next);
+}
 
 /* Returns the key of an entry. Refused, in order: EMPTY, NO_VERSION (no such entry), SMALL. */
-uint32_t antientropy_entry_key(struct antientropy_replica *replica, uint64_t number, uint8_t *out, size_t out_len,
-                               uint64_t *need);
+static inline uint32_t antientropy_entry_key(const struct antientropy_replica *replica, uint64_t number, uint8_t *out,
+                                             size_t out_len, uint64_t *need)
+{
+    struct antientropy_replica share = *replica;
+    return antientropy_share_entry_key(&share, number, out, out_len, need);
+}
 
 /* Returns the value and the kind of an entry's version.
  * Refused, in order: EMPTY, NO_VERSION (no such entry), SMALL (`kind` is written anyway). */
-uint32_t antientropy_entry_value(struct antientropy_replica *replica, uint64_t number, uint8_t *kind, uint8_t *out,
-                                 size_t out_len, uint64_t *need);
+static inline uint32_t antientropy_entry_value(const struct antientropy_replica *replica, uint64_t number,
+                                               uint8_t *kind, uint8_t *out, size_t out_len, uint64_t *need)
+{
+    struct antientropy_replica share = *replica;
+    return antientropy_share_entry_value(&share, number, kind, out, out_len, need);
+}
 
 /* Returns the clock of an entry's version: at most 32 pairs, by rising node. `out_len` and `need` count pairs.
  * Refused, in order: EMPTY, NO_VERSION (no such entry), SMALL. */
-uint32_t antientropy_entry_clock(struct antientropy_replica *replica, uint64_t number, struct antientropy_pair *out,
-                                 size_t out_len, uint64_t *need);
+static inline uint32_t antientropy_entry_clock(const struct antientropy_replica *replica, uint64_t number,
+                                               struct antientropy_pair *out, size_t out_len, uint64_t *need)
+{
+    struct antientropy_replica share = *replica;
+    return antientropy_share_entry_clock(&share, number, out, out_len, need);
+}
 
 /* Returns the source of an entry's version: PUT, COPY, HINT or PARTNER. Refused, in order: EMPTY, NO_VERSION (no such
  * entry). */
-uint32_t antientropy_entry_source(struct antientropy_replica *replica, uint64_t number, uint64_t *source);
+static inline uint32_t antientropy_entry_source(const struct antientropy_replica *replica, uint64_t number,
+                                                uint64_t *source)
+{
+    struct antientropy_replica share = *replica;
+    return antientropy_share_entry_source(&share, number, source);
+}
 
 /* Returns the greatest counter of a node in the clocks of the versions of a key that the journal's entries of numbers
  * below `entries` have (all, if there are fewer; none, if `entries` is at most `first`): 0 if there is none. By it a
  * host sees whether a partner holds a version with a counter of the host's node number that the host has lost.
  * Refused, in order: EMPTY, BAD_CLOCK (the node is 0 or over 65,535). */
-uint32_t antientropy_top_counter(struct antientropy_replica *replica, uint64_t node, const uint8_t *key, size_t key_len,
-                                 uint64_t entries, uint64_t *counter);
+static inline uint32_t antientropy_top_counter(const struct antientropy_replica *replica, uint64_t node,
+                                               const uint8_t *key, size_t key_len, uint64_t entries, uint64_t *counter)
+{
+    struct antientropy_replica share = *replica;
+    return antientropy_share_top_counter(&share, node, key, key_len, entries, counter);
+}
 
 /* ---- the tree */
 
@@ -524,8 +732,12 @@ uint32_t antientropy_hash_moment(struct antientropy_replica *replica, uint64_t m
  * them by antientropy_hash_portion while the replica is in other calls. If nothing is left to hash, or if there is no
  * moment, the handle holds a portion without nodes. Refused, in order: EMPTY (the replica), HELD (the portion holds one
  * already), NO_MEMORY. */
-uint32_t antientropy_take_portion(struct antientropy_replica *replica, uint64_t most,
-                                  struct antientropy_portion *portion);
+static inline uint32_t antientropy_take_portion(const struct antientropy_replica *replica, uint64_t most,
+                                                struct antientropy_portion *portion)
+{
+    struct antientropy_replica share = *replica;
+    return antientropy_share_take_portion(&share, most, portion);
+}
 
 /* Hashes the nodes of a portion. It uses no replica, and takes no memory. Refused: EMPTY. */
 uint32_t antientropy_hash_portion(struct antientropy_portion *portion);
@@ -543,53 +755,98 @@ void antientropy_portion_free(struct antientropy_portion *portion);
 
 /* Makes a snapshot of the moment, as antientropy_snapshot does of the rows now. Refused, in order: EMPTY (the replica),
  * HELD (the snapshot holds one already), DIRTY (there is no moment, or it isn't whole), NO_MEMORY. */
-uint32_t antientropy_moment(struct antientropy_replica *replica, struct antientropy_snapshot *snapshot);
+static inline uint32_t antientropy_moment(const struct antientropy_replica *replica,
+                                          struct antientropy_snapshot *snapshot)
+{
+    struct antientropy_replica share = *replica;
+    return antientropy_share_moment(&share, snapshot);
+}
 
 /* ---- snapshots and offers */
 
 /* Makes a snapshot of the rows now. It shares them with the replica, which copies those that it changes later.
  * Refused, in order: EMPTY (the replica), HELD (the snapshot holds one already), DIRTY, NO_MEMORY. */
-uint32_t antientropy_snapshot(struct antientropy_replica *replica, struct antientropy_snapshot *snapshot);
+static inline uint32_t antientropy_snapshot(const struct antientropy_replica *replica,
+                                            struct antientropy_snapshot *snapshot)
+{
+    struct antientropy_replica share = *replica;
+    return antientropy_share_snapshot(&share, snapshot);
+}
 
-/* Makes another handle of a snapshot's rows, which `other` then holds. Copies no row. Each thread that reads a snapshot
- * has a handle of its own; the threads then need no lock. The rows are freed with the last handle.
+/* Makes another handle of a snapshot's rows, which `other` then holds. Copies no row. A thread that has a handle of its
+ * own needs no lock, even if others free theirs. The rows are freed with the last handle.
  * Refused, in order: EMPTY (the snapshot), HELD (`other` holds one already), NO_MEMORY. */
-uint32_t antientropy_snapshot_share(struct antientropy_snapshot *snapshot, struct antientropy_snapshot *other);
+static inline uint32_t antientropy_snapshot_share(const struct antientropy_snapshot *snapshot,
+                                                  struct antientropy_snapshot *other)
+{
+    struct antientropy_snapshot share = *snapshot;
+    return antientropy_share_snapshot_share(&share, other);
+}
 
 /* Returns the range of a snapshot, and the number of entries that made its rows: of a moment those at the time of
  * antientropy_hold. So a checkpoint of the snapshot has all entries below that number. Refused: EMPTY. */
-uint32_t antientropy_snapshot_about(struct antientropy_snapshot *snapshot, struct antientropy_about *about);
+static inline uint32_t antientropy_snapshot_about(const struct antientropy_snapshot *snapshot,
+                                                  struct antientropy_about *about)
+{
+    struct antientropy_snapshot share = *snapshot;
+    return antientropy_share_snapshot_about(&share, about);
+}
 
 /* Returns the size of a snapshot's rows in bytes, as antientropy_rows copies them out. Refused: EMPTY. */
-uint32_t antientropy_snapshot_bytes(struct antientropy_snapshot *snapshot, uint64_t *bytes);
+static inline uint32_t antientropy_snapshot_bytes(const struct antientropy_snapshot *snapshot, uint64_t *bytes)
+{
+    struct antientropy_snapshot share = *snapshot;
+    return antientropy_share_snapshot_bytes(&share, bytes);
+}
 
 /* Frees the snapshot that a handle holds, if it holds one. */
 void antientropy_snapshot_free(struct antientropy_snapshot *snapshot);
 
 /* Returns the text of a key's row in a snapshot, as antientropy_get does of a replica: no bytes if it has none. Searches
  * by a binary search. Refused, in order: EMPTY, BAD_KEY, NO_MEMORY, SMALL. */
-uint32_t antientropy_snapshot_get(struct antientropy_snapshot *snapshot, const uint8_t *key, size_t key_len,
-                                  uint8_t *out, size_t out_len, uint64_t *need);
+static inline uint32_t antientropy_snapshot_get(const struct antientropy_snapshot *snapshot, const uint8_t *key,
+                                                size_t key_len, uint8_t *out, size_t out_len, uint64_t *need)
+{
+    struct antientropy_snapshot share = *snapshot;
+    return antientropy_share_snapshot_get(&share, key, key_len, out, out_len, need);
+}
 
 /* Lists the keys of a leaf of a snapshot with one buffer, as antientropy_key_next does of a replica.
  * Refused, in order: EMPTY, BAD_MESSAGE (the tree has no such leaf), BAD_KEY (`key_len` is over `key_room`), NO_VERSION
  * (no key follows), SMALL. */
-uint32_t antientropy_snapshot_key_next(struct antientropy_snapshot *snapshot, uint64_t leaf, uint8_t *key,
-                                       size_t key_room, uint64_t *key_len);
+static inline uint32_t antientropy_snapshot_key_next(const struct antientropy_snapshot *snapshot, uint64_t leaf,
+                                                     uint8_t *key, size_t key_room, uint64_t *key_len)
+{
+    struct antientropy_snapshot share = *snapshot;
+    return antientropy_share_snapshot_key_next(&share, leaf, key, key_room, key_len);
+}
 
 /* Returns the digest of a node of a snapshot's tree: 32 bytes. The root is node 0 at depth 0; the leaves are at depth 2,
  * or at 3 in format 2. Refused, in order: EMPTY, BAD_MESSAGE (the tree has no such node), SMALL. */
-uint32_t antientropy_digest(struct antientropy_snapshot *snapshot, uint64_t depth, uint64_t index, uint8_t *out,
-                            size_t out_len, uint64_t *need);
+static inline uint32_t antientropy_digest(const struct antientropy_snapshot *snapshot, uint64_t depth, uint64_t index,
+                                          uint8_t *out, size_t out_len, uint64_t *need)
+{
+    struct antientropy_snapshot share = *snapshot;
+    return antientropy_share_digest(&share, depth, index, out, out_len, need);
+}
 
 /* Returns the digest of a snapshot's root: 32 bytes. Two replicas of a range with equal roots hold the same versions,
  * so neither needs a session. Refused, in order: EMPTY, SMALL. */
-uint32_t antientropy_root(struct antientropy_snapshot *snapshot, uint8_t *out, size_t out_len, uint64_t *need);
+static inline uint32_t antientropy_root(const struct antientropy_snapshot *snapshot, uint8_t *out, size_t out_len,
+                                        uint64_t *need)
+{
+    struct antientropy_snapshot share = *snapshot;
+    return antientropy_share_root(&share, out, out_len, need);
+}
 
 /* Returns the message that offers a snapshot: 39 bytes. The caller gives each of its offers a number.
  * Refused, in order: EMPTY, NO_MEMORY, SMALL. */
-uint32_t antientropy_offer(struct antientropy_snapshot *snapshot, uint32_t number, uint8_t *out, size_t out_len,
-                           uint64_t *need);
+static inline uint32_t antientropy_offer(const struct antientropy_snapshot *snapshot, uint32_t number, uint8_t *out,
+                                         size_t out_len, uint64_t *need)
+{
+    struct antientropy_snapshot share = *snapshot;
+    return antientropy_share_offer(&share, number, out, out_len, need);
+}
 
 /* Returns the parts of a partner's offer. It needs no replica. Refused, in order: BAD_MESSAGE (the bytes aren't an
  * offer), NO_MEMORY, which may be returned instead. */
@@ -599,13 +856,22 @@ uint32_t antientropy_read_offer(const uint8_t *offer, size_t offer_len, struct a
  * have 4,215,427 bytes. Refused, in order: EMPTY, BAD_MESSAGE (the bytes aren't an ask), GONE (it is for another
  * offer), BAD_MESSAGE (the node isn't in the tree), NO_MEMORY, SMALL. NO_MEMORY may be returned instead of the first
  * BAD_MESSAGE. */
-uint32_t antientropy_serve(struct antientropy_snapshot *snapshot, uint32_t number, const uint8_t *ask, size_t ask_len,
-                           uint8_t *out, size_t out_len, uint64_t *need);
+static inline uint32_t antientropy_serve(const struct antientropy_snapshot *snapshot, uint32_t number,
+                                         const uint8_t *ask, size_t ask_len, uint8_t *out, size_t out_len,
+                                         uint64_t *need)
+{
+    struct antientropy_snapshot share = *snapshot;
+    return antientropy_share_serve(&share, number, ask, ask_len, out, out_len, need);
+}
 
 /* Returns the texts of the rows of a leaf, 0 to 255, or to 4,095 in format 2: the bytes to save, and to load again.
  * Refused, in order: EMPTY, BAD_MESSAGE (the tree has no such leaf), NO_MEMORY, SMALL. */
-uint32_t antientropy_rows(struct antientropy_snapshot *snapshot, uint64_t leaf, uint8_t *out, size_t out_len,
-                          uint64_t *need);
+static inline uint32_t antientropy_rows(const struct antientropy_snapshot *snapshot, uint64_t leaf, uint8_t *out,
+                                        size_t out_len, uint64_t *need)
+{
+    struct antientropy_snapshot share = *snapshot;
+    return antientropy_share_rows(&share, leaf, out, out_len, need);
+}
 
 /* Loads rows of one leaf, in ascending order of key, as antientropy_rows or antientropy_get returns them: accepts all
  * of their versions as copies, or none. Refused, in order: EMPTY, ROW_BROKEN, OTHER_RANGE (also for rows of two
@@ -643,19 +909,32 @@ uint32_t antientropy_open_at_moment(struct antientropy_replica *replica, uint64_
 
 /* Returns the number of nodes that a session has outstanding: 0 if it has ended.
  * Refused, in order: EMPTY, UNKNOWN_SESSION. */
-uint32_t antientropy_outstanding(struct antientropy_replica *replica, uint64_t session, uint64_t *count);
+static inline uint32_t antientropy_outstanding(const struct antientropy_replica *replica, uint64_t session,
+                                               uint64_t *count)
+{
+    struct antientropy_replica share = *replica;
+    return antientropy_share_outstanding(&share, session, count);
+}
 
 /* Returns the ask for one of the outstanding nodes of a session, by its place from 0. `number` is the number in the
  * partner's offer. If there are no more, `need` is 0. Several asks may be on their way at once: answers are taken in
  * any order. Each answer that is taken changes the places. Refused, in order: EMPTY, UNKNOWN_SESSION, NO_MEMORY,
  * SMALL. */
-uint32_t antientropy_ask_at(struct antientropy_replica *replica, uint64_t session, uint64_t place, uint32_t number,
-                            uint8_t *out, size_t out_len, uint64_t *need);
+static inline uint32_t antientropy_ask_at(const struct antientropy_replica *replica, uint64_t session, uint64_t place,
+                                          uint32_t number, uint8_t *out, size_t out_len, uint64_t *need)
+{
+    struct antientropy_replica share = *replica;
+    return antientropy_share_ask_at(&share, session, place, number, out, out_len, need);
+}
 
 /* Returns the ask for the first outstanding node of a session, as antientropy_ask_at does for place 0.
  * Refused, in order: EMPTY, UNKNOWN_SESSION, NO_MEMORY, SMALL. */
-uint32_t antientropy_ask(struct antientropy_replica *replica, uint64_t session, uint32_t number, uint8_t *out,
-                         size_t out_len, uint64_t *need);
+static inline uint32_t antientropy_ask(const struct antientropy_replica *replica, uint64_t session, uint32_t number,
+                                       uint8_t *out, size_t out_len, uint64_t *need)
+{
+    struct antientropy_replica share = *replica;
+    return antientropy_share_ask(&share, session, number, out, out_len, need);
+}
 
 /* Takes a partner's answer to an ask for the offer of that number. The partner isn't trusted.
  * Refused, in order: EMPTY, BAD_MESSAGE (not an answer, or of another offer), UNKNOWN_SESSION, NOT_ASKED, WRONG_DIGEST,
@@ -677,7 +956,81 @@ uint32_t antientropy_cancel(struct antientropy_replica *replica, uint64_t sessio
 uint32_t antientropy_drop_sessions(struct antientropy_replica *replica);
 
 /* Returns the state of a session. Refused, in order: EMPTY, UNKNOWN_SESSION. */
-uint32_t antientropy_session(struct antientropy_replica *replica, uint64_t session, uint64_t *state);
+static inline uint32_t antientropy_session(const struct antientropy_replica *replica, uint64_t session, uint64_t *state)
+{
+    struct antientropy_replica share = *replica;
+    return antientropy_share_session(&share, session, state);
+}
+
+/* ---- exchanges: the loop of a sync */
+
+/* An exchange carries on a session with a partner: it says which node to ask next, takes the answers in any order,
+ * counts the bad answers and the lost asks, and says how far it is. It sends nothing: the program sends the asks, and
+ * hands in the answers. It lasts as long as the program wants: between two of its calls the replica may change in any
+ * way, but a renewal or a migration ends it. Each of its calls gets the replica with which it was opened. */
+
+/* Opens an exchange with a partner by its offer, at the replica's moment, as antientropy_open_at_moment opens a
+ * session. If the moment has the offered root, the exchange is FINISHED, and no session is opened.
+ * Refused, in order: EMPTY (the replica), HELD (the exchange holds one already), BAD_CLOCK (the partner is over
+ * 65,535), BAD_MESSAGE (the bytes aren't an offer), OTHER_FORMAT, OTHER_RANGE, DIRTY (there is no moment, or it isn't
+ * whole), SESSIONS_FULL, NO_MEMORY, which may be returned instead of the two before it. */
+uint32_t antientropy_exchange_open(struct antientropy_replica *replica, struct antientropy_exchange *exchange,
+                                   uint64_t partner, const uint8_t *offer, size_t offer_len,
+                                   const struct antientropy_bounds *bounds);
+
+/* Returns the next ask to send: 8 bytes. `need` is 0 if there is none now: each outstanding node is on its way or was
+ * left, the bounds leave no room, asks have stopped, or the exchange is over. It takes no memory. A refused call sends
+ * no ask; after SMALL `need` is 8.
+ * Refused, in order: EMPTY (the exchange or the replica), SMALL (the room is below 8 bytes, though there is no ask). */
+static inline uint32_t antientropy_exchange_next(struct antientropy_exchange *exchange,
+                                                 const struct antientropy_replica *replica, uint8_t *out,
+                                                 size_t out_len, uint64_t *need)
+{
+    struct antientropy_replica share = *replica;
+    return antientropy_share_exchange_next(exchange, &share, out, out_len, need);
+}
+
+/* Takes a partner's answer, and returns the verdict on it. Answers may arrive in any order, late or twice. The partner
+ * isn't trusted: any bytes may be handed in. The replica changes as antientropy_take changes it, or not at all.
+ * Refused: EMPTY (the exchange or the replica). */
+uint32_t antientropy_exchange_take(struct antientropy_exchange *exchange, struct antientropy_replica *replica,
+                                   const uint8_t *answer, size_t answer_len, struct antientropy_verdict *verdict);
+
+/* Counts an ask as lost if it is on its way, so that it may be sent again: its link was lost, say, or its time is over.
+ * An ask for another offer changes nothing.
+ * Refused, in order: EMPTY, BAD_MESSAGE (the bytes aren't an ask). */
+uint32_t antientropy_exchange_lose(struct antientropy_exchange *exchange, const uint8_t *ask, size_t ask_len);
+
+/* Lets asks be sent again after there was no room for an answer (STOPPED). Each ask whose answer was refused for that
+ * counts as lost. Refused: EMPTY. */
+uint32_t antientropy_exchange_go_on(struct antientropy_exchange *exchange);
+
+/* Returns how far an exchange is. Refused: EMPTY (the exchange or the replica). */
+static inline uint32_t antientropy_exchange_report(struct antientropy_exchange *exchange,
+                                                   const struct antientropy_replica *replica,
+                                                   struct antientropy_progress *progress)
+{
+    struct antientropy_replica share = *replica;
+    return antientropy_share_exchange_report(exchange, &share, progress);
+}
+
+/* Returns a leaf that was left, by its place from 0 among those that were, in the order in which the session asks. In
+ * each of them a key is crowded.
+ * Refused, in order: EMPTY (the exchange or the replica), NO_VERSION (fewer were left). */
+static inline uint32_t antientropy_exchange_left(struct antientropy_exchange *exchange,
+                                                 const struct antientropy_replica *replica, uint64_t place,
+                                                 struct antientropy_node *node)
+{
+    struct antientropy_replica share = *replica;
+    return antientropy_share_exchange_left(exchange, &share, place, node);
+}
+
+/* Closes an exchange: cancels its session if that is in progress, so that antientropy_drop_sessions drops it. An
+ * exchange that has ended stays as it is. Refused: EMPTY (the exchange or the replica). */
+uint32_t antientropy_exchange_close(struct antientropy_exchange *exchange, struct antientropy_replica *replica);
+
+/* Frees the exchange of a handle, if any. Its session stays as it is: close the exchange first. */
+void antientropy_exchange_free(struct antientropy_exchange *exchange);
 
 /* ---- hints: versions that a node carries for replicas that are down */
 
@@ -792,12 +1145,14 @@ uint32_t antientropy_slots_count(struct antientropy_slots *slots, struct antient
 ANTIENTROPY_ACCEPTS_NULL(antientropy_free, antientropy_replica)
 ANTIENTROPY_ACCEPTS_NULL(antientropy_snapshot_free, antientropy_snapshot)
 ANTIENTROPY_ACCEPTS_NULL(antientropy_portion_free, antientropy_portion)
+ANTIENTROPY_ACCEPTS_NULL(antientropy_exchange_free, antientropy_exchange)
 ANTIENTROPY_ACCEPTS_NULL(antientropy_hints_free, antientropy_hints)
 ANTIENTROPY_ACCEPTS_NULL(antientropy_slots_free, antientropy_slots)
 #undef ANTIENTROPY_ACCEPTS_NULL
 #define antientropy_free(replica) antientropy_free_any(replica)
 #define antientropy_snapshot_free(snapshot) antientropy_snapshot_free_any(snapshot)
 #define antientropy_portion_free(portion) antientropy_portion_free_any(portion)
+#define antientropy_exchange_free(exchange) antientropy_exchange_free_any(exchange)
 #define antientropy_hints_free(hints) antientropy_hints_free_any(hints)
 #define antientropy_slots_free(slots) antientropy_slots_free_any(slots)
 

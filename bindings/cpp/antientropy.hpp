@@ -17,12 +17,13 @@
 /// and of slots have 32 bits: -Wconversion warns if one is cut before the call. Text and bytes go in as
 /// std::string_view, and come out as std::string.
 ///
-/// THREADS. No class has a lock: **one call at a time on an object, reads too**, so none of them is const. A
-/// reader-writer lock isn't enough: two concurrent reads can leave a replica empty for good. A `Session` and a
-/// `Sequence` of a replica count as the replica, a `Sequence` of a snapshot as the snapshot, a `Loan` as its slots. A
-/// replica, its snapshots and its portions are apart, and may be used at once; so may snapshots that share rows.
-/// `snapshot_beside` and `sync_beside` take the program's lock of a replica, and free it while they hash. Call nothing
-/// in a signal handler, or in the forked child of a process with threads.
+/// THREADS. No class has a lock. **Threads may call const methods of an object at once; a call that isn't const has the
+/// object alone**, without a const one meanwhile: a std::shared_mutex does that. A `Session` counts as its replica: its
+/// const methods read it, and its other calls and its destructor change it. A step of a `Sequence` reads its replica or
+/// snapshot; the `Sequence` itself is for one thread. Hints and slots have no const methods, and a `Loan` counts as its
+/// slots. A replica, its snapshots and its portions are apart, and may be used at once; so may snapshots that share
+/// rows. `snapshot_beside` and `sync_beside` take the program's lock of a replica, and free it while they hash. Call
+/// nothing in a signal handler, or in the forked child of a process with threads.
 #ifndef ANTIENTROPY_HPP
 #define ANTIENTROPY_HPP
 
@@ -580,6 +581,10 @@ public:
         if (!at_) at_ = std::make_shared<C>();
         return at_.get();
     }
+    const C *get() const {
+        static constexpr C none = {};
+        return at_ ? at_.get() : &none;
+    }
     bool moved() const noexcept { return !at_; }
 
 private:
@@ -601,11 +606,9 @@ public:
     ~Owner() { close(); }
 
     C *get() { return shared_.get(); }
+    const C *get() const { return shared_.get(); }
 
-    Shared<C> share() {
-        shared_.get();
-        return shared_;
-    }
+    Shared<C> share() const { return shared_; }
 
     void close() noexcept {
         if (!shared_.moved()) Free(shared_.get());
@@ -618,7 +621,7 @@ private:
 // ---- reads that objects and their sequences share
 
 /// One of the versions held for a key. `held` gets their number.
-inline Result<Version> read_version(ReplicaHandle *replica, std::string_view key, std::uint64_t index,
+inline Result<Version> read_version(const ReplicaHandle *replica, std::string_view key, std::uint64_t index,
                                     std::uint64_t &held) {
     c::antientropy_reading reading = {};
     Pair pairs[pairs_room];
@@ -639,7 +642,8 @@ inline Result<Version> read_version(ReplicaHandle *replica, std::string_view key
     return Version{Clock(pairs, pairs + reading.pairs), static_cast<Kind>(reading.kind), std::move(value)};
 }
 
-inline Result<std::optional<Version>> read_version(ReplicaHandle *replica, std::string_view key, std::uint64_t index) {
+inline Result<std::optional<Version>> read_version(const ReplicaHandle *replica, std::string_view key,
+                                                   std::uint64_t index) {
     std::uint64_t held = 0;
     return or_none(read_version(replica, key, index, held));
 }
@@ -689,7 +693,7 @@ private:
     LeafKeys keys_;
 };
 
-inline Result<Entry> entry(ReplicaHandle *replica, std::uint64_t number) {
+inline Result<Entry> entry(const ReplicaHandle *replica, std::uint64_t number) {
     auto key = bytes([&](auto... out) { return c::antientropy_entry_key(replica, number, out...); });
     if (!key) return key.refusal();
     auto held = version([&](auto... out) { return c::antientropy_entry_value(replica, number, out...); },
@@ -704,7 +708,7 @@ inline Result<Entry> entry(ReplicaHandle *replica, std::uint64_t number) {
 inline constexpr std::uint64_t packed_room = 1 << 20;
 
 /// Tests whether entries can be read from a number on. Refused: BadPosition.
-inline Result<void> check_position(ReplicaHandle *replica, std::uint64_t start) {
+inline Result<void> check_position(const ReplicaHandle *replica, std::uint64_t start) {
     std::uint8_t none = 0;
     std::uint64_t need = 0, next = 0;
     const auto number = c::antientropy_entries(replica, start, &none, 0, &need, &next);
@@ -712,7 +716,7 @@ inline Result<void> check_position(ReplicaHandle *replica, std::uint64_t start) 
 }
 
 /// Some entries from a number on. Refused: BadPosition.
-inline Result<Packed> packed(ReplicaHandle *replica, std::uint64_t start) {
+inline Result<Packed> packed(const ReplicaHandle *replica, std::uint64_t start) {
     std::uint64_t need = packed_room, next = start;
     std::uint32_t number = c::ANTIENTROPY_SMALL;
     while (number == c::ANTIENTROPY_SMALL) {
@@ -724,7 +728,7 @@ inline Result<Packed> packed(ReplicaHandle *replica, std::uint64_t start) {
     return static_cast<Refusal>(number);
 }
 
-inline Result<About> about(ReplicaHandle *replica) {
+inline Result<About> about(const ReplicaHandle *replica) {
     About about = {};
     const auto number = c::antientropy_about(replica, &about);
     return result(number, about);
@@ -1028,9 +1032,9 @@ public:
     /// Frees the memory now, unless another snapshot shares the rows.
     void close() noexcept { handle_.close(); }
 
-    /// Returns another snapshot of the same rows. Copies no row. Each thread that reads the rows has a snapshot of its
-    /// own; the threads then need no lock. The rows are freed with the last one.
-    Result<Snapshot> share() {
+    /// Returns another snapshot of the same rows. Copies no row. A thread that has a snapshot of its own needs no lock,
+    /// even if others close theirs. The rows are freed with the last one.
+    Result<Snapshot> share() const {
         return made_by([&](auto *into) { return c::antientropy_snapshot_share(at(), into); });
     }
 
@@ -1038,62 +1042,62 @@ public:
     std::uint64_t entries() const noexcept { return about_.entries; }
 
     /// Returns the size of the rows in bytes, as `rows` returns them.
-    Result<std::uint64_t> bytes() {
+    Result<std::uint64_t> bytes() const {
         std::uint64_t bytes = 0;
         const auto number = c::antientropy_snapshot_bytes(at(), &bytes);
         return detail::result(number, bytes);
     }
 
     /// Returns the digest of the root: 32 bytes. Replicas of a range with equal roots hold the same versions.
-    Result<std::string> root() {
+    Result<std::string> root() const {
         return detail::bytes([&](auto... out) { return c::antientropy_root(at(), out...); });
     }
 
     /// Returns the digest of a node of the tree: 32 bytes. The root is node 0 at depth 0; the leaves are at depth 2, or
     /// at 3 in format 2. Refused: BadMessage (the tree has no such node).
-    Result<std::string> digest(std::uint64_t depth, std::uint64_t index) {
+    Result<std::string> digest(std::uint64_t depth, std::uint64_t index) const {
         return detail::bytes([&](auto... out) { return c::antientropy_digest(at(), depth, index, out...); });
     }
 
     /// Returns the message that offers the snapshot: 39 bytes. The caller gives each of its offers a number.
-    Result<std::string> offer(std::uint32_t number) {
+    Result<std::string> offer(std::uint32_t number) const {
         return detail::bytes([&](auto... out) { return c::antientropy_offer(at(), number, out...); });
     }
 
     /// Returns the answer to an ask for the offer of that number: it has no fixed limit.
     /// Refused, in order: BadMessage (the bytes aren't an ask), Gone (it is for another offer), BadMessage (the node
     /// isn't in the tree).
-    Result<std::string> serve(std::uint32_t number, std::string_view ask) {
+    Result<std::string> serve(std::uint32_t number, std::string_view ask) const {
         return detail::bytes([&](auto... out) {
             return c::antientropy_serve(at(), number, detail::data(ask), ask.size(), out...);
         });
     }
 
     /// Returns the texts of the rows of a leaf, from 0. Refused: BadMessage (the tree has no such leaf).
-    Result<std::string> rows(std::uint64_t leaf) {
+    Result<std::string> rows(std::uint64_t leaf) const {
         return detail::bytes([&](auto... out) { return c::antientropy_rows(at(), leaf, out...); });
     }
 
     /// Returns the text of the row of a key (docs/FORMATS.md), or no bytes if none is held. Refused: BadKey.
-    Result<std::string> row(std::string_view key) {
+    Result<std::string> row(std::string_view key) const {
         return detail::bytes([&](auto... out) {
             return c::antientropy_snapshot_get(at(), detail::data(key), key.size(), out...);
         });
     }
 
     /// Goes through the keys, leaf by leaf.
-    Sequence<std::string> keys() {
+    Sequence<std::string> keys() const {
         return Sequence<std::string>(detail::Keys(detail::SnapshotLeafKeys(handle_.share(), 0)));
     }
 
     /// Goes through the keys of a leaf, from 0, in ascending order. Refused: BadMessage (the tree has no such leaf).
-    Sequence<std::string> keys_of(std::uint64_t leaf) {
+    Sequence<std::string> keys_of(std::uint64_t leaf) const {
         return Sequence<std::string>(detail::SnapshotLeafKeys(handle_.share(), leaf));
     }
 
     /// Writes a checkpoint of the rows (docs/FORMATS.md), and returns the number of entries at its moment. The caller
     /// brings the file to its disk. Errors: NotWritten, Refused.
-    FileResult<std::uint64_t> save(std::ostream &file) {
+    FileResult<std::uint64_t> save(std::ostream &file) const {
         const auto error = write([&](const std::string &bytes) { return bool(file << bytes); });
         if (error) return *error;
         if (!file.flush()) return FileError{Fault::NotWritten, std::nullopt};
@@ -1103,7 +1107,7 @@ public:
     /// Saves a checkpoint in place of the file at a path, and brings it to the disk. It is written first to a file of
     /// that name with ".new" after it: so one save to a path at a time. After an error, or if the program ends on the
     /// way, the old checkpoint is there or the new one, whole. Errors: NotWritten, Refused.
-    FileResult<std::uint64_t> save(const std::filesystem::path &path) {
+    FileResult<std::uint64_t> save(const std::filesystem::path &path) const {
         detail::NewFile file(path);
         const auto error = write([&](const std::string &bytes) { return file.write(bytes); });
         if (error && error->refusal) return *error;
@@ -1127,10 +1131,11 @@ private:
     }
 
     c::antientropy_offered *at() { return handle_.get(); }
+    const c::antientropy_offered *at() const { return handle_.get(); }
 
     /// Writes the bytes of a checkpoint by a function that returns false if it can't.
     template <class Write>
-    std::optional<FileError> write(Write write) {
+    std::optional<FileError> write(Write write) const {
         auto digest = root();
         if (!digest) return FileError{Fault::Refused, digest.refusal()};
         const detail::Head head{about_.format, about_.bits, about_.range, std::move(*digest)};
@@ -1196,33 +1201,33 @@ public:
     std::uint32_t offer_number() const noexcept { return offer_; }
 
     /// Returns the state of the session.
-    Result<State> state() {
+    Result<State> state() const {
         std::uint64_t state = 0;
         const auto number = c::antientropy_session(at(), number_, &state);
         return detail::result(number, static_cast<State>(state));
     }
 
     /// Returns the number of nodes that are outstanding: 0 if the session has ended.
-    Result<std::uint64_t> outstanding() {
+    Result<std::uint64_t> outstanding() const {
         std::uint64_t count = 0;
         const auto number = c::antientropy_outstanding(at(), number_, &count);
         return detail::result(number, count);
     }
 
     /// Returns the ask for the first outstanding node, or none.
-    Result<std::optional<std::string>> ask() {
+    Result<std::optional<std::string>> ask() const {
         return or_none(detail::bytes([&](auto... out) { return c::antientropy_ask(at(), number_, offer_, out...); }));
     }
 
     /// Returns the ask for an outstanding node by its place from 0, or none if there are no more. Each answer that is
     /// taken changes the places.
-    Result<std::optional<std::string>> ask_at(std::uint64_t place) {
+    Result<std::optional<std::string>> ask_at(std::uint64_t place) const {
         return or_none(
             detail::bytes([&](auto... out) { return c::antientropy_ask_at(at(), number_, place, offer_, out...); }));
     }
 
     /// Returns the asks for all outstanding nodes. They may be sent at once.
-    Result<std::vector<std::string>> asks() {
+    Result<std::vector<std::string>> asks() const {
         const auto count = outstanding();
         if (!count) return count.refusal();
         std::vector<std::string> asks;
@@ -1255,6 +1260,7 @@ private:
         : replica_(std::move(replica)), number_(number), offer_(offer) {}
 
     detail::ReplicaHandle *at() { return replica_.get(); }
+    const detail::ReplicaHandle *at() const { return replica_.get(); }
 
     static Result<std::optional<std::string>> or_none(Result<std::string> ask) {
         if (!ask) return ask.refusal();
@@ -1462,7 +1468,7 @@ public:
     }
 
     /// Returns the format, the range and the number of entries.
-    Result<About> about() { return detail::about(at()); }
+    Result<About> about() const { return detail::about(at()); }
 
     /// Frees the memory now.
     void close() noexcept { handle_.close(); }
@@ -1473,7 +1479,7 @@ public:
     /// node number.
     /// Refused, in order: BadRing (the limit), JournalFull (more versions are held than the limit, or no numbers are
     /// left).
-    Result<Replica> renew(std::uint64_t limit = ANTIENTROPY_ENTRIES_MAX) {
+    Result<Replica> renew(std::uint64_t limit = ANTIENTROPY_ENTRIES_MAX) const {
         Replica made;
         const auto number = c::antientropy_renew(at(), made.at(), limit);
         return detail::result(number, std::move(made));
@@ -1484,7 +1490,7 @@ public:
     Result<void> migrate() { return detail::done(c::antientropy_migrate(at())); }
 
     /// Returns the counts of entries, dirty nodes and sessions.
-    Result<Counts> count() {
+    Result<Counts> count() const {
         Counts counts = {};
         const auto number = c::antientropy_count(at(), &counts);
         return detail::result(number, counts);
@@ -1492,7 +1498,7 @@ public:
 
     /// Returns the size: lengths of contents in bytes; the memory differs. It looks at each chunk of 15 rows and
     /// at the digests of each session's leaves: call it once in some seconds, not at each put.
-    Result<Bytes> bytes() {
+    Result<Bytes> bytes() const {
         Bytes bytes = {};
         const auto number = c::antientropy_bytes(at(), &bytes);
         return detail::result(number, bytes);
@@ -1537,7 +1543,7 @@ public:
     }
 
     /// Returns all versions held for a key. Several are concurrent.
-    Result<std::vector<Version>> get(std::string_view key) {
+    Result<std::vector<Version>> get(std::string_view key) const {
         std::vector<Version> versions;
         std::uint64_t held = 1;
         while (versions.size() < held) {
@@ -1550,7 +1556,7 @@ public:
     }
 
     /// Goes through the versions held for a key, and reads each when it is its turn: don't change the key meanwhile.
-    Sequence<Version> versions(std::string_view key) {
+    Sequence<Version> versions(std::string_view key) const {
         const auto next = [replica = handle_.share(), of = std::string(key), index = std::uint64_t(0)]() mutable {
             return detail::read_version(replica.get(), of, index++);
         };
@@ -1558,50 +1564,50 @@ public:
     }
 
     /// Returns the number of versions held for a key.
-    Result<std::uint64_t> count_versions(std::string_view key) {
+    Result<std::uint64_t> count_versions(std::string_view key) const {
         std::uint64_t count = 0;
         const auto number = c::antientropy_versions(at(), detail::data(key), key.size(), &count);
         return detail::result(number, count);
     }
 
     /// Returns one of the versions held for a key, by its index from 0, or none.
-    Result<std::optional<Version>> read(std::string_view key, std::uint64_t index) {
+    Result<std::optional<Version>> read(std::string_view key, std::uint64_t index) const {
         return detail::read_version(at(), key, index);
     }
 
     /// Returns the value of one of the versions held for a key, by its index from 0, or none.
-    Result<std::optional<Value>> value(std::string_view key, std::uint64_t index) {
+    Result<std::optional<Value>> value(std::string_view key, std::uint64_t index) const {
         return detail::or_none(detail::value([&](auto... out) {
             return c::antientropy_value(at(), detail::data(key), key.size(), index, out...);
         }));
     }
 
     /// Returns the clock of one of the versions held for a key, by its index from 0, or none.
-    Result<std::optional<Clock>> clock(std::string_view key, std::uint64_t index) {
+    Result<std::optional<Clock>> clock(std::string_view key, std::uint64_t index) const {
         return detail::or_none(detail::clock([&](auto... out) {
             return c::antientropy_clock(at(), detail::data(key), key.size(), index, out...);
         }));
     }
 
     /// Returns the text of the row of a key (docs/FORMATS.md), or no bytes if none is held. Refused: BadKey.
-    Result<std::string> row(std::string_view key) {
+    Result<std::string> row(std::string_view key) const {
         return detail::bytes(
             [&](auto... out) { return c::antientropy_get(at(), detail::data(key), key.size(), out...); });
     }
 
     /// Goes through the keys, leaf by leaf. Keys that are put meanwhile are met if they lie ahead.
-    Sequence<std::string> keys() {
+    Sequence<std::string> keys() const {
         return Sequence<std::string>(detail::Keys(detail::ReplicaLeafKeys(handle_.share(), 0)));
     }
 
     /// Goes through the keys of a leaf, from 0, in ascending order. Refused: BadMessage (the tree has no such leaf).
-    Sequence<std::string> keys_of(std::uint64_t leaf) {
+    Sequence<std::string> keys_of(std::uint64_t leaf) const {
         return Sequence<std::string>(detail::ReplicaLeafKeys(handle_.share(), leaf));
     }
 
     /// Returns the least key of a leaf above a key, or the first one for a key of no bytes; none if no key follows.
     /// Refused: BadMessage (the tree has no such leaf).
-    Result<std::optional<std::string>> key_after(std::uint64_t leaf, std::string_view key) {
+    Result<std::optional<std::string>> key_after(std::uint64_t leaf, std::string_view key) const {
         return detail::or_none(detail::bytes([&](auto... out) {
             return c::antientropy_key_after(at(), leaf, detail::data(key), key.size(), out...);
         }));
@@ -1613,7 +1619,7 @@ public:
     /// from the count of entries that it has. It lacks none after a renewal if it had all before.
     /// Refused: BadPosition (the number is over the count of entries, or below that at the last renewal: entries were
     /// missed, or it is another replica's number; read from `first` of the counts, which gives the whole journal).
-    Result<Sequence<Entry>> entries(std::uint64_t start = 0) {
+    Result<Sequence<Entry>> entries(std::uint64_t start = 0) const {
         const auto checked = detail::check_position(at(), start);
         if (!checked) return checked.refusal();
         return Sequence<Entry>(detail::Entries(handle_.share(), start));
@@ -1621,11 +1627,12 @@ public:
 
     /// Returns some entries of the journal, from a number on, packed: about 1 MiB, and at least one if any is left.
     /// Refused: BadPosition, as `entries`.
-    Result<Packed> packed_entries(std::uint64_t start) { return detail::packed(at(), start); }
+    Result<Packed> packed_entries(std::uint64_t start) const { return detail::packed(at(), start); }
 
     /// Returns the greatest counter of a node in the clocks of a key's versions among the journal's entries of numbers
     /// below `entries`, or 0. Refused: BadClock (the node is 0 or over 65,535).
-    Result<std::uint64_t> top_counter(std::uint64_t node, std::string_view key, std::uint64_t entries = UINT64_MAX) {
+    Result<std::uint64_t> top_counter(std::uint64_t node, std::string_view key,
+                                      std::uint64_t entries = UINT64_MAX) const {
         std::uint64_t counter = 0;
         const auto number =
             c::antientropy_top_counter(at(), node, detail::data(key), key.size(), entries, &counter);
@@ -1633,7 +1640,9 @@ public:
     }
 
     /// Returns an entry of the journal, by its number, or none.
-    Result<std::optional<Entry>> entry(std::uint64_t number) { return detail::or_none(detail::entry(at(), number)); }
+    Result<std::optional<Entry>> entry(std::uint64_t number) const {
+        return detail::or_none(detail::entry(at(), number));
+    }
 
     // ---- the tree, offers and checkpoints
 
@@ -1656,9 +1665,9 @@ public:
         return Snapshot::made_by([&](auto *into) { return c::antientropy_snapshot(at(), into); });
     }
 
-    /// Returns a snapshot as `snapshot` does, of a replica that threads share by a lock: a std::mutex, say. The caller
-    /// doesn't hold it. It is free while nodes are hashed, so other threads put. The rows are those of a moment of the
-    /// call: offer them when the entries that the snapshot counts are on the disk.
+    /// Returns a snapshot as `snapshot` does, of a replica that threads share by a lock: a std::shared_mutex, say. The
+    /// caller doesn't hold it. It is free while nodes are hashed, so other threads put. The rows are those of a moment
+    /// of the call: offer them when the entries that the snapshot counts are on the disk.
     template <class Lock>
     Result<Snapshot> snapshot_beside(Lock &lock) {
         return at_moment(lock, [&] { return moment(); });
@@ -1725,7 +1734,7 @@ public:
 
     /// Takes a portion of the moment's nodes, those that `hash_moment` would hash: any thread hashes them. It has no
     /// node if the moment is whole, or if there is none.
-    Result<Portion> take_portion(std::uint64_t most) {
+    Result<Portion> take_portion(std::uint64_t most) const {
         Portion taken;
         const auto number = c::antientropy_take_portion(at(), most, taken.at());
         return detail::result(number, std::move(taken));
@@ -1741,7 +1750,7 @@ public:
     }
 
     /// Returns a snapshot of the moment. Refused: Dirty (there is none, or it isn't whole).
-    Result<Snapshot> moment() {
+    Result<Snapshot> moment() const {
         return Snapshot::made_by([&](auto *into) { return c::antientropy_moment(at(), into); });
     }
 
@@ -1781,9 +1790,9 @@ public:
         return sync_beside(none, partner, offer, reach, in_flight, most_bad);
     }
 
-    /// Takes versions as `sync` does, of a replica that threads share by a lock: a std::mutex, say. The caller doesn't
-    /// hold it. It is free while nodes are hashed and while `reach` waits, so other threads put. Don't migrate the
-    /// replica meanwhile: that ends the session. Refused as `sync`.
+    /// Takes versions as `sync` does, of a replica that threads share by a lock: a std::shared_mutex, say. The caller
+    /// doesn't hold it. It is free while nodes are hashed and while `reach` waits, so other threads put. Don't migrate
+    /// the replica meanwhile: that ends the session. Refused as `sync`.
     template <class Lock>
     Result<Synced> sync_beside(Lock &lock, std::uint64_t partner, std::string_view offer, const Reach &reach,
                                std::size_t in_flight = 256, std::uint64_t most_bad = 8) {
@@ -1801,6 +1810,7 @@ private:
     Replica() = default;
 
     detail::ReplicaHandle *at() { return handle_.get(); }
+    const detail::ReplicaHandle *at() const { return handle_.get(); }
 
     static FileError refused(Refusal refusal) { return {Fault::Refused, refusal}; }
 

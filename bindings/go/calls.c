@@ -41,7 +41,7 @@ static uint32_t fit(uint64_t bytes, size_t out_len, uint64_t *need)
     return bytes <= out_len ? ANTIENTROPY_OK : ANTIENTROPY_SMALL;
 }
 
-uint32_t antientropy_go_read(antientropy_go_handle *replica, const uint8_t *key, size_t key_len, uint64_t index,
+uint32_t antientropy_go_read(const antientropy_go_handle *replica, const uint8_t *key, size_t key_len, uint64_t index,
                              uint64_t most, uint8_t *out, size_t out_len, uint64_t *need)
 {
     struct antientropy_go_record spare;
@@ -53,7 +53,7 @@ uint32_t antientropy_go_read(antientropy_go_handle *replica, const uint8_t *key,
         struct antientropy_go_record *record = fits ? (struct antientropy_go_record *)(out + used) : &spare;
         uint8_t *bytes = fits ? bytes_of(record) : out;
         size_t len = fits ? out_len - used - sizeof spare : 0;
-        uint32_t got = antientropy_read((struct antientropy_replica *)replica, key, key_len, index, &reading,
+        uint32_t got = antientropy_read((const struct antientropy_replica *)replica, key, key_len, index, &reading,
                                         record->clock, ANTIENTROPY_CLOCK_MAX, bytes, len);
         if (got == ANTIENTROPY_NO_VERSION)
             break;
@@ -71,7 +71,7 @@ uint32_t antientropy_go_read(antientropy_go_handle *replica, const uint8_t *key,
     return fit(used, out_len, need);
 }
 
-uint32_t antientropy_go_entry(struct antientropy_replica *replica, uint64_t number, uint8_t *out, size_t out_len,
+uint32_t antientropy_go_entry(const struct antientropy_replica *replica, uint64_t number, uint8_t *out, size_t out_len,
                               uint64_t *need)
 {
     struct antientropy_go_record *record = (struct antientropy_go_record *)out;
@@ -126,7 +126,7 @@ uint32_t antientropy_go_hint_next(struct antientropy_hints *hints, uint64_t owne
     return antientropy_go_hint(hints, id, out, out_len, need);
 }
 
-uint32_t antientropy_go_asks(struct antientropy_replica *replica, uint64_t session, uint32_t number, uint8_t *out,
+uint32_t antientropy_go_asks(const struct antientropy_replica *replica, uint64_t session, uint32_t number, uint8_t *out,
                              size_t out_len, uint64_t *need)
 {
     uint64_t count, len;

@@ -42,11 +42,11 @@ struct antientropy_go_record {
 #define ANTIENTROPY_GO_ROOM_MIN (sizeof(struct antientropy_go_record) + ANTIENTROPY_KEY_MAX)
 
 /* Writes a record for each version held for a key, from an index on: at most `most`. If there is none, `need` is 0. */
-uint32_t antientropy_go_read(antientropy_go_handle *replica, const uint8_t *key, size_t key_len, uint64_t index,
+uint32_t antientropy_go_read(const antientropy_go_handle *replica, const uint8_t *key, size_t key_len, uint64_t index,
                              uint64_t most, uint8_t *out, size_t out_len, uint64_t *need);
 
 /* Writes the record of an entry. */
-uint32_t antientropy_go_entry(struct antientropy_replica *replica, uint64_t number, uint8_t *out, size_t out_len,
+uint32_t antientropy_go_entry(const struct antientropy_replica *replica, uint64_t number, uint8_t *out, size_t out_len,
                               uint64_t *need);
 
 /* Writes the record of a hint. */
@@ -58,7 +58,7 @@ uint32_t antientropy_go_hint_next(struct antientropy_hints *hints, uint64_t owne
                                   size_t out_len, uint64_t *need);
 
 /* Writes the asks for all outstanding nodes of a session, one after another. */
-uint32_t antientropy_go_asks(struct antientropy_replica *replica, uint64_t session, uint32_t number, uint8_t *out,
+uint32_t antientropy_go_asks(const struct antientropy_replica *replica, uint64_t session, uint32_t number, uint8_t *out,
                              size_t out_len, uint64_t *need);
 
 #endif

@@ -15,10 +15,27 @@ var fixed = map[string]bool{
 	"Snapshot.Config": true, "Snapshot.Entries": true, "Session.Number": true, "Session.OfferNumber": true,
 }
 
+// Methods of a replica, a snapshot or a session that change it: all others are made at once.
+var changes = map[string]bool{
+	"Replica.Accept": true, "Replica.Close": true, "Replica.DropMoment": true, "Replica.DropSessions": true,
+	"Replica.HashMoment": true, "Replica.Hold": true, "Replica.LoadFormat": true, "Replica.LoadRows": true,
+	"Replica.Migrate": true, "Replica.Open": true, "Replica.OpenAtMoment": true, "Replica.OpenIfClean": true,
+	"Replica.Put": true, "Replica.PutTombstone": true, "Replica.PutTombstoneUnread": true, "Replica.PutUnread": true,
+	"Replica.Rehash": true, "Replica.RehashSome": true, "Replica.Root": true, "Replica.Save": true,
+	"Replica.Snapshot": true, "Replica.Sync": true, "Replica.SyncWithin": true, "Snapshot.Close": true,
+	"Session.Cancel": true, "Session.Take": true,
+}
+
+// A locker is the lock of a handle.
+type locker interface {
+	sync.Locker
+	TryLock() bool
+}
+
 // A handle is an object that holds nothing, with the lock that its methods take.
 type handle struct {
 	object any
-	lock   *sync.Mutex
+	lock   locker
 }
 
 // emptyHandles returns an object of each type with methods that call the library.
@@ -64,7 +81,7 @@ func callMethod(method reflect.Value) error {
 }
 
 // eachMethod calls a function with each method that reads one of the handles.
-func eachMethod(handles []handle, call func(name string, method reflect.Value, lock *sync.Mutex)) {
+func eachMethod(handles []handle, call func(name string, method reflect.Value, lock locker)) {
 	for _, handle := range handles {
 		object := reflect.ValueOf(handle.object)
 		for i := 0; i < object.NumMethod(); i++ {
@@ -78,7 +95,7 @@ func eachMethod(handles []handle, call func(name string, method reflect.Value, l
 
 func TestEachMethodOfAHandleThatHoldsNothing(t *testing.T) {
 	count := 0
-	eachMethod(append(emptyHandles(), zeroHandles()...), func(name string, method reflect.Value, _ *sync.Mutex) {
+	eachMethod(append(emptyHandles(), zeroHandles()...), func(name string, method reflect.Value, _ locker) {
 		err := callMethod(method)
 		isFree := method.Type().NumIn() == 0 && method.Type().NumOut() == 1 && err == nil
 		if err != ErrEmpty && !isFree {
@@ -91,19 +108,29 @@ func TestEachMethodOfAHandleThatHoldsNothing(t *testing.T) {
 	}
 }
 
+// started calls a method in another goroutine. It returns a channel that is closed when the method has returned, and
+// true if it has already.
+func started(method reflect.Value) (done chan bool, ended bool) {
+	done = make(chan bool)
+	go func() {
+		callMethod(method)
+		close(done)
+	}()
+	select {
+	case <-done:
+		return done, true
+	case <-time.After(5 * time.Millisecond):
+		return done, false
+	}
+}
+
 // No method passes a lock that is held, and each gives it back.
 func TestEachMethodTakesTheLock(t *testing.T) {
-	eachMethod(emptyHandles(), func(name string, method reflect.Value, lock *sync.Mutex) {
-		done := make(chan bool)
+	eachMethod(emptyHandles(), func(name string, method reflect.Value, lock locker) {
 		lock.Lock()
-		go func() {
-			callMethod(method)
-			close(done)
-		}()
-		select {
-		case <-done:
+		done, ended := started(method)
+		if ended {
 			t.Errorf("%s doesn't take the lock", name)
-		case <-time.After(5 * time.Millisecond):
 		}
 		lock.Unlock()
 		<-done
@@ -112,6 +139,30 @@ func TestEachMethodTakesTheLock(t *testing.T) {
 		}
 		lock.Unlock()
 	})
+}
+
+// A method that reads waits for no other read, and one that changes something waits for all.
+func TestReadsAreMadeAtOnce(t *testing.T) {
+	count := 0
+	eachMethod(emptyHandles(), func(name string, method reflect.Value, lock locker) {
+		shared, isShared := lock.(*sync.RWMutex)
+		if !isShared {
+			return
+		}
+		shared.RLock()
+		done, ended := started(method)
+		shared.RUnlock()
+		<-done
+		if changes[name] {
+			count++
+		}
+		if ended == changes[name] {
+			t.Errorf("%s waits for a read: %v", name, !ended)
+		}
+	})
+	if count != len(changes) {
+		t.Errorf("there are %d methods that change something", count)
+	}
 }
 
 func TestCloseTwice(t *testing.T) {

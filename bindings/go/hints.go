@@ -18,7 +18,6 @@ type Hints struct {
 type hints struct {
 	lock   sync.Mutex
 	handle C.struct_antientropy_hints
-	room   room
 }
 
 // A Hint is a version that is kept for its owner, a node that is down.
@@ -101,8 +100,8 @@ func (h *Hints) Keep(owner uint16, key []byte, version Version) (number uint64, 
 func (h *Hints) NextPending(owner uint16, after uint64) (hint Hint, found bool, err error) {
 	held := h.at.locked()
 	defer held.lock.Unlock()
-	return held.read(func(out *C.uint8_t, outLen C.size_t) C.uint32_t {
-		return C.antientropy_go_hint_next(&held.handle, C.uint64_t(owner), C.uint64_t(after), out, outLen, &held.room.need)
+	return held.read(func(out *C.uint8_t, outLen C.size_t, need *C.uint64_t) C.uint32_t {
+		return C.antientropy_go_hint_next(&held.handle, C.uint64_t(owner), C.uint64_t(after), out, outLen, need)
 	})
 }
 
@@ -121,14 +120,16 @@ func (h *Hints) Pending(owner uint16) *Scanner[Hint] {
 func (h *Hints) Hint(number uint64) (hint Hint, found bool, err error) {
 	held := h.at.locked()
 	defer held.lock.Unlock()
-	return held.read(func(out *C.uint8_t, outLen C.size_t) C.uint32_t {
-		return C.antientropy_go_hint(&held.handle, C.uint64_t(number), out, outLen, &held.room.need)
+	return held.read(func(out *C.uint8_t, outLen C.size_t, need *C.uint64_t) C.uint32_t {
+		return C.antientropy_go_hint(&held.handle, C.uint64_t(number), out, outLen, need)
 	})
 }
 
 // read returns the hint that a call writes as a record. The caller holds the lock.
-func (h *hints) read(call func(out *C.uint8_t, outLen C.size_t) C.uint32_t) (hint Hint, found bool, err error) {
-	bytes, number := h.room.fill(call)
+func (h *hints) read(call roomCall) (hint Hint, found bool, err error) {
+	room := takeRoom()
+	defer room.giveBack()
+	bytes, number := room.fill(call)
 	if found, err = isFound(number); !found {
 		return Hint{}, false, err
 	}

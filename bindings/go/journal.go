@@ -29,10 +29,12 @@ type Entry struct {
 
 // Entry returns an entry of the journal, by its number.
 func (r *Replica) Entry(number uint64) (entry Entry, found bool, err error) {
-	held := r.at.locked()
-	defer held.lock.Unlock()
-	bytes, got := held.room.fill(func(out *C.uint8_t, outLen C.size_t) C.uint32_t {
-		return C.antientropy_go_entry(&held.handle, C.uint64_t(number), out, outLen, &held.room.need)
+	held := r.at.reading()
+	defer held.lock.RUnlock()
+	room := takeRoom()
+	defer room.giveBack()
+	bytes, got := room.fill(func(out *C.uint8_t, outLen C.size_t, need *C.uint64_t) C.uint32_t {
+		return C.antientropy_go_entry(&held.handle, C.uint64_t(number), out, outLen, need)
 	})
 	if found, err = isFound(got); !found {
 		return Entry{}, false, err
@@ -65,8 +67,8 @@ func (r *Replica) Entries(start uint64) *Scanner[Entry] {
 // journal's entries of numbers below `entries` (all, if there are fewer). Refused as [ErrBadClock] if the node is 0.
 func (r *Replica) TopCounter(node uint16, key []byte, entries uint64) (uint64, error) {
 	var counter C.uint64_t
-	held := r.at.locked()
-	defer held.lock.Unlock()
+	held := r.at.reading()
+	defer held.lock.RUnlock()
 	err := check(C.antientropy_top_counter(&held.handle, C.uint64_t(node), bytesAt(key), C.size_t(len(key)),
 		C.uint64_t(entries), &counter))
 	return uint64(counter), err

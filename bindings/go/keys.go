@@ -7,11 +7,10 @@ import "C"
 //
 // Refused as [ErrBadMessage] if the tree has no such leaf.
 func (r *Replica) KeyAfter(leaf uint16, key []byte) (next []byte, found bool, err error) {
-	held := r.at.locked()
-	defer held.lock.Unlock()
-	return held.room.copyIfFound(func(out *C.uint8_t, outLen C.size_t) C.uint32_t {
-		return C.antientropy_key_after(&held.handle, C.uint64_t(leaf), bytesAt(key), C.size_t(len(key)), out, outLen,
-			&held.room.need)
+	held := r.at.reading()
+	defer held.lock.RUnlock()
+	return bytesIfFound(func(out *C.uint8_t, outLen C.size_t, need *C.uint64_t) C.uint32_t {
+		return C.antientropy_key_after(&held.handle, C.uint64_t(leaf), bytesAt(key), C.size_t(len(key)), out, outLen, need)
 	})
 }
 
@@ -59,8 +58,8 @@ func scanKeysOf(leaf uint16, next keyNext) *Scanner[[]byte] {
 }
 
 func (r *Replica) keyNext(seen *seenKey) (next []byte, found bool, err error) {
-	held := r.at.locked()
-	defer held.lock.Unlock()
+	held := r.at.reading()
+	defer held.lock.RUnlock()
 	return seen.read(C.antientropy_key_next(&held.handle, seen.leaf, bytesAt(seen.key[:]), KeyMax, &seen.len))
 }
 
@@ -76,8 +75,8 @@ func (r *Replica) KeysOf(leaf uint16) *Scanner[[]byte] {
 }
 
 func (s *Snapshot) keyNext(seen *seenKey) (next []byte, found bool, err error) {
-	held := s.at.locked()
-	defer held.lock.Unlock()
+	held := s.at.reading()
+	defer held.lock.RUnlock()
 	return seen.read(C.antientropy_snapshot_key_next(&held.handle, seen.leaf, bytesAt(seen.key[:]), KeyMax, &seen.len))
 }
 

@@ -6,7 +6,8 @@
 // A call that the library refuses returns a [Refusal] as its error, and changes nothing: compare it by [errors.Is] with
 // [ErrStaleContext], [ErrCrowded] and so on. Absence is no error: the result named found is false then.
 //
-// Goroutines may share all objects, since each handle has a lock. Close frees the memory, and so does the garbage
+// Goroutines may share all objects, since each handle has a lock. They read a replica or a snapshot at once. A call
+// that changes it waits for those reads, and others wait for it. Close frees the memory, and so does the garbage
 // collector later. Calls after Close are refused as [ErrEmpty].
 //
 // The page docs/EMBEDDING_C.md has the duties of the program, above all that counters don't go back when it restarts.

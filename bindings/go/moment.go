@@ -52,8 +52,8 @@ func (r *Replica) HashMoment(most uint64) (left uint64, err error) {
 
 // Moment returns a snapshot of the moment. Refused as [ErrDirty] if there is no moment, or if it isn't whole.
 func (r *Replica) Moment() (*Snapshot, error) {
-	held := r.at.locked()
-	defer held.lock.Unlock()
+	held := r.at.reading()
+	defer held.lock.RUnlock()
 	return held.moment()
 }
 

@@ -22,8 +22,8 @@ func (r *Replica) PackedEntries(start uint64) (Packed, error) {
 
 // pack returns packed entries in a room, or in another one if there is none, or if no entry fits.
 func (r *Replica) pack(start uint64, room []byte) (Packed, error) {
-	held := r.at.locked()
-	defer held.lock.Unlock()
+	held := r.at.reading()
+	defer held.lock.RUnlock()
 	return held.pack(start, room)
 }
 

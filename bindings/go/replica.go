@@ -17,16 +17,16 @@ type Config struct {
 	Limit  uint64 // maximum number of the journal's entries, 1 to EntriesMax
 }
 
-// A Replica is a replica of one range of a ring. Goroutines may share it. A copy is the same replica.
+// A Replica is a replica of one range of a ring. Goroutines may share it, and read it at once. A copy is the same
+// replica.
 type Replica struct {
 	at *replica // so a copy has no handle of its own, which would be freed twice
 }
 
 // A replica is what a [Replica] and its copies share.
 type replica struct {
-	lock   sync.Mutex
+	lock   sync.RWMutex // goroutines read at once
 	handle C.struct_antientropy_replica
-	room   room
 }
 
 // Counts are the counts of a replica.
@@ -102,6 +102,15 @@ func (r *replica) locked() *replica {
 	return r
 }
 
+// reading takes the lock, which its caller gives back, for calls that only read.
+func (r *replica) reading() *replica {
+	if r == nil {
+		r = new(replica)
+	}
+	r.lock.RLock()
+	return r
+}
+
 // owned returns a replica that was made. The garbage collector closes it, once no copy is used.
 func (r *replica) owned() *Replica {
 	runtime.SetFinalizer(r, (*replica).close)
@@ -123,8 +132,8 @@ func (r *replica) close() {
 //
 // Refused as [ErrBadRing] (the limit) or [ErrJournalFull] (more versions are held than the limit).
 func (r *Replica) Renew(limit uint64) (*Replica, error) {
-	held := r.at.locked()
-	defer held.lock.Unlock()
+	held := r.at.reading()
+	defer held.lock.RUnlock()
 	renewed := new(replica)
 	if err := check(C.antientropy_renew(&held.handle, &renewed.handle, C.uint64_t(limit))); err != nil {
 		return nil, err
@@ -147,16 +156,16 @@ func (r *Replica) Migrate() error {
 
 // Config returns the numbers of the replica: zeros after [Replica.Close]. Its format is 2 after [Replica.Migrate].
 func (r *Replica) Config() Config {
-	held := r.at.locked()
-	defer held.lock.Unlock()
+	held := r.at.reading()
+	defer held.lock.RUnlock()
 	config, _, _ := held.describe()
 	return config
 }
 
 // About returns the range of the replica, and the number of its next entry.
 func (r *Replica) About() (About, error) {
-	held := r.at.locked()
-	defer held.lock.Unlock()
+	held := r.at.reading()
+	defer held.lock.RUnlock()
 	return held.about()
 }
 
@@ -188,8 +197,8 @@ func (r *replica) describe() (Config, Counts, error) {
 
 // Count returns the counts of entries, dirty nodes and sessions, and of the entries at the last whole moment.
 func (r *Replica) Count() (Counts, error) {
-	held := r.at.locked()
-	defer held.lock.Unlock()
+	held := r.at.reading()
+	defer held.lock.RUnlock()
 	return held.count()
 }
 
@@ -212,8 +221,8 @@ func (r *replica) count() (Counts, error) {
 // call it once in some seconds, not at each put.
 func (r *Replica) Bytes() (Bytes, error) {
 	var bytes C.struct_antientropy_bytes
-	held := r.at.locked()
-	defer held.lock.Unlock()
+	held := r.at.reading()
+	defer held.lock.RUnlock()
 	err := check(C.antientropy_bytes(&held.handle, &bytes))
 	return Bytes{Rows: uint64(bytes.rows), Journal: uint64(bytes.journal), Sessions: uint64(bytes.sessions)}, err
 }

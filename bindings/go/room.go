@@ -3,7 +3,10 @@ package antientropy
 // #include "calls.h"
 import "C"
 
-import "unsafe"
+import (
+	"sync"
+	"unsafe"
+)
 
 const (
 	// roomLen is the number of bytes of a new room. A longer result needs a second call.
@@ -17,23 +20,40 @@ const (
 // (a room that is too short for the calls of calls.h doesn't compile)
 const _ = uint(roomLen - C.ANTIENTROPY_GO_ROOM_MIN)
 
-// A room has the memory for the result of a call. The lock of its handle guards it.
+// A roomCall is a call that writes bytes. It gets the place and the length of a room, and the place of the length that
+// it needs.
+type roomCall func(out *C.uint8_t, outLen C.size_t, need *C.uint64_t) C.uint32_t
+
+// A room has the memory for the result of a call. One call uses it at a time.
 type room struct {
 	bytes []byte
 	need  C.uint64_t
 }
 
+// rooms has the rooms that no call uses. Goroutines read a handle at once, so a handle has no room of its own.
+var rooms = sync.Pool{New: func() any { return new(room) }}
+
+// takeRoom returns a room, which its caller gives back.
+func takeRoom() *room {
+	return rooms.Get().(*room)
+}
+
+// giveBack gives a room back. Its bytes are no longer the caller's then.
+func (r *room) giveBack() {
+	rooms.Put(r)
+}
+
 // fill makes a call that writes bytes, a second time if the first one has too little room. It returns the bytes in the
 // room, and the call's number.
-func (r *room) fill(call func(out *C.uint8_t, outLen C.size_t) C.uint32_t) ([]byte, C.uint32_t) {
+func (r *room) fill(call roomCall) ([]byte, C.uint32_t) {
 	if r.bytes == nil {
 		r.bytes = make([]byte, roomLen)
 	}
 	bytes := r.bytes
-	number := call(bytesAt(bytes), C.size_t(len(bytes)))
+	number := call(bytesAt(bytes), C.size_t(len(bytes)), &r.need)
 	if number == C.ANTIENTROPY_SMALL {
 		bytes = make([]byte, r.need)
-		number = call(bytesAt(bytes), C.size_t(len(bytes)))
+		number = call(bytesAt(bytes), C.size_t(len(bytes)), &r.need)
 	}
 	if number != C.ANTIENTROPY_OK {
 		return nil, number
@@ -44,23 +64,31 @@ func (r *room) fill(call func(out *C.uint8_t, outLen C.size_t) C.uint32_t) ([]by
 	return bytes[:r.need], number
 }
 
-// copy returns the bytes that a call writes.
-func (r *room) copy(call func(out *C.uint8_t, outLen C.size_t) C.uint32_t) ([]byte, error) {
-	bytes, number := r.fill(call)
-	return clone(bytes), check(number)
+// copyOf returns the bytes that a call writes, and the call's number.
+func copyOf(call roomCall) ([]byte, C.uint32_t) {
+	room := takeRoom()
+	defer room.giveBack()
+	bytes, number := room.fill(call)
+	return clone(bytes), number
 }
 
-// copyIfAny returns the bytes that a call writes, and false if there are none.
-func (r *room) copyIfAny(call func(out *C.uint8_t, outLen C.size_t) C.uint32_t) ([]byte, bool, error) {
-	bytes, err := r.copy(call)
+// bytesOf returns the bytes that a call writes.
+func bytesOf(call roomCall) ([]byte, error) {
+	bytes, number := copyOf(call)
+	return bytes, check(number)
+}
+
+// bytesIfAny returns the bytes that a call writes, and false if there are none.
+func bytesIfAny(call roomCall) ([]byte, bool, error) {
+	bytes, err := bytesOf(call)
 	return bytes, len(bytes) > 0, err
 }
 
-// copyIfFound returns the bytes that a call writes, and false if it finds nothing.
-func (r *room) copyIfFound(call func(out *C.uint8_t, outLen C.size_t) C.uint32_t) ([]byte, bool, error) {
-	bytes, number := r.fill(call)
+// bytesIfFound returns the bytes that a call writes, and false if it finds nothing.
+func bytesIfFound(call roomCall) ([]byte, bool, error) {
+	bytes, number := copyOf(call)
 	found, err := isFound(number)
-	return clone(bytes), found, err
+	return bytes, found, err
 }
 
 // A record is a version that a call of calls.h wrote to the room, with the bytes of its key and its value.

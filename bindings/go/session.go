@@ -136,8 +136,8 @@ func (s *Session) OfferNumber() uint32 {
 // State returns the state of the session.
 func (s *Session) State() (State, error) {
 	var state C.uint64_t
-	held := s.replica.locked()
-	defer held.lock.Unlock()
+	held := s.replica.reading()
+	defer held.lock.RUnlock()
 	err := check(C.antientropy_session(&held.handle, C.uint64_t(s.number), &state))
 	return State(state), err
 }
@@ -145,18 +145,18 @@ func (s *Session) State() (State, error) {
 // Outstanding returns the number of nodes that are outstanding: 0 if the session has ended.
 func (s *Session) Outstanding() (uint64, error) {
 	var count C.uint64_t
-	held := s.replica.locked()
-	defer held.lock.Unlock()
+	held := s.replica.reading()
+	defer held.lock.RUnlock()
 	err := check(C.antientropy_outstanding(&held.handle, C.uint64_t(s.number), &count))
 	return uint64(count), err
 }
 
 // Ask returns the ask for the first outstanding node, and false if there is none.
 func (s *Session) Ask() (ask []byte, found bool, err error) {
-	held := s.replica.locked()
-	defer held.lock.Unlock()
-	return held.room.copyIfAny(func(out *C.uint8_t, outLen C.size_t) C.uint32_t {
-		return C.antientropy_ask(&held.handle, C.uint64_t(s.number), C.uint32_t(s.offer), out, outLen, &held.room.need)
+	held := s.replica.reading()
+	defer held.lock.RUnlock()
+	return bytesIfAny(func(out *C.uint8_t, outLen C.size_t, need *C.uint64_t) C.uint32_t {
+		return C.antientropy_ask(&held.handle, C.uint64_t(s.number), C.uint32_t(s.offer), out, outLen, need)
 	})
 }
 
@@ -164,20 +164,20 @@ func (s *Session) Ask() (ask []byte, found bool, err error) {
 //
 // Each answer that is taken changes the places.
 func (s *Session) AskAt(place uint64) (ask []byte, found bool, err error) {
-	held := s.replica.locked()
-	defer held.lock.Unlock()
-	return held.room.copyIfAny(func(out *C.uint8_t, outLen C.size_t) C.uint32_t {
+	held := s.replica.reading()
+	defer held.lock.RUnlock()
+	return bytesIfAny(func(out *C.uint8_t, outLen C.size_t, need *C.uint64_t) C.uint32_t {
 		return C.antientropy_ask_at(&held.handle, C.uint64_t(s.number), C.uint64_t(place), C.uint32_t(s.offer), out,
-			outLen, &held.room.need)
+			outLen, need)
 	})
 }
 
 // Asks returns the asks for all outstanding nodes. They may be sent at once.
 func (s *Session) Asks() ([][]byte, error) {
-	held := s.replica.locked()
-	defer held.lock.Unlock()
-	bytes, err := held.room.copy(func(out *C.uint8_t, outLen C.size_t) C.uint32_t {
-		return C.antientropy_go_asks(&held.handle, C.uint64_t(s.number), C.uint32_t(s.offer), out, outLen, &held.room.need)
+	held := s.replica.reading()
+	defer held.lock.RUnlock()
+	bytes, err := bytesOf(func(out *C.uint8_t, outLen C.size_t, need *C.uint64_t) C.uint32_t {
+		return C.antientropy_go_asks(&held.handle, C.uint64_t(s.number), C.uint32_t(s.offer), out, outLen, need)
 	})
 	asks := make([][]byte, 0, len(bytes)/AskLen)
 	for ; len(bytes) > 0; bytes = bytes[AskLen:] {

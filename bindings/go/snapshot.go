@@ -10,8 +10,8 @@ import (
 
 // A Snapshot has the rows of a replica at one moment.
 //
-// It serves a partner's asks while the replica goes on, and may outlive the replica. Goroutines may share it, and wait
-// for its lock then; by [Snapshot.Share] each has a snapshot of its own. A copy is the same snapshot.
+// It serves a partner's asks while the replica goes on, and may outlive the replica. Goroutines may share it, and read
+// it at once; by [Snapshot.Share] one has a snapshot of its own to close. A copy is the same snapshot.
 type Snapshot struct {
 	at      *snapshot
 	config  Config
@@ -20,9 +20,8 @@ type Snapshot struct {
 
 // A snapshot is what a [Snapshot] and its copies share.
 type snapshot struct {
-	lock   sync.Mutex
+	lock   sync.RWMutex // goroutines read at once
 	handle C.struct_antientropy_snapshot
-	room   room
 }
 
 // Snapshot returns a snapshot of the rows now, which are held as a moment and hashed while other goroutines put. The
@@ -33,8 +32,8 @@ func (r *Replica) Snapshot() (*Snapshot, error) {
 
 // SnapshotIfClean returns a snapshot of the rows now. Refused as [ErrDirty] if a node of the tree has no digest.
 func (r *Replica) SnapshotIfClean() (*Snapshot, error) {
-	held := r.at.locked()
-	defer held.lock.Unlock()
+	held := r.at.reading()
+	defer held.lock.RUnlock()
 	config, counts, err := held.describe()
 	if err != nil {
 		return nil, err
@@ -63,11 +62,11 @@ func (s *snapshot) owned(config Config, entries uint64, number C.uint32_t) (*Sna
 	return &Snapshot{at: s, config: config, entries: entries}, nil
 }
 
-// Share returns another snapshot of the same rows, with a lock of its own. It copies no row. Goroutines that each have
-// one read at the same time. The rows are freed with the last one.
+// Share returns another snapshot of the same rows, with a lock of its own. It copies no row. The rows are freed with
+// the last one.
 func (s *Snapshot) Share() (*Snapshot, error) {
-	held := s.at.locked()
-	defer held.lock.Unlock()
+	held := s.at.reading()
+	defer held.lock.RUnlock()
 	made := new(snapshot)
 	return made.owned(s.config, s.entries, C.antientropy_snapshot_share(&held.handle, &made.handle))
 }
@@ -88,6 +87,15 @@ func (s *snapshot) locked() *snapshot {
 	return s
 }
 
+// reading takes the lock, which its caller gives back, for calls that only read.
+func (s *snapshot) reading() *snapshot {
+	if s == nil {
+		s = new(snapshot)
+	}
+	s.lock.RLock()
+	return s
+}
+
 // close frees the memory.
 func (s *snapshot) close() {
 	held := s.locked()
@@ -103,16 +111,16 @@ func (s *Snapshot) Config() Config {
 // About returns the range of the rows, and the number of the next entry at the moment of the snapshot.
 func (s *Snapshot) About() (About, error) {
 	var about C.struct_antientropy_about
-	held := s.at.locked()
-	defer held.lock.Unlock()
+	held := s.at.reading()
+	defer held.lock.RUnlock()
 	return aboutOf(C.antientropy_snapshot_about(&held.handle, &about), &about)
 }
 
 // Bytes returns the size of the rows in bytes, as [Snapshot.Rows] returns them.
 func (s *Snapshot) Bytes() (uint64, error) {
 	var bytes C.uint64_t
-	held := s.at.locked()
-	defer held.lock.Unlock()
+	held := s.at.reading()
+	defer held.lock.RUnlock()
 	err := check(C.antientropy_snapshot_bytes(&held.handle, &bytes))
 	return uint64(bytes), err
 }
@@ -125,9 +133,10 @@ func (s *Snapshot) Entries() uint64 {
 // Root returns the digest of the root.
 func (s *Snapshot) Root() (Root, error) {
 	var root Root
-	held := s.at.locked()
-	defer held.lock.Unlock()
-	err := check(C.antientropy_root(&held.handle, bytesAt(root[:]), RootLen, &held.room.need))
+	var need C.uint64_t
+	held := s.at.reading()
+	defer held.lock.RUnlock()
+	err := check(C.antientropy_root(&held.handle, bytesAt(root[:]), RootLen, &need))
 	return root, err
 }
 
@@ -135,46 +144,46 @@ func (s *Snapshot) Root() (Root, error) {
 // format 2. Refused as [ErrBadMessage] if the tree has no such node.
 func (s *Snapshot) Digest(depth uint8, index uint16) (Root, error) {
 	var digest Root
-	held := s.at.locked()
-	defer held.lock.Unlock()
+	var need C.uint64_t
+	held := s.at.reading()
+	defer held.lock.RUnlock()
 	err := check(C.antientropy_digest(&held.handle, C.uint64_t(depth), C.uint64_t(index), bytesAt(digest[:]), RootLen,
-		&held.room.need))
+		&need))
 	return digest, err
 }
 
 // Offer returns the message that offers the snapshot. The caller gives each of its offers a number.
 func (s *Snapshot) Offer(number uint32) ([]byte, error) {
-	held := s.at.locked()
-	defer held.lock.Unlock()
-	return held.room.copy(func(out *C.uint8_t, outLen C.size_t) C.uint32_t {
-		return C.antientropy_offer(&held.handle, C.uint32_t(number), out, outLen, &held.room.need)
+	held := s.at.reading()
+	defer held.lock.RUnlock()
+	return bytesOf(func(out *C.uint8_t, outLen C.size_t, need *C.uint64_t) C.uint32_t {
+		return C.antientropy_offer(&held.handle, C.uint32_t(number), out, outLen, need)
 	})
 }
 
 // Serve returns the answer to a partner's ask for the offer of that number. Refused as [ErrBadMessage] or [ErrGone].
 func (s *Snapshot) Serve(number uint32, ask []byte) ([]byte, error) {
-	held := s.at.locked()
-	defer held.lock.Unlock()
-	return held.room.copy(func(out *C.uint8_t, outLen C.size_t) C.uint32_t {
-		return C.antientropy_serve(&held.handle, C.uint32_t(number), bytesAt(ask), C.size_t(len(ask)), out, outLen,
-			&held.room.need)
+	held := s.at.reading()
+	defer held.lock.RUnlock()
+	return bytesOf(func(out *C.uint8_t, outLen C.size_t, need *C.uint64_t) C.uint32_t {
+		return C.antientropy_serve(&held.handle, C.uint32_t(number), bytesAt(ask), C.size_t(len(ask)), out, outLen, need)
 	})
 }
 
 // Rows returns the texts of the rows of a leaf. Refused as [ErrBadMessage] if the tree has no such leaf.
 func (s *Snapshot) Rows(leaf uint16) ([]byte, error) {
-	held := s.at.locked()
-	defer held.lock.Unlock()
-	return held.room.copy(func(out *C.uint8_t, outLen C.size_t) C.uint32_t {
-		return C.antientropy_rows(&held.handle, C.uint64_t(leaf), out, outLen, &held.room.need)
+	held := s.at.reading()
+	defer held.lock.RUnlock()
+	return bytesOf(func(out *C.uint8_t, outLen C.size_t, need *C.uint64_t) C.uint32_t {
+		return C.antientropy_rows(&held.handle, C.uint64_t(leaf), out, outLen, need)
 	})
 }
 
 // Row returns the text of the row of a key (docs/FORMATS.md). Refused as [ErrBadKey].
 func (s *Snapshot) Row(key []byte) (row []byte, found bool, err error) {
-	held := s.at.locked()
-	defer held.lock.Unlock()
-	return held.room.copyIfAny(func(out *C.uint8_t, outLen C.size_t) C.uint32_t {
-		return C.antientropy_snapshot_get(&held.handle, bytesAt(key), C.size_t(len(key)), out, outLen, &held.room.need)
+	held := s.at.reading()
+	defer held.lock.RUnlock()
+	return bytesIfAny(func(out *C.uint8_t, outLen C.size_t, need *C.uint64_t) C.uint32_t {
+		return C.antientropy_snapshot_get(&held.handle, bytesAt(key), C.size_t(len(key)), out, outLen, need)
 	})
 }

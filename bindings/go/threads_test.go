@@ -42,6 +42,55 @@ func TestGoroutinesShareAReplica(t *testing.T) {
 	equal(t, []any{must(other.Count()).Entries, must(other.Root())}, []any{uint64(writers * puts), must(r.Root())})
 }
 
+// read returns the versions held for a key, by calls that must agree, while other goroutines read too.
+func read(t *testing.T, r *antientropy.Replica, key []byte) []antientropy.Version {
+	versions := must(r.Get(key))
+	for n, version := range versions {
+		value, _, found, err := r.Value(key, uint64(n))
+		equal(t, []any{string(value), found, err}, []any{string(key), true, nil})
+		equal(t, string(version.Value), string(key))
+	}
+	return versions
+}
+
+// Goroutines read a replica at once while another one puts, and then one snapshot of it.
+func TestGoroutinesReadAtOnce(t *testing.T) {
+	const readers = 4
+	r := newReplica()
+	var group sync.WaitGroup
+	start := func(reader func()) {
+		group.Add(1)
+		go func() {
+			defer group.Done()
+			reader()
+		}()
+	}
+	for n := 0; n < readers; n++ {
+		start(func() {
+			for found := 0; found < puts; {
+				found = 0
+				for n := 0; n < puts; n++ {
+					found += len(read(t, r, []byte(fmt.Sprintf("%d of 1", n))))
+				}
+			}
+		})
+	}
+	putAll(t, r, 1)
+	group.Wait()
+	s := must(r.Snapshot())
+	want := rowsOf(t, s)
+	for n := 0; n < readers; n++ {
+		start(func() {
+			equal(t, rowsOf(t, s), want)
+			shared := must(s.Share())
+			equal(t, must(shared.Root()), must(s.Root()))
+			check(shared.Close())
+		})
+	}
+	group.Wait()
+	equal(t, len(want), 2*puts)
+}
+
 func TestAGoroutineServesASnapshotWhileAnotherPuts(t *testing.T) {
 	a, b := filled(puts), newReplica()
 	snapshot := must(a.Snapshot())

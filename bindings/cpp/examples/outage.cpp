@@ -27,14 +27,14 @@ std::string count(std::uint64_t number) {
     return std::to_string(number) + (number == 1 ? " version" : " versions");
 }
 
-std::ptrdiff_t count_keys(Replica &replica) {
+std::ptrdiff_t count_keys(const Replica &replica) {
     auto keys = replica.keys();
     return std::distance(keys.begin(), keys.end());
 }
 
 const char *equal(Replica &a, Replica &b) { return a.root().value() == b.root().value() ? "yes" : "no"; }
 
-std::string values(Replica &replica, std::string_view key) {
+std::string values(const Replica &replica, std::string_view key) {
     std::string values;
     for (const auto &version : replica.get(key).value()) values += (values.empty() ? "" : " | ") + version.value;
     return values;

@@ -2,6 +2,7 @@
 #include "support.hpp"
 
 #include <atomic>
+#include <shared_mutex>
 #include <thread>
 
 namespace {
@@ -10,7 +11,7 @@ namespace {
 std::string root_of(int keys) { return sure(filled(keys).root()); }
 
 /// A partner that is called directly.
-Reach reach(Snapshot &snapshot) {
+Reach reach(const Snapshot &snapshot) {
     return [&](const std::vector<std::string> &asks) {
         std::vector<std::optional<std::string>> answers;
         for (const auto &ask : asks) answers.push_back(sure(snapshot.serve(1, ask)));
@@ -128,13 +129,28 @@ void replica_that_is_never_at_rest() {
 /// A replica that threads share by its lock.
 struct Store {
     Replica replica = sure(Replica::make());
-    std::mutex lock;
+    std::shared_mutex lock;
 
     /// Puts after a read.
     void put(std::uint64_t node, std::string_view key) {
-        const std::lock_guard<std::mutex> guard(lock);
+        const std::lock_guard guard(lock);
         sure(replica.put(node, key, "value", sure(merge(sure(replica.get(key))))));
     }
+
+    /// Reads a key by calls that must agree, while other threads read too. Returns true if it has a version.
+    bool read(std::string_view key) {
+        const std::shared_lock guard(lock);
+        const Replica &now = replica;
+        const auto versions = sure(now.get(key));
+        bool right = sure(now.count_versions(key)) == versions.size() && all(now.versions(key)) == versions
+            && sure(now.row(key)).empty() == versions.empty();
+        for (const auto &version : versions) right = right && version.value == "value";
+        if (!right) wrong++;
+        return !versions.empty();
+    }
+
+    /// Number of reads whose calls didn't agree.
+    std::atomic<int> wrong = 0;
 };
 
 /// Puts at random keys of two replicas until it is stopped.
@@ -157,7 +173,7 @@ Snapshot sync(Store &store, Store &partner) {
 }
 
 /// Each snapshot has the versions of the entries that it counts.
-void check_snapshots(Replica &replica, std::vector<Snapshot> snapshots) {
+void check_snapshots(const Replica &replica, std::vector<Snapshot> snapshots) {
     Replica copy = sure(Replica::make());
     std::uint64_t copied = 0;
     for (Snapshot &snapshot : snapshots) {
@@ -185,6 +201,38 @@ void snapshots_and_syncs_while_a_thread_puts() {
     CHECK(sure(a.replica.root()) == sure(b.replica.root()));
     check_snapshots(a.replica, std::move(of_a));
     check_snapshots(b.replica, std::move(of_b));
+}
+
+/// Threads read a replica and its snapshot at once while another one puts.
+void threads_read_at_once() {
+    constexpr int keys = 300;
+    Store store;
+    std::atomic<int> done = 0;
+    std::vector<std::thread> threads;
+    for (int reader = 0; reader < 3; reader++) {
+        threads.emplace_back([&] {
+            for (int found = 0; found < keys;) {
+                found = 0;
+                for (int n = 0; n < keys; n++) found += store.read(std::to_string(n));
+                std::this_thread::yield();
+            }
+            done++;
+        });
+    }
+    for (int n = 0; n < keys; n++) store.put(1, std::to_string(n));
+    for (auto &thread : threads) thread.join();
+    CHECK(done == 3 && store.wrong == 0 && sure(store.replica.count()).entries == keys);
+    const Snapshot snapshot = sure(store.replica.snapshot());
+    std::vector<std::vector<std::string>> rows(3);
+    threads.clear();
+    for (auto &of : rows) {
+        threads.emplace_back([&] {
+            of = all(snapshot.keys());
+            for (auto &key : of) key = sure(sure(snapshot.share()).row(key));
+        });
+    }
+    for (auto &thread : threads) thread.join();
+    CHECK(rows[0].size() == keys && rows[1] == rows[0] && rows[2] == rows[0]);
 }
 
 /// A sync that ends early cancels and drops its session under the lock.
@@ -215,5 +263,6 @@ int main() {
                 {"portion outlives its replica", portion_outlives_its_replica},
                 {"replica that is never at rest", replica_that_is_never_at_rest},
                 {"snapshots and syncs while a thread puts", snapshots_and_syncs_while_a_thread_puts},
+                {"threads read at once", threads_read_at_once},
                 {"reach that throws", reach_that_throws}});
 }

@@ -308,14 +308,14 @@ void ranges() {
 }
 
 /// The lengths of the rows that a replica holds, in all.
-std::uint64_t length_of_rows(Replica &replica) {
+std::uint64_t length_of_rows(const Replica &replica) {
     std::uint64_t length = 0;
     for (const auto &key : all(replica.keys())) length += sure(replica.row(key)).size();
     return length;
 }
 
 /// The lengths of the entries of a journal in all, with 10 bytes for each pair of a clock.
-std::uint64_t length_of_entries(Replica &replica) {
+std::uint64_t length_of_entries(const Replica &replica) {
     std::uint64_t length = 0;
     for (const auto &[number, key, version, source] : all(sure(replica.entries(sure(replica.count()).first)))) {
         length += key.size() + version.value.size() + 10 * version.clock.size();

@@ -64,7 +64,7 @@ struct Fixture {
         std::ifstream file(path, std::ios::binary);
         const auto loaded = Replica::load(file);
         CHECK(loaded);
-        return loaded ? static_cast<std::ptrdiff_t>(sure(const_cast<Replica &>(*loaded).count()).entries) : -1;
+        return loaded ? static_cast<std::ptrdiff_t>(sure(loaded->count()).entries) : -1;
     }
 
     /// The error of a save, in words.

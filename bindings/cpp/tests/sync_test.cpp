@@ -9,13 +9,13 @@ using Asks = std::vector<std::string>;
 using Answers = std::vector<std::optional<std::string>>;
 
 /// A partner that is called directly.
-Answers serve(Snapshot &snapshot, const Asks &asks) {
+Answers serve(const Snapshot &snapshot, const Asks &asks) {
     Answers answers;
     for (const auto &ask : asks) answers.push_back(sure(snapshot.serve(1, ask)));
     return answers;
 }
 
-Reach reach(Snapshot &snapshot) {
+Reach reach(const Snapshot &snapshot) {
     return [&](const Asks &asks) { return serve(snapshot, asks); };
 }
 
@@ -26,14 +26,14 @@ Synced sync(Replica &replica, Replica &partner) {
 }
 
 /// The number of sessions that are kept. None of them is open.
-std::uint64_t kept(Replica &replica) {
+std::uint64_t kept(const Replica &replica) {
     const Counts counts = sure(replica.count());
     CHECK(counts.open_sessions == 0);
     return counts.sessions;
 }
 
 /// True if all entries have a source.
-bool all_are(Source source, Replica &replica) {
+bool all_are(Source source, const Replica &replica) {
     const auto entries = all(sure(replica.entries()));
     return std::all_of(entries.begin(), entries.end(), [&](const Entry &entry) { return entry.source == source; });
 }
@@ -67,7 +67,7 @@ void snapshots() {
 }
 
 /// The keys of a snapshot, and what it has of each.
-std::vector<std::string> rows_of(Snapshot &snapshot) {
+std::vector<std::string> rows_of(const Snapshot &snapshot) {
     std::vector<std::string> rows = all(snapshot.keys());
     for (std::string &key : rows) key += sure(snapshot.row(key));
     return rows;

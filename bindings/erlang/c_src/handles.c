@@ -10,7 +10,7 @@ static ErlNifResourceType *types[KINDS];
 static void drop_lock(struct resource *dropped)
 {
     if (dropped->lock != NULL)
-        enif_mutex_destroy(dropped->lock);
+        enif_rwlock_destroy(dropped->lock);
 }
 
 static void drop_replica(UNUSED ErlNifEnv *env, void *dropped)
@@ -73,19 +73,42 @@ ERL_NIF_TERM or_elsewhere(ErlNifEnv *env, ERL_NIF_TERM result, const char *name,
     return result;
 }
 
+/* Takes a side of a lock, if it is free. */
+static bool take_at_once(ErlNifRWLock *lock, bool reads)
+{
+    return (reads ? enif_rwlock_tryrlock(lock) : enif_rwlock_tryrwlock(lock)) == 0;
+}
+
+/* Waits for a side of a lock. */
+static void take(ErlNifRWLock *lock, bool reads)
+{
+    if (reads)
+        enif_rwlock_rlock(lock);
+    else
+        enif_rwlock_rwlock(lock);
+}
+
+static void give_back(ErlNifRWLock *lock, bool reads)
+{
+    if (reads)
+        enif_rwlock_runlock(lock);
+    else
+        enif_rwlock_rwunlock(lock);
+}
+
 ERL_NIF_TERM with_lock(const struct call *call, ErlNifEnv *env, int argc, const ERL_NIF_TERM argv[])
 {
     void *found;
     if (!enif_get_resource(env, argv[0], types[call->kind], &found))
         return enif_make_badarg(env);
     struct resource *at = found;
-    if (enif_mutex_trylock(at->lock) != 0) {
+    if (!take_at_once(at->lock, call->reads)) {
         if (on_normal_scheduler())
             return enif_schedule_nif(env, call->name, ERL_NIF_DIRTY_JOB_IO_BOUND, call->again, argc, argv);
-        enif_mutex_lock(at->lock);
+        take(at->lock, call->reads);
     }
     ERL_NIF_TERM result = call->held(env, at, argv);
-    enif_mutex_unlock(at->lock);
+    give_back(at->lock, call->reads);
     return or_elsewhere(env, result, call->name, call->again, argc, argv);
 }
 
@@ -95,7 +118,7 @@ struct resource *make_resource(enum kind kind)
     if (made == NULL)
         return NULL;
     memset(made, 0, sizeof *made);
-    made->lock = enif_mutex_create("antientropy");
+    made->lock = enif_rwlock_create("antientropy");
     if (made->lock == NULL) {
         enif_release_resource(made);
         return NULL;

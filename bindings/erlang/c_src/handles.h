@@ -13,7 +13,7 @@
 enum kind { REPLICA, SNAPSHOT, HINTS, SLOTS, KINDS };
 
 struct resource {
-    ErlNifMutex *lock;
+    ErlNifRWLock *lock;
     union {
         struct antientropy_replica replica;
         struct antientropy_snapshot snapshot;
@@ -26,12 +26,15 @@ struct resource {
 typedef ERL_NIF_TERM nif(ErlNifEnv *env, int argc, const ERL_NIF_TERM argv[]);
 
 /* A function of the NIF library whose first argument is a handle. It has the handle's lock, which it may leave free for
- * a time. On a normal scheduler it may return ELSEWHERE: then it begins again on a dirty one, since it takes long. */
+ * a time unless it only reads. On a normal scheduler it may return ELSEWHERE: then it begins again on a dirty one,
+ * since it takes long. */
 typedef ERL_NIF_TERM held(ErlNifEnv *env, struct resource *at, const ERL_NIF_TERM argv[]);
 
-/* A call of `held` with its name in Erlang, and the function that makes it. */
+/* A call of `held` with its name in Erlang, and the function that makes it. If it only reads the handle, other reads
+ * have the lock at the same time. */
 struct call {
     enum kind kind;
+    bool reads;
     const char *name;
     nif *again;
     held *held;
@@ -49,15 +52,29 @@ CALLS(DECLARE)
     }                                                                                                                  \
     static ERL_NIF_TERM plain_##name(UNUSED ErlNifEnv *env, UNUSED int argc, UNUSED const ERL_NIF_TERM argv[])
 
-/* Begins the definition of a function with a handle of a kind. */
+/* Begins the definition of a function that may change its handle of a kind. */
 #define CALL(kind, name)                                                                                               \
     static held held_##name;                                                                                           \
     ERL_NIF_TERM nif_##name(ErlNifEnv *env, int argc, const ERL_NIF_TERM argv[])                                       \
     {                                                                                                                  \
-        static const struct call call = {kind, #name, nif_##name, held_##name};                                        \
+        static const struct call call = {kind, false, #name, nif_##name, held_##name};                                 \
         return with_lock(&call, env, argc, argv);                                                                      \
     }                                                                                                                  \
     static ERL_NIF_TERM held_##name(ErlNifEnv *env, struct resource *at, UNUSED const ERL_NIF_TERM argv[])
+
+/* Begins the definition of a function that reads its handle of a kind, at once with others. */
+#define READ(kind, name)                                                                                               \
+    static ERL_NIF_TERM read_##name(ErlNifEnv *env, const struct resource *at, const ERL_NIF_TERM argv[]);             \
+    static ERL_NIF_TERM held_##name(ErlNifEnv *env, struct resource *at, const ERL_NIF_TERM argv[])                    \
+    {                                                                                                                  \
+        return read_##name(env, at, argv);                                                                             \
+    }                                                                                                                  \
+    ERL_NIF_TERM nif_##name(ErlNifEnv *env, int argc, const ERL_NIF_TERM argv[])                                       \
+    {                                                                                                                  \
+        static const struct call call = {kind, true, #name, nif_##name, held_##name};                                  \
+        return with_lock(&call, env, argc, argv);                                                                      \
+    }                                                                                                                  \
+    static ERL_NIF_TERM read_##name(ErlNifEnv *env, const struct resource *at, UNUSED const ERL_NIF_TERM argv[])
 
 /* Returned in place of a term: the call begins again on a dirty scheduler. */
 #define ELSEWHERE 0

@@ -27,9 +27,9 @@ static uint32_t hash_portion(struct resource *at, uint64_t most, uint64_t *left)
     uint32_t number = antientropy_take_portion(&at->replica, most, &portion);
     if (number != ANTIENTROPY_OK)
         return number;
-    enif_mutex_unlock(at->lock);
+    enif_rwlock_rwunlock(at->lock);
     number = antientropy_hash_portion(&portion);
-    enif_mutex_lock(at->lock);
+    enif_rwlock_rwlock(at->lock);
     if (number == ANTIENTROPY_OK)
         number = antientropy_install_portion(&at->replica, &portion, left);
     antientropy_portion_free(&portion);
@@ -87,12 +87,12 @@ static uint32_t fill(struct resource *at, void *of)
 }
 
 /* moment(Replica) -> {ok, Snapshot} */
-CALL(REPLICA, moment)
+READ(REPLICA, moment)
 {
     struct resource *made = make_resource(SNAPSHOT);
     if (made == NULL)
         return refused(env, ANTIENTROPY_NO_MEMORY);
-    return handle_result(env, made, fill(at, made));
+    return handle_result(env, made, antientropy_moment(&at->replica, &made->snapshot));
 }
 
 /* snapshot_of_moment(Replica, Holds, Most) -> {ok, Snapshot} | more */
@@ -126,7 +126,8 @@ static uint32_t get_opening(ErlNifEnv *env, const ERL_NIF_TERM argv[], struct op
 }
 
 /* Compares the root of the moment with that of an offer. */
-static uint32_t compare_roots(struct resource *at, const struct antientropy_offer_parts *parts, struct opening *opening)
+static uint32_t compare_roots(const struct resource *at, const struct antientropy_offer_parts *parts,
+                              struct opening *opening)
 {
     uint8_t root[ANTIENTROPY_ROOT_LEN];
     uint64_t len;
@@ -139,7 +140,7 @@ static uint32_t compare_roots(struct resource *at, const struct antientropy_offe
 }
 
 /* Compares the format, the range and the root of the moment with those of an offer. */
-static uint32_t compare(struct resource *at, struct opening *opening)
+static uint32_t compare(const struct resource *at, struct opening *opening)
 {
     struct antientropy_offer_parts parts;
     struct antientropy_about about;
@@ -193,8 +194,8 @@ CALL(REPLICA, open_of_moment)
     uint32_t number = get_opening(env, argv, &opening);
     if (number == ANTIENTROPY_OK)
         number = call_or_hash(at, holds, most, open_session, &opening);
-    enif_mutex_unlock(at->lock);
+    enif_rwlock_rwunlock(at->lock);
     antientropy_snapshot_free(&opening.moment);
-    enif_mutex_lock(at->lock);
+    enif_rwlock_rwlock(at->lock);
     return opening_result(env, number, &opening);
 }

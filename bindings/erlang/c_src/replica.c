@@ -37,7 +37,7 @@ CALL(REPLICA, close)
 }
 
 /* renew(Replica, Limit) -> {ok, Replica} */
-CALL(REPLICA, renew)
+READ(REPLICA, renew)
 {
     uint64_t limit;
     if (!get_u64(env, argv[1], &limit))
@@ -55,7 +55,7 @@ CALL(REPLICA, migrate)
 }
 
 /* about(Replica) -> {ok, About} */
-CALL(REPLICA, about)
+READ(REPLICA, about)
 {
     struct antientropy_about about;
     uint32_t number = antientropy_about(&at->replica, &about);
@@ -68,7 +68,7 @@ CALL(REPLICA, about)
 }
 
 /* count(Replica) -> {ok, Counts} */
-CALL(REPLICA, count)
+READ(REPLICA, count)
 {
     struct antientropy_counts counts;
     uint32_t number = antientropy_count(&at->replica, &counts);
@@ -84,7 +84,7 @@ CALL(REPLICA, count)
 }
 
 /* bytes(Replica) -> {ok, Bytes} */
-CALL(REPLICA, bytes)
+READ(REPLICA, bytes)
 {
     struct antientropy_bytes bytes;
     uint32_t number = antientropy_bytes(&at->replica, &bytes);

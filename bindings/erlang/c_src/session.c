@@ -30,7 +30,7 @@ static ERL_NIF_TERM state_atom(ErlNifEnv *env, uint64_t state)
 }
 
 /* session(Replica, Session) -> {ok, open | finished | failed | cancelled} */
-CALL(REPLICA, session)
+READ(REPLICA, session)
 {
     uint64_t session, state;
     if (!get_u64(env, argv[1], &session))
@@ -40,7 +40,7 @@ CALL(REPLICA, session)
 }
 
 /* outstanding(Replica, Session) -> {ok, Count} */
-CALL(REPLICA, outstanding)
+READ(REPLICA, outstanding)
 {
     uint64_t session, count;
     if (!get_u64(env, argv[1], &session))
@@ -58,7 +58,7 @@ static ERL_NIF_TERM ask_result(ErlNifEnv *env, uint32_t number, const uint8_t *a
 }
 
 /* ask(Replica, Session, Number) -> {ok, Ask} | done */
-CALL(REPLICA, ask)
+READ(REPLICA, ask)
 {
     uint64_t session, len = 0;
     uint32_t offer;
@@ -70,7 +70,7 @@ CALL(REPLICA, ask)
 }
 
 /* ask_at(Replica, Session, Place, Number) -> {ok, Ask} | done */
-CALL(REPLICA, ask_at)
+READ(REPLICA, ask_at)
 {
     uint64_t session, place, len = 0;
     uint32_t offer;
@@ -82,7 +82,7 @@ CALL(REPLICA, ask_at)
 }
 
 /* asks(Replica, Session, Number) -> {ok, [Ask]} */
-CALL(REPLICA, asks)
+READ(REPLICA, asks)
 {
     uint64_t session, count, len;
     uint32_t offer;

@@ -3,7 +3,7 @@
 #include "terms.h"
 
 /* snapshot(Replica) -> {ok, Snapshot} */
-CALL(REPLICA, snapshot)
+READ(REPLICA, snapshot)
 {
     struct resource *made = make_resource(SNAPSHOT);
     if (made == NULL)
@@ -12,7 +12,7 @@ CALL(REPLICA, snapshot)
 }
 
 /* snapshot_share(Snapshot) -> {ok, Snapshot} */
-CALL(SNAPSHOT, snapshot_share)
+READ(SNAPSHOT, snapshot_share)
 {
     struct resource *made = make_resource(SNAPSHOT);
     if (made == NULL)
@@ -28,20 +28,20 @@ CALL(SNAPSHOT, snapshot_close)
 }
 
 /* Reads the root of a snapshot. */
-static uint32_t read_root(struct resource *at, uint8_t root[static ANTIENTROPY_ROOT_LEN])
+static uint32_t root_of(const struct resource *at, uint8_t root[static ANTIENTROPY_ROOT_LEN])
 {
     uint64_t len;
     return antientropy_root(&at->snapshot, root, ANTIENTROPY_ROOT_LEN, &len);
 }
 
 /* snapshot_info(Snapshot) -> {ok, Info} */
-CALL(SNAPSHOT, snapshot_info)
+READ(SNAPSHOT, snapshot_info)
 {
     struct antientropy_about about;
     uint8_t root[ANTIENTROPY_ROOT_LEN];
     uint32_t number = antientropy_snapshot_about(&at->snapshot, &about);
     if (number == ANTIENTROPY_OK)
-        number = read_root(at, root);
+        number = root_of(at, root);
     if (number != ANTIENTROPY_OK)
         return refused(env, number);
     const ERL_NIF_TERM keys[] = {atoms.format, atoms.bits, atoms.range, atoms.entries, atoms.root};
@@ -52,7 +52,7 @@ CALL(SNAPSHOT, snapshot_info)
 }
 
 /* snapshot_bytes(Snapshot) -> {ok, Bytes} */
-CALL(SNAPSHOT, snapshot_bytes)
+READ(SNAPSHOT, snapshot_bytes)
 {
     uint64_t bytes;
     uint32_t number = antientropy_snapshot_bytes(&at->snapshot, &bytes);
@@ -60,15 +60,15 @@ CALL(SNAPSHOT, snapshot_bytes)
 }
 
 /* root(Snapshot) -> {ok, Root} */
-CALL(SNAPSHOT, root)
+READ(SNAPSHOT, root)
 {
     uint8_t root[ANTIENTROPY_ROOT_LEN];
-    uint32_t number = read_root(at, root);
+    uint32_t number = root_of(at, root);
     return number == ANTIENTROPY_OK ? ok(env, make_bytes(env, root, sizeof root)) : refused(env, number);
 }
 
 /* digest(Snapshot, Depth, Index) -> {ok, Digest} */
-CALL(SNAPSHOT, digest)
+READ(SNAPSHOT, digest)
 {
     uint64_t depth, index, len;
     uint8_t digest[ANTIENTROPY_ROOT_LEN];
@@ -79,7 +79,7 @@ CALL(SNAPSHOT, digest)
 }
 
 /* offer(Snapshot, Number) -> {ok, Offer} */
-CALL(SNAPSHOT, offer)
+READ(SNAPSHOT, offer)
 {
     uint32_t offer;
     uint8_t message[ANTIENTROPY_OFFER_LEN];
@@ -91,7 +91,7 @@ CALL(SNAPSHOT, offer)
 }
 
 /* serve(Snapshot, Number, Ask) -> {ok, Answer} */
-CALL(SNAPSHOT, serve)
+READ(SNAPSHOT, serve)
 {
     uint32_t offer, number;
     ErlNifBinary ask;
@@ -111,7 +111,7 @@ CALL(SNAPSHOT, serve)
 }
 
 /* rows(Snapshot, Leaf) -> {ok, Rows} */
-CALL(SNAPSHOT, rows)
+READ(SNAPSHOT, rows)
 {
     uint64_t leaf;
     struct room room;

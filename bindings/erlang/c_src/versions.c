@@ -71,7 +71,7 @@ CALL(REPLICA, accept)
 }
 
 /* Reads one of the versions of a key. `versions` becomes the number of them. */
-static uint32_t read_version(ErlNifEnv *env, struct resource *at, const ErlNifBinary *key, uint64_t index,
+static uint32_t read_version(ErlNifEnv *env, const struct resource *at, const ErlNifBinary *key, uint64_t index,
                              uint64_t *versions, ERL_NIF_TERM *version)
 {
     struct antientropy_reading reading = {0};
@@ -94,7 +94,7 @@ static uint32_t read_version(ErlNifEnv *env, struct resource *at, const ErlNifBi
 }
 
 /* get(Replica, Key) -> {ok, [Version]} */
-CALL(REPLICA, get)
+READ(REPLICA, get)
 {
     ErlNifBinary key;
     ERL_NIF_TERM versions[ANTIENTROPY_VERSIONS_MAX];
@@ -115,7 +115,7 @@ CALL(REPLICA, get)
 }
 
 /* read(Replica, Key, Index) -> {ok, Version} */
-CALL(REPLICA, read)
+READ(REPLICA, read)
 {
     ErlNifBinary key;
     uint64_t index, versions;
@@ -127,7 +127,7 @@ CALL(REPLICA, read)
 }
 
 /* count_versions(Replica, Key) -> {ok, Count} */
-CALL(REPLICA, count_versions)
+READ(REPLICA, count_versions)
 {
     ErlNifBinary key;
     uint64_t count;
@@ -138,7 +138,7 @@ CALL(REPLICA, count_versions)
 }
 
 /* value(Replica, Key, Index) -> {ok, Value} */
-CALL(REPLICA, value)
+READ(REPLICA, value)
 {
     ErlNifBinary key;
     uint64_t index;
@@ -157,7 +157,7 @@ CALL(REPLICA, value)
 }
 
 /* clock(Replica, Key, Index) -> {ok, Clock} */
-CALL(REPLICA, clock)
+READ(REPLICA, clock)
 {
     ErlNifBinary key;
     uint64_t index, len;
@@ -170,7 +170,7 @@ CALL(REPLICA, clock)
 }
 
 /* Reads the row of a key of a replica or of a snapshot. */
-static ERL_NIF_TERM row_by(ErlNifEnv *env, struct resource *at, const ERL_NIF_TERM argv[], enum kind kind)
+static ERL_NIF_TERM row_by(ErlNifEnv *env, const struct resource *at, const ERL_NIF_TERM argv[], enum kind kind)
 {
     ErlNifBinary key;
     struct room room;
@@ -190,19 +190,19 @@ static ERL_NIF_TERM row_by(ErlNifEnv *env, struct resource *at, const ERL_NIF_TE
 }
 
 /* row(Replica, Key) -> {ok, Text} */
-CALL(REPLICA, row)
+READ(REPLICA, row)
 {
     return row_by(env, at, argv, REPLICA);
 }
 
 /* snapshot_row(Snapshot, Key) -> {ok, Text} */
-CALL(SNAPSHOT, snapshot_row)
+READ(SNAPSHOT, snapshot_row)
 {
     return row_by(env, at, argv, SNAPSHOT);
 }
 
 /* key_after(Replica, Leaf, Key) -> {ok, Key} */
-CALL(REPLICA, key_after)
+READ(REPLICA, key_after)
 {
     uint64_t leaf, len;
     ErlNifBinary key;
@@ -214,7 +214,7 @@ CALL(REPLICA, key_after)
 }
 
 /* snapshot_key_after(Snapshot, Leaf, Key) -> {ok, Key} */
-CALL(SNAPSHOT, snapshot_key_after)
+READ(SNAPSHOT, snapshot_key_after)
 {
     uint64_t leaf, len;
     ErlNifBinary key;
@@ -239,7 +239,7 @@ static ERL_NIF_TERM source_atom(ErlNifEnv *env, uint64_t source)
 }
 
 /* entry(Replica, Number) -> {ok, Entry} */
-CALL(REPLICA, entry)
+READ(REPLICA, entry)
 {
     uint64_t entry, key_len, clock_len, source;
     uint8_t key[ANTIENTROPY_KEY_MAX], kind;
@@ -269,7 +269,7 @@ CALL(REPLICA, entry)
 
 /* Returns entries from a number on, one after the other: all if they fit in FEW_BYTES, or as many as fit in
  * ENTRIES_BYTES. packed_entries(Replica, From) -> {ok, Packed} */
-CALL(REPLICA, packed_entries)
+READ(REPLICA, packed_entries)
 {
     uint64_t from, next;
     struct antientropy_about about;
@@ -299,7 +299,7 @@ CALL(REPLICA, packed_entries)
 }
 
 /* top_counter(Replica, Node, Key, Entries) -> {ok, Counter} */
-CALL(REPLICA, top_counter)
+READ(REPLICA, top_counter)
 {
     uint64_t node, entries, counter;
     ErlNifBinary key;

@@ -9,7 +9,8 @@
 %% bits (of an offer and of slots: over 32 bits). A value or a clock that is too long is refused without a look at all
 %% of it. A source, a state or an order that only a newer library knows is its number.
 %%
-%% Processes may share a handle, which has a lock. It is of its node: send messages to other nodes, not handles.
+%% Processes may share a handle, which has a lock, and read a replica or a snapshot at once. It is of its node: send
+%% messages to other nodes, not handles.
 -module(antientropy).
 
 -export([version/0, name/1, place/3, compare/2, merge/1, read_offer/1]).

@@ -1,7 +1,7 @@
 %% @doc A snapshot of a replica's rows, which {@link antientropy:snapshot/1} makes.
 %%
-%% It serves a partner's asks while the replica goes on, and may outlive it. Processes may share it, and wait for its
-%% lock then; by {@link share/1} each has a snapshot of its own.
+%% It serves a partner's asks while the replica goes on, and may outlive it. Processes may share it, and read it at once;
+%% by {@link share/1} one has a snapshot of its own to close.
 -module(antientropy_snapshot).
 
 -export([share/1, close/1, info/1, bytes/1, root/1, digest/3, offer/2, serve/3, rows/2, save/2]).
@@ -22,7 +22,7 @@
 
 %% @doc Returns another snapshot of the same rows, with a lock of its own. Copies no row.
 %%
-%% Processes that each have one read at the same time. The rows are freed with the last one.
+%% The rows are freed with the last one.
 -spec share(snapshot()) -> {ok, snapshot()} | antientropy:refused().
 share(Snapshot) ->
     antientropy_nif:snapshot_share(Snapshot).

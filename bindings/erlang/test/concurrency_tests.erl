@@ -56,19 +56,49 @@ a_process_serves_a_snapshot_test() ->
     ?assertMatch({ok, #{state := finished, accepted := ?PUTS}}, await(Syncing)),
     ?assertEqual(antientropy_snapshot:root(Snapshot), antientropy:root(Copy)).
 
-%% Each process has a handle of its own.
+%% Processes read a replica at once while another one puts.
+processes_read_a_replica_test_() ->
+    {timeout, 60, fun() ->
+        Replica = replica(),
+        Reading = [async(fun() -> read_until_all(Replica, 1) end) || _ <- lists:seq(1, ?WRITERS)],
+        write(Replica, 1),
+        [?assertEqual(?PUTS, await(Each)) || Each <- Reading]
+    end}.
+
+%% Reads the keys of a node again and again, until each has a version. Returns their number.
+read_until_all(Replica, Node) ->
+    case length([Number || Number <- lists:seq(1, ?PUTS), is_put(Replica, <<Node, Number:16>>)]) of
+        ?PUTS -> ?PUTS;
+        _ -> read_until_all(Replica, Node)
+    end.
+
+%% Reads a key, whose value is the key, by calls that must agree.
+is_put(Replica, Key) ->
+    case antientropy:get(Replica, Key) of
+        {ok, [#{value := Key} = Version]} ->
+            {ok, Version} = antientropy:read(Replica, Key, 0),
+            {ok, 1} = antientropy:count_versions(Replica, Key),
+            true;
+        {ok, []} ->
+            false
+    end.
+
+%% Processes read one handle of a snapshot at once, and each a handle of its own.
 processes_read_a_snapshot_test() ->
     Replica = replica(),
     write(Replica, 1),
     {ok, Keys} = antientropy:keys(Replica),
     Rows = [antientropy:row(Replica, Key) || Key <- Keys],
     {ok, Snapshot} = antientropy:snapshot(Replica),
-    Read = fun() ->
-        {ok, Shared} = antientropy_snapshot:share(Snapshot),
-        {ok, Listed} = antientropy_snapshot:keys(Shared),
-        {Listed, [antientropy_snapshot:row(Shared, Key) || Key <- Listed]}
+    Read = fun(Of) ->
+        {ok, Listed} = antientropy_snapshot:keys(Of),
+        {Listed, [antientropy_snapshot:row(Of, Key) || Key <- Listed]}
     end,
-    Reading = [async(Read) || _ <- lists:seq(1, ?WRITERS)],
+    ReadShared = fun() ->
+        {ok, Shared} = antientropy_snapshot:share(Snapshot),
+        Read(Shared)
+    end,
+    Reading = [async(Each) || _ <- lists:seq(1, ?WRITERS), Each <- [fun() -> Read(Snapshot) end, ReadShared]],
     write(Replica, 2),
     [?assertEqual({Keys, Rows}, await(Each)) || Each <- Reading].
 

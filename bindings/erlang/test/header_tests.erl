@@ -155,10 +155,12 @@ is_exported({Module, Function, Arity}) ->
     {module, Module} = code:ensure_loaded(Module),
     erlang:function_exported(Module, Function, Arity).
 
-%% The names of the calls in the header, but for key_next and hash_moment. The first is key_after with the key's memory
-%% for the result. The second is the calls of a portion in one: the replica would be locked meanwhile.
+%% The names of the calls in the header, but for those by shares, which its inline functions make, and for key_next and
+%% hash_moment. key_next is key_after with the key's memory for the result. hash_moment is the calls of a portion in
+%% one: the replica would be locked meanwhile. Those of exchanges are left out: they have no functions yet.
 declared() ->
-    found([text(?HEADER)], "(?m)^(?:uint32_t|void) antientropy_(\\w+)\\(") -- ["key_next", "hash_moment"].
+    Declared = "(?m)^(?:static inline )?(?:uint32_t|void) antientropy_(?!share_|exchange_)(\\w+)\\(",
+    found([text(?HEADER)], Declared) -- ["key_next", "hash_moment"].
 
 %% The first group of each match, sorted.
 found(Texts, Pattern) ->

@@ -6,7 +6,7 @@ from ctypes import byref, c_uint8, c_uint64, create_string_buffer
 from threading import RLock
 from typing import Any, ContextManager, List, NoReturn, Optional, TypeVar
 
-from ._calls import CLOCK_MAX, HandleStruct
+from ._calls import CLOCK_MAX, READS, HandleStruct
 from ._convert import to_clock, to_value
 from ._library import Library
 from ._values import Clock
@@ -74,6 +74,10 @@ class Handle:
             raise RuntimeError(f"a signal handler interrupted a call of this {type(self).__name__}: it may only read")
         return self._lock
 
+    def _share(self) -> Any:
+        """Returns a copy of the handle, for one call that reads it."""
+        return byref(HandleStruct.from_buffer_copy(self._struct))
+
     def _take_results(self) -> Results:
         """Memory that no other call uses. The caller appends it to `_spare` after its use, unless it is refused."""
         try:
@@ -86,7 +90,8 @@ class Handle:
             self._call_held(call, *args)
 
     def _call_held(self, call: str, *args: Any) -> None:
-        number = getattr(self._library, call)(self._at, *args)
+        handle = self._share() if call in READS else self._at
+        number = getattr(self._library, call)(handle, *args)
         if number:
             raise self._library.refusal(call, number)
 
@@ -113,10 +118,11 @@ class Handle:
     def _bytes_held(self, call: str, *args: Any) -> bytes:
         function, results = getattr(self._library, call), self._take_results()
         need = byref(results.need)
-        number = function(self._at, *args, results.room, len(results.room), need)
+        handle = self._share() if call in READS else self._at
+        number = function(handle, *args, results.room, len(results.room), need)
         if number == self._library.small:
             results.room = create_string_buffer(results.need.value)
-            number = function(self._at, *args, results.room, len(results.room), need)
+            number = function(handle, *args, results.room, len(results.room), need)
         if number:
             raise self._library.refusal(call, number)
         data = results.room[: results.need.value]

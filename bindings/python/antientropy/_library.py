@@ -8,10 +8,10 @@ from ctypes.util import find_library
 from threading import RLock
 from typing import Any, Callable, Optional, Tuple, Type, Union
 
-from ._calls import CALLS, PREFIX
+from ._calls import CALLS, PREFIX, READS, SHARE
 from ._refused import Refused, class_of
 
-_MAJOR = 1
+_MAJOR = 2
 _SONAME = f"libantientropy.so.{_MAJOR}"
 _VARIABLE = "ANTIENTROPY_LIBRARY"
 _NAME_ROOM = 64
@@ -19,7 +19,10 @@ _NUMBERS = range(1, 256)
 
 
 class Library:
-    """A loaded library. A call is bound at its first use, so a library may lack calls that aren't used."""
+    """A loaded library. A call is bound at its first use, so a library may lack calls that aren't used.
+
+    A call that only reads a handle has its name without `share_`, and gets a copy of the handle.
+    """
 
     def __init__(self, path: str) -> None:
         self._dll = CDLL(path)
@@ -31,10 +34,11 @@ class Library:
         self.no_version = self._number("NoVersion")
 
     def __getattr__(self, call: str) -> Callable[..., Any]:
-        if call not in CALLS:
+        name = SHARE + call if call in READS else call
+        if name not in CALLS:
             raise AttributeError(call)
-        function = getattr(self._dll, PREFIX + call)
-        function.restype, function.argtypes = CALLS[call]
+        function = getattr(self._dll, PREFIX + name)
+        function.restype, function.argtypes = CALLS[name]
         setattr(self, call, function)
         return function
 

@@ -216,7 +216,7 @@ class Replica(Rows):
     def _read_held(self, results: Results, key: bytes, index: int) -> Optional[Version]:
         """A version of a key, or None if there is no such one. The number of versions is in `results.reading`."""
         reading, words, room = results.reading, results.words, results.room
-        number = self._library.read(self._at, key, len(key), index, reading, words, CLOCK_MAX, room, len(room))
+        number = self._library.read(self._share(), key, len(key), index, reading, words, CLOCK_MAX, room, len(room))
         if not number:
             _, pairs, size, kind = reading[:]
             return Version(to_clock(words[: 2 * pairs]), to_value(kind, room[:size]))
@@ -256,10 +256,10 @@ class Replica(Rows):
     def _packed_held(self, first: int, room: int) -> Tuple[bytes, int]:
         """Packed entries from a number on, and the number after them."""
         call, data, need, next_number = self._library.entries, create_string_buffer(room), c_uint64(), c_uint64()
-        number = call(self._at, first, data, room, byref(need), byref(next_number))
+        number = call(self._share(), first, data, room, byref(need), byref(next_number))
         if number == self._library.small:
             data = create_string_buffer(need.value)
-            number = call(self._at, first, data, need.value, byref(need), byref(next_number))
+            number = call(self._share(), first, data, need.value, byref(need), byref(next_number))
         if number:
             raise self._library.refusal("entries", number)
         return data[: need.value], next_number.value

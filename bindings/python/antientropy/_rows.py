@@ -48,7 +48,7 @@ class Rows(Handle):
         key, length = create_string_buffer(KEY_MAX), c_uint64()
         while True:
             with self._lock:
-                number = key_next(self._at, leaf, key, KEY_MAX, byref(length))
+                number = key_next(self._share(), leaf, key, KEY_MAX, byref(length))
             if number == self._library.no_version:
                 return
             if number:

@@ -27,9 +27,11 @@ def argument(text):
 
 
 def declared():
-    """The types of each call in the header."""
+    """The types of each call in the header. Those of exchanges are left out: no class has them yet."""
     calls = {}
     for result, name, arguments in re.findall(r"^(uint32_t|void) antientropy_(\w+)\((.*?)\);", TEXT, re.M | re.S):
+        if re.match("(share_)?exchange_", name):
+            continue
         types = () if arguments == "void" else tuple(argument(text.strip()) for text in arguments.split(","))
         calls[name] = (None if result == "void" else c_uint32, types)
     return calls
@@ -50,6 +52,10 @@ def fields(struct):
 class HeaderTest(unittest.TestCase):
     def test_names(self):
         self.assertEqual(set(declared()), set(_calls.CALLS))
+
+    def test_reads(self):
+        inline = re.findall(r"^static inline uint32_t antientropy_(\w+)\(\s*const struct", TEXT, re.M)
+        self.assertEqual(set(inline), _calls.READS)
 
     def test_types(self):
         for name, types in declared().items():

@@ -6,7 +6,7 @@ import signal
 import unittest
 
 from antientropy import Hints, Replica
-from antientropy._calls import CALLS
+from antientropy._calls import CALLS, READS
 
 from tests.support import crowd, sync
 
@@ -16,7 +16,7 @@ PUTS = 5000
 class Interrupted:
     """A library whose calls are each followed by a signal, before their results are read, or some of its calls are."""
 
-    def __init__(self, library, calls=CALLS):
+    def __init__(self, library, calls=(*CALLS, *READS)):
         self._library, self._calls = library, calls
 
     def __getattr__(self, name):

@@ -7,7 +7,7 @@ const B: u16 = 2;
 
 /// Takes what the partner has. Here its snapshot is called directly; elsewhere the messages go over a network.
 fn sync(replica: &mut Replica, partner: &mut Replica, node: u16) -> Result<Synced, Refusal> {
-    let mut snapshot = partner.snapshot()?;
+    let snapshot = partner.snapshot()?;
     let offer = snapshot.offer(1)?;
     replica.sync(node, &offer, |asks| asks.iter().map(|ask| snapshot.serve(1, ask).ok()).collect())
 }
@@ -26,7 +26,7 @@ fn equal(a: &mut Replica, b: &mut Replica) -> Result<&'static str, Refusal> {
 }
 
 /// Returns the values of a key.
-fn values(replica: &mut Replica, key: &[u8]) -> Result<String, Refusal> {
+fn values(replica: &Replica, key: &[u8]) -> Result<String, Refusal> {
     let versions = replica.get(key)?;
     let values: Vec<_> =
         versions.iter().flat_map(|version| &version.value).map(|v| String::from_utf8_lossy(v)).collect();
@@ -44,15 +44,15 @@ fn main() -> Result<(), Refusal> {
     println!("roots equal: {}", equal(&mut a, &mut b)?);
     println!("b took {}", count(sync(&mut b, &mut a, A)?.accepted));
     println!("a took {}", count(sync(&mut a, &mut b, B)?.accepted));
-    let both = values(&mut a, b"cart")?;
-    if both == values(&mut b, b"cart")? {
+    let both = values(&a, b"cart")?;
+    if both == values(&b, b"cart")? {
         println!("cart at both: {both}");
     }
     let versions = a.get(b"cart")?;
     let context = merge(versions.iter().map(|version| &version.clock))?;
     a.put(A, b"cart", Some(b"milk, eggs"), &context)?;
     sync(&mut b, &mut a, A)?;
-    println!("merged: {}", values(&mut b, b"cart")?);
+    println!("merged: {}", values(&b, b"cart")?);
     println!("roots equal: {}", equal(&mut a, &mut b)?);
     Ok(())
 }

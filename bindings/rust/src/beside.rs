@@ -1,6 +1,6 @@
 //! Snapshots and syncs of a replica that threads share.
 
-use std::sync::Mutex;
+use std::sync::{Mutex, RwLock};
 
 use crate::moment::{at_moment, Access};
 use crate::refusal::Refusal;
@@ -8,44 +8,73 @@ use crate::replica::Replica;
 use crate::snapshot::Snapshot;
 use crate::sync::{self, Bounds, Synced};
 
-/// A replica that threads share.
-struct Shared<'a, T>(&'a Mutex<T>);
+/// The locks by which threads share a replica, or a type that has one: [`Mutex`], and [`RwLock`], by whose
+/// [`read`](RwLock::read) threads read the replica at once. No other type can implement it.
+pub trait Lock: sealed::Lock {}
 
-impl<T: AsMut<Replica>> Access for Shared<'_, T> {
+impl<T: AsMut<Replica>> Lock for Mutex<T> {}
+impl<T: AsMut<Replica>> Lock for RwLock<T> {}
+
+mod sealed {
+    use super::{Mutex, Replica, RwLock};
+
+    /// What the calls here need of a lock.
+    pub trait Lock {
+        /// Makes some calls with no others between, unless the lock is poisoned.
+        fn try_with<U>(&self, calls: impl FnOnce(&mut Replica) -> U) -> Option<U>;
+    }
+
+    impl<T: AsMut<Replica>> Lock for Mutex<T> {
+        fn try_with<U>(&self, calls: impl FnOnce(&mut Replica) -> U) -> Option<U> {
+            Some(calls(self.lock().ok()?.as_mut()))
+        }
+    }
+
+    impl<T: AsMut<Replica>> Lock for RwLock<T> {
+        fn try_with<U>(&self, calls: impl FnOnce(&mut Replica) -> U) -> Option<U> {
+            Some(calls(self.write().ok()?.as_mut()))
+        }
+    }
+}
+
+/// A replica that threads share.
+struct Shared<'a, L>(&'a L);
+
+impl<L: Lock> Access for Shared<'_, L> {
     fn try_with<U>(&mut self, calls: impl FnOnce(&mut Replica) -> U) -> Option<U> {
-        let mut locked = self.0.lock().ok()?;
-        Some(calls(locked.as_mut()))
+        self.0.try_with(calls)
     }
 }
 
 /// Returns a snapshot of a replica that threads share. The lock is free while nodes are hashed, so other threads put.
 ///
 /// The rows are those of a moment of the call, and the replica keeps no moment then. Offer them when the entries that
-/// the snapshot counts are on the disk. `T` is [`Replica`], or a type that has one. Panics if the lock is poisoned.
+/// the snapshot counts are on the disk. Panics if the lock is poisoned.
 ///
 /// ```
-/// use std::sync::Mutex;
+/// use std::sync::RwLock;
 /// use std::thread;
 ///
 /// use antientropy::{snapshot_beside, Clock, Config, Refusal, Replica};
-/// let shared = Mutex::new(Replica::new(Config::default())?);
+/// let shared = RwLock::new(Replica::new(Config::default())?);
 /// thread::scope(|scope| {
-///     scope.spawn(|| shared.lock().unwrap().put(1, b"cart", Some(b"milk"), &Clock::new()));
-///     let mut snapshot = snapshot_beside(&shared)?;
+///     scope.spawn(|| shared.write().unwrap().put(1, b"cart", Some(b"milk"), &Clock::new()));
+///     scope.spawn(|| shared.read().unwrap().get(b"cart")); // threads read at once
+///     let snapshot = snapshot_beside(&shared)?;
 ///     assert!(snapshot.entries() <= 1);
 ///     snapshot.offer(7)
 /// })?;
 /// # Ok::<(), antientropy::Refusal>(())
 /// ```
-pub fn snapshot_beside<T: AsMut<Replica>>(shared: &Mutex<T>) -> Result<Snapshot, Refusal> {
-    at_moment(&mut Shared(shared), Replica::moment)
+pub fn snapshot_beside<L: Lock>(shared: &L) -> Result<Snapshot, Refusal> {
+    at_moment(&mut Shared(shared), |replica| replica.moment())
 }
 
 /// Takes the versions of a partner's offer that a shared replica lacks, as [`Replica::sync_within`] does.
 ///
 /// The lock is free while nodes are hashed and while `reach` waits, so other threads put. Don't put a renewed replica
-/// in the place of this one meanwhile: it doesn't have the session. Don't migrate this one: that ends the session. `T`
-/// is [`Replica`], or a type that has one. Panics if the lock is poisoned.
+/// in the place of this one meanwhile: it doesn't have the session. Don't migrate this one: that ends the session.
+/// Panics if the lock is poisoned.
 ///
 /// ```
 /// use std::sync::Mutex;
@@ -53,7 +82,7 @@ pub fn snapshot_beside<T: AsMut<Replica>>(shared: &Mutex<T>) -> Result<Snapshot,
 /// use antientropy::{sync_beside, Bounds, Clock, Config, Replica};
 /// let (mut a, b) = (Replica::new(Config::default())?, Mutex::new(Replica::new(Config::default())?));
 /// a.put(1, b"cart", Some(b"milk"), &Clock::new())?;
-/// let mut offered = a.snapshot()?;
+/// let offered = a.snapshot()?;
 /// let offer = offered.offer(7)?;
 /// let synced = sync_beside(&b, Bounds::default(), 1, &offer, |asks| {
 ///     asks.iter().map(|ask| offered.serve(7, ask).ok()).collect()
@@ -61,15 +90,9 @@ pub fn snapshot_beside<T: AsMut<Replica>>(shared: &Mutex<T>) -> Result<Snapshot,
 /// assert!(synced.finished() && synced.accepted == 1);
 /// # Ok::<(), antientropy::Refusal>(())
 /// ```
-pub fn sync_beside<T, R>(
-    shared: &Mutex<T>,
-    bounds: Bounds,
-    partner: u16,
-    offer: &[u8],
-    reach: R,
-) -> Result<Synced, Refusal>
+pub fn sync_beside<L, R>(shared: &L, bounds: Bounds, partner: u16, offer: &[u8], reach: R) -> Result<Synced, Refusal>
 where
-    T: AsMut<Replica>,
+    L: Lock,
     R: FnMut(&[Vec<u8>]) -> Vec<Option<Vec<u8>>>,
 {
     sync::sync(&mut Shared(shared), bounds, partner, offer, reach)

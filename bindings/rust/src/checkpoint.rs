@@ -92,7 +92,7 @@ impl From<Refusal> for CheckpointError {
 }
 
 /// Writes the checkpoint of a snapshot.
-pub(crate) fn save(snapshot: &mut Snapshot, file: &mut (impl Write + ?Sized)) -> Result<(), CheckpointError> {
+pub(crate) fn save(snapshot: &Snapshot, file: &mut (impl Write + ?Sized)) -> Result<(), CheckpointError> {
     file.write_all(MAGIC)?;
     file.write_all(&[snapshot.format(), snapshot.bits()])?;
     file.write_all(&snapshot.range().to_be_bytes())?;

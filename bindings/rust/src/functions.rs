@@ -8,7 +8,7 @@ use crate::values::{Clock, OfferParts, Order, Spot};
 /// Returns the major, the minor and the patch number of the library's version.
 ///
 /// ```
-/// assert_eq!(antientropy::version().0, 1);
+/// assert_eq!(antientropy::version().0, 2);
 /// ```
 pub fn version() -> (u32, u32, u32) {
     // SAFETY: the call takes nothing.

@@ -30,6 +30,10 @@ pub(crate) struct Owned {
 // atomics that order, as channels do: on x86-64, the library's only processor, those are as good.
 unsafe impl Send for Owned {}
 
+// SAFETY: a shared reference gives only copies of the handle, and they go only to calls by shares. Any number of
+// threads may make those at once, as long as no other call of the handle is made, for which it is borrowed exclusively.
+unsafe impl Sync for Owned {}
+
 impl Owned {
     /// Returns what a call makes in an empty handle. `free` is the call that frees it.
     pub(crate) fn make(free: Free, call: impl FnOnce(*mut sys::Handle) -> u32) -> Result<Owned, Refusal> {
@@ -41,6 +45,11 @@ impl Owned {
     /// Returns the handle for one call.
     pub(crate) fn raw(&mut self) -> *mut sys::Handle {
         &mut self.raw
+    }
+
+    /// Returns a copy of the handle for one call by a share, or for several that follow one another.
+    pub(crate) fn share(&self) -> sys::Handle {
+        self.raw
     }
 }
 

@@ -20,7 +20,7 @@ mod sync;
 mod sys;
 mod values;
 
-pub use beside::{snapshot_beside, sync_beside};
+pub use beside::{snapshot_beside, sync_beside, Lock};
 pub use checkpoint::{CheckpointError, Damage};
 pub use functions::{compare, merge, place, read_offer, version};
 pub use hints::Hints;

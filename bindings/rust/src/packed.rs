@@ -21,21 +21,23 @@ pub struct Packed {
 
 impl Packed {
     /// Returns entries of a replica from a number on.
-    pub(crate) fn read(handle: &mut Owned, start: u64) -> Result<Packed, Refusal> {
+    pub(crate) fn read(handle: &Owned, start: u64) -> Result<Packed, Refusal> {
         let mut packed = Packed { bytes: Vec::new(), next: start };
         packed.read_on(handle)?;
         Ok(packed)
     }
 
     /// Reads the entries that follow, in the place of these.
-    fn read_on(&mut self, handle: &mut Owned) -> Result<(), Refusal> {
+    fn read_on(&mut self, handle: &Owned) -> Result<(), Refusal> {
         let mut need = ROOM;
         self.bytes.clear();
         loop {
             self.bytes.reserve(need as usize);
             let (from, out, len) = (self.next, self.bytes.as_mut_ptr(), self.bytes.capacity());
             // SAFETY: as in `sys`.
-            let number = unsafe { sys::antientropy_entries(handle.raw(), from, out, len, &mut need, &mut self.next) };
+            let number = unsafe {
+                sys::antientropy_share_entries(&mut handle.share(), from, out, len, &mut need, &mut self.next)
+            };
             match check(number) {
                 Ok(()) => {
                     // SAFETY: the call has written that many bytes.
@@ -51,7 +53,7 @@ impl Packed {
 
 /// The entries of a journal, of which some are read at once.
 pub(crate) struct Entries<'a> {
-    handle: &'a mut Owned,
+    handle: &'a Owned,
     format: u8,
     packed: Packed,
     parsed: usize,
@@ -60,7 +62,7 @@ pub(crate) struct Entries<'a> {
 
 impl<'a> Entries<'a> {
     /// Returns the entries of a replica from a number on. `format` is that of the replica.
-    pub(crate) fn of(handle: &'a mut Owned, format: u8, start: u64) -> Result<Entries<'a>, Refusal> {
+    pub(crate) fn of(handle: &'a Owned, format: u8, start: u64) -> Result<Entries<'a>, Refusal> {
         let packed = Packed::read(handle, start)?;
         Ok(Entries { handle, format, packed, parsed: 0, number: start })
     }

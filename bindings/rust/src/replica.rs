@@ -68,9 +68,9 @@ impl Default for Config {
 
 /// A replica of one range of a ring.
 ///
-/// Each call takes `&mut self`, since the library may use the memory of a handle even for a read. A lock around a
-/// replica lets threads share it: [`snapshot_beside`](crate::snapshot_beside) and [`sync_beside`](crate::sync_beside)
-/// free it while they hash.
+/// A call that takes `&self` reads the replica, and threads may read it at once. A lock around a replica lets threads
+/// share it, best an [`RwLock`](std::sync::RwLock): [`snapshot_beside`](crate::snapshot_beside) and
+/// [`sync_beside`](crate::sync_beside) free it while they hash.
 ///
 /// ```
 /// use antientropy::{merge, Clock, Config, Replica};
@@ -107,9 +107,7 @@ impl Replica {
         let [first, second] = seed;
         let handle = Owned::make(sys::antientropy_free, |raw| {
             // SAFETY: the handle is empty and a local one.
-            unsafe {
-                sys::antientropy_new_seeded(raw, format.into(), bits.into(), range.into(), limit, first, second)
-            }
+            unsafe { sys::antientropy_new_seeded(raw, format.into(), bits.into(), range.into(), limit, first, second) }
         })?;
         Ok(Replica { handle })
     }
@@ -120,11 +118,11 @@ impl Replica {
     /// never used. So do those of sessions. This replica is left unchanged: drop it, and go on with the new one under
     /// the same node number. Refused as `BadRing` (the limit) or `JournalFull` (more versions are held than the limit,
     /// or no numbers are left).
-    pub fn renew(&mut self, limit: u64) -> Result<Replica, Refusal> {
-        let from = self.handle.raw();
+    pub fn renew(&self, limit: u64) -> Result<Replica, Refusal> {
+        let mut share = self.handle.share();
         let handle = Owned::make(sys::antientropy_free, |into| {
             // SAFETY: as in `sys`; `into` is empty and a local one.
-            unsafe { sys::antientropy_renew(from, into, limit) }
+            unsafe { sys::antientropy_share_renew(&mut share, into, limit) }
         })?;
         Ok(Replica { handle })
     }
@@ -137,19 +135,19 @@ impl Replica {
     }
 
     /// Returns the format, the range and the number of entries: what a checkpoint or a log has to name.
-    pub fn about(&mut self) -> Result<About, Refusal> {
+    pub fn about(&self) -> Result<About, Refusal> {
         let about: sys::About = written(|about| {
             // SAFETY: as in `sys`.
-            unsafe { sys::antientropy_about(self.handle.raw(), about) }
+            unsafe { sys::antientropy_share_about(&mut self.handle.share(), about) }
         })?;
         Ok(about.into())
     }
 
     /// Returns the counts of entries, dirty nodes and sessions.
-    pub fn count(&mut self) -> Result<Counts, Refusal> {
+    pub fn count(&self) -> Result<Counts, Refusal> {
         written(|counts| {
             // SAFETY: as in `sys`.
-            unsafe { sys::antientropy_count(self.handle.raw(), counts) }
+            unsafe { sys::antientropy_share_count(&mut self.handle.share(), counts) }
         })
     }
 
@@ -157,10 +155,10 @@ impl Replica {
     ///
     /// It looks at each chunk of 15 rows and at the digests of each session's leaves: call it once in some seconds, not
     /// at each put.
-    pub fn bytes(&mut self) -> Result<Bytes, Refusal> {
+    pub fn bytes(&self) -> Result<Bytes, Refusal> {
         written(|bytes| {
             // SAFETY: as in `sys`.
-            unsafe { sys::antientropy_bytes(self.handle.raw(), bytes) }
+            unsafe { sys::antientropy_share_bytes(&mut self.handle.share(), bytes) }
         })
     }
 }
@@ -248,7 +246,7 @@ impl Replica {
     }
 
     /// Returns all versions held for a key. Several are concurrent.
-    pub fn get(&mut self, key: &[u8]) -> Result<Vec<Version>, Refusal> {
+    pub fn get(&self, key: &[u8]) -> Result<Vec<Version>, Refusal> {
         let mut versions = Vec::new();
         while let Some((version, held)) = self.read_counted(key, versions.len() as u64)? {
             versions.push(version);
@@ -260,53 +258,59 @@ impl Replica {
     }
 
     /// Returns an iterator over the versions held for a key, which reads each when it is its turn.
-    pub fn versions<'a>(&'a mut self, key: &'a [u8]) -> impl Iterator<Item = Result<Version, Refusal>> + 'a {
+    pub fn versions<'a>(&'a self, key: &'a [u8]) -> impl Iterator<Item = Result<Version, Refusal>> + 'a {
         let indexes = 0..;
         indexes.map_while(move |index| self.read(key, index).transpose())
     }
 
     /// Returns the number of versions held for a key.
-    pub fn count_versions(&mut self, key: &[u8]) -> Result<u64, Refusal> {
+    pub fn count_versions(&self, key: &[u8]) -> Result<u64, Refusal> {
         written(|count| {
             // SAFETY: as in `sys`.
-            unsafe { sys::antientropy_versions(self.handle.raw(), key.as_ptr(), key.len(), count) }
+            unsafe { sys::antientropy_share_versions(&mut self.handle.share(), key.as_ptr(), key.len(), count) }
         })
     }
 
     /// Returns one of the versions held for a key, by its index from 0.
-    pub fn read(&mut self, key: &[u8], index: u64) -> Result<Option<Version>, Refusal> {
+    pub fn read(&self, key: &[u8], index: u64) -> Result<Option<Version>, Refusal> {
         Ok(self.read_counted(key, index)?.map(|(version, _)| version))
     }
 
     /// Returns the kind and the value of one of the versions held for a key. A tombstone's value has no bytes.
-    pub fn value(&mut self, key: &[u8], index: u64) -> Result<Option<(Kind, Vec<u8>)>, Refusal> {
-        let (handle, at, key_len) = (self.handle.raw(), key.as_ptr(), key.len());
+    pub fn value(&self, key: &[u8], index: u64) -> Result<Option<(Kind, Vec<u8>)>, Refusal> {
+        let (mut share, at, key_len) = (self.handle.share(), key.as_ptr(), key.len());
         // SAFETY: as in `sys`.
         found(unsafe {
-            value(|kind, out, len, need| sys::antientropy_value(handle, at, key_len, index, kind, out, len, need))
+            value(|kind, out, len, need| {
+                sys::antientropy_share_value(&mut share, at, key_len, index, kind, out, len, need)
+            })
         })
     }
 
     /// Returns the clock of one of the versions held for a key.
-    pub fn clock(&mut self, key: &[u8], index: u64) -> Result<Option<Clock>, Refusal> {
-        let (handle, at, key_len) = (self.handle.raw(), key.as_ptr(), key.len());
+    pub fn clock(&self, key: &[u8], index: u64) -> Result<Option<Clock>, Refusal> {
+        let (mut share, at, key_len) = (self.handle.share(), key.as_ptr(), key.len());
         // SAFETY: as in `sys`.
-        found(unsafe { clock(|out, len, need| sys::antientropy_clock(handle, at, key_len, index, out, len, need)) })
+        found(unsafe {
+            clock(|out, len, need| sys::antientropy_share_clock(&mut share, at, key_len, index, out, len, need))
+        })
     }
 
     /// Returns the text of the row of a key (`docs/FORMATS.md`), or `None` if no version is held. Refused as `BadKey`.
-    pub fn row(&mut self, key: &[u8]) -> Result<Option<Vec<u8>>, Refusal> {
-        row(&mut self.handle, sys::antientropy_get, key)
+    pub fn row(&self, key: &[u8]) -> Result<Option<Vec<u8>>, Refusal> {
+        row(&self.handle, sys::antientropy_share_get, key)
     }
 
     /// Returns the least key of a leaf above a key, or the first one for a key of no bytes.
     ///
     /// Refused as `BadMessage` if the tree has no such leaf.
-    pub fn key_after(&mut self, leaf: u16, key: &[u8]) -> Result<Option<Vec<u8>>, Refusal> {
-        let (handle, at, key_len) = (self.handle.raw(), key.as_ptr(), key.len());
+    pub fn key_after(&self, leaf: u16, key: &[u8]) -> Result<Option<Vec<u8>>, Refusal> {
+        let (mut share, at, key_len) = (self.handle.share(), key.as_ptr(), key.len());
         // SAFETY: as in `sys`.
         found(unsafe {
-            bytes(|out, len, need| sys::antientropy_key_after(handle, leaf.into(), at, key_len, out, len, need))
+            bytes(|out, len, need| {
+                sys::antientropy_share_key_after(&mut share, leaf.into(), at, key_len, out, len, need)
+            })
         })
     }
 
@@ -320,26 +324,27 @@ impl Replica {
     /// assert_eq!(keys?, [b"cart"]);
     /// # Ok::<(), antientropy::Refusal>(())
     /// ```
-    pub fn keys(&mut self) -> impl Iterator<Item = Result<Vec<u8>, Refusal>> + '_ {
-        Keys::of(&mut self.handle, sys::antientropy_key_next).all()
+    pub fn keys(&self) -> impl Iterator<Item = Result<Vec<u8>, Refusal>> + '_ {
+        Keys::of(&self.handle, sys::antientropy_share_key_next).all()
     }
 
     /// Returns an iterator over the keys of a leaf, in ascending order. Its first result is a refusal as `BadMessage`
     /// if the tree has no such leaf.
-    pub fn keys_of(&mut self, leaf: u16) -> impl Iterator<Item = Result<Vec<u8>, Refusal>> + '_ {
-        Keys::of(&mut self.handle, sys::antientropy_key_next).of_leaf(leaf)
+    pub fn keys_of(&self, leaf: u16) -> impl Iterator<Item = Result<Vec<u8>, Refusal>> + '_ {
+        Keys::of(&self.handle, sys::antientropy_share_key_next).of_leaf(leaf)
     }
 
     /// Returns one of the versions held for a key, with the number of all.
-    fn read_counted(&mut self, key: &[u8], index: u64) -> Result<Option<(Version, u64)>, Refusal> {
-        let (handle, at, key_len) = (self.handle.raw(), key.as_ptr(), key.len());
+    fn read_counted(&self, key: &[u8], index: u64) -> Result<Option<(Version, u64)>, Refusal> {
+        let (mut share, at, key_len) = (self.handle.share(), key.as_ptr(), key.len());
         let mut reading = sys::Reading::default();
         let mut pairs = [Pair::default(); CLOCK_MAX];
         // SAFETY: as in `sys`. The pairs always fit, so SMALL means that the value doesn't.
         let value = found(unsafe {
             bytes(|out, len, need| {
                 let to = pairs.as_mut_ptr();
-                let number = sys::antientropy_read(handle, at, key_len, index, &mut reading, to, CLOCK_MAX, out, len);
+                let number =
+                    sys::antientropy_share_read(&mut share, at, key_len, index, &mut reading, to, CLOCK_MAX, out, len);
                 *need = reading.bytes;
                 number
             })
@@ -356,7 +361,7 @@ impl Replica {
 /// The journal.
 impl Replica {
     /// Returns an entry of the journal, by its number.
-    pub fn entry(&mut self, number: u64) -> Result<Option<Entry>, Refusal> {
+    pub fn entry(&self, number: u64) -> Result<Option<Entry>, Refusal> {
         found(self.entry_parts(number))
     }
 
@@ -379,9 +384,9 @@ impl Replica {
     /// }
     /// # Ok::<(), antientropy::Refusal>(())
     /// ```
-    pub fn entries(&mut self, start: u64) -> Result<impl Iterator<Item = Result<Entry, Refusal>> + '_, Refusal> {
+    pub fn entries(&self, start: u64) -> Result<impl Iterator<Item = Result<Entry, Refusal>> + '_, Refusal> {
         let format = self.about()?.format;
-        Ok(Entries::of(&mut self.handle, format, start)?.all())
+        Ok(Entries::of(&self.handle, format, start)?.all())
     }
 
     /// Returns some entries of the journal, from a number on, packed: about 1 MiB, and at least one if any is left.
@@ -404,8 +409,8 @@ impl Replica {
     /// assert_eq!((logged, log.len()), (1, 29));
     /// # Ok::<(), Box<dyn std::error::Error>>(())
     /// ```
-    pub fn packed_entries(&mut self, start: u64) -> Result<Packed, Refusal> {
-        let mut packed = Packed::read(&mut self.handle, start)?;
+    pub fn packed_entries(&self, start: u64) -> Result<Packed, Refusal> {
+        let mut packed = Packed::read(&self.handle, start)?;
         packed.bytes.shrink_to_fit();
         Ok(packed)
     }
@@ -423,23 +428,25 @@ impl Replica {
     /// assert_eq!(replica.top_counter(1, b"cart", u64::MAX)?, 1);
     /// # Ok::<(), antientropy::Refusal>(())
     /// ```
-    pub fn top_counter(&mut self, node: u16, key: &[u8], entries: u64) -> Result<u64, Refusal> {
+    pub fn top_counter(&self, node: u16, key: &[u8], entries: u64) -> Result<u64, Refusal> {
         let (node, at, key_len) = (node.into(), key.as_ptr(), key.len());
         written(|counter| {
             // SAFETY: as in `sys`.
-            unsafe { sys::antientropy_top_counter(self.handle.raw(), node, at, key_len, entries, counter) }
+            unsafe { sys::antientropy_share_top_counter(&mut self.handle.share(), node, at, key_len, entries, counter) }
         })
     }
 
-    fn entry_parts(&mut self, number: u64) -> Result<Entry, Refusal> {
-        let handle = self.handle.raw();
+    fn entry_parts(&self, number: u64) -> Result<Entry, Refusal> {
+        let mut share = self.handle.share();
         // SAFETY: as in `sys`, for the four calls.
         let (key, value, clock, source): (_, _, _, u64) = unsafe {
             (
-                bytes(|out, len, need| sys::antientropy_entry_key(handle, number, out, len, need))?,
-                value(|kind, out, len, need| sys::antientropy_entry_value(handle, number, kind, out, len, need))?,
-                clock(|out, len, need| sys::antientropy_entry_clock(handle, number, out, len, need))?,
-                written(|source| sys::antientropy_entry_source(handle, number, source))?,
+                bytes(|out, len, need| sys::antientropy_share_entry_key(&mut share, number, out, len, need))?,
+                value(|kind, out, len, need| {
+                    sys::antientropy_share_entry_value(&mut share, number, kind, out, len, need)
+                })?,
+                clock(|out, len, need| sys::antientropy_share_entry_clock(&mut share, number, out, len, need))?,
+                written(|source| sys::antientropy_share_entry_source(&mut share, number, source))?,
             )
         };
         Ok(Entry { number, key, version: Version::of(clock, value)?, source: Source::from(source) })
@@ -475,20 +482,20 @@ impl Replica {
 
     /// Returns a snapshot of the rows now. Hashes the nodes that have no digest. The replica keeps no moment then.
     pub fn snapshot(&mut self) -> Result<Snapshot, Refusal> {
-        at_moment(self, Replica::moment)
+        at_moment(self, |replica| replica.moment())
     }
 
     /// Returns a snapshot of the rows now. Refused as `Dirty` if a node has no digest.
-    pub fn snapshot_if_clean(&mut self) -> Result<Snapshot, Refusal> {
-        self.snapshot_by(sys::antientropy_snapshot)
+    pub fn snapshot_if_clean(&self) -> Result<Snapshot, Refusal> {
+        self.snapshot_by(sys::antientropy_share_snapshot)
     }
 
     /// Makes one of the two calls that make a snapshot.
-    fn snapshot_by(&mut self, call: SnapshotCall) -> Result<Snapshot, Refusal> {
-        let from = self.handle.raw();
+    fn snapshot_by(&self, call: SnapshotCall) -> Result<Snapshot, Refusal> {
+        let mut share = self.handle.share();
         let handle = Owned::make(sys::antientropy_snapshot_free, |into| {
             // SAFETY: as in `sys`; `into` is empty and a local one.
-            unsafe { call(from, into) }
+            unsafe { call(&mut share, into) }
         })?;
         Snapshot::of(handle)
     }
@@ -538,7 +545,7 @@ impl Replica {
     /// # Ok::<(), Box<dyn std::error::Error>>(())
     /// ```
     pub fn save(&mut self, file: &mut (impl Write + ?Sized)) -> Result<u64, CheckpointError> {
-        let mut snapshot = self.snapshot()?;
+        let snapshot = self.snapshot()?;
         snapshot.save(file)?;
         Ok(snapshot.entries())
     }
@@ -598,11 +605,11 @@ impl Replica {
     /// Takes a portion of the moment's nodes, those that `hash_moment` would hash: any thread hashes them.
     ///
     /// The portion has no node if the moment is whole, or if there is none.
-    pub fn take_portion(&mut self, most: u64) -> Result<Portion, Refusal> {
-        let from = self.handle.raw();
+    pub fn take_portion(&self, most: u64) -> Result<Portion, Refusal> {
+        let mut share = self.handle.share();
         let handle = Owned::make(sys::antientropy_portion_free, |into| {
             // SAFETY: as in `sys`; `into` is empty and a local one.
-            unsafe { sys::antientropy_take_portion(from, most, into) }
+            unsafe { sys::antientropy_share_take_portion(&mut share, most, into) }
         })?;
         Ok(Portion::of(handle))
     }
@@ -619,8 +626,8 @@ impl Replica {
     }
 
     /// Returns a snapshot of the moment. Refused as `Dirty` if there is none, or if it isn't whole.
-    pub fn moment(&mut self) -> Result<Snapshot, Refusal> {
-        self.snapshot_by(sys::antientropy_moment)
+    pub fn moment(&self) -> Result<Snapshot, Refusal> {
+        self.snapshot_by(sys::antientropy_share_moment)
     }
 }
 
@@ -695,7 +702,7 @@ impl Replica {
     /// # use antientropy::{Clock, Config, Replica};
     /// # let (mut a, mut b) = (Replica::new(Config::default())?, Replica::new(Config::default())?);
     /// a.put(1, b"cart", Some(b"milk"), &Clock::new())?;
-    /// let mut offered = a.snapshot()?;
+    /// let offered = a.snapshot()?;
     /// let offer = offered.offer(7)?;
     /// let synced = b.sync(1, &offer, |asks| asks.iter().map(|ask| offered.serve(7, ask).ok()).collect())?;
     /// assert!(synced.finished() && synced.accepted == 1);
@@ -727,10 +734,8 @@ impl AsMut<Replica> for Replica {
 /// Returns the result of a call that loads rows.
 fn loaded(call: impl FnOnce(&mut sys::Loaded) -> u32) -> Result<Loaded, RowsRefused> {
     let mut loaded = sys::Loaded::default();
-    check(call(&mut loaded)).map_err(|refusal| RowsRefused {
-        refusal,
-        offset: (refusal == Refusal::RowBroken).then_some(loaded.offset),
-    })?;
+    check(call(&mut loaded))
+        .map_err(|refusal| RowsRefused { refusal, offset: (refusal == Refusal::RowBroken).then_some(loaded.offset) })?;
     Ok(Loaded { taken: loaded.taken, known: loaded.known })
 }
 

@@ -13,10 +13,10 @@ type RowCall = unsafe extern "C" fn(*mut sys::Handle, *const u8, usize, *mut u8,
 type KeyCall = unsafe extern "C" fn(*mut sys::Handle, u64, *mut u8, usize, *mut u64) -> u32;
 
 /// Returns the text of the row of a key, or `None` if no version is held. `call` is one for this kind of handle.
-pub(crate) fn row(handle: &mut Owned, call: RowCall, key: &[u8]) -> Result<Option<Vec<u8>>, Refusal> {
-    let (handle, at, key_len) = (handle.raw(), key.as_ptr(), key.len());
+pub(crate) fn row(handle: &Owned, call: RowCall, key: &[u8]) -> Result<Option<Vec<u8>>, Refusal> {
+    let (mut share, at, key_len) = (handle.share(), key.as_ptr(), key.len());
     // SAFETY: as in `sys`.
-    let row = unsafe { bytes(|out, len, need| call(handle, at, key_len, out, len, need)) }?;
+    let row = unsafe { bytes(|out, len, need| call(&mut share, at, key_len, out, len, need)) }?;
     Ok(Some(row).filter(|row| !row.is_empty()))
 }
 
@@ -35,18 +35,18 @@ impl Seen {
 
 /// The keys of rows.
 pub(crate) struct Keys<'a> {
-    handle: &'a mut Owned,
+    handle: &'a Owned,
     call: KeyCall,
 }
 
 impl<'a> Keys<'a> {
     /// Returns the keys of the rows of a handle. `call` is one for this kind of handle.
-    pub(crate) fn of(handle: &'a mut Owned, call: KeyCall) -> Keys<'a> {
+    pub(crate) fn of(handle: &'a Owned, call: KeyCall) -> Keys<'a> {
         Keys { handle, call }
     }
 
     /// Returns an iterator over the keys, leaf by leaf.
-    pub(crate) fn all(mut self) -> impl Iterator<Item = Result<Vec<u8>, Refusal>> + 'a {
+    pub(crate) fn all(self) -> impl Iterator<Item = Result<Vec<u8>, Refusal>> + 'a {
         let mut seen = Some(Seen::none_of(0));
         iter::from_fn(move || {
             let next = self.key_on(seen.as_mut()?).transpose();
@@ -58,7 +58,7 @@ impl<'a> Keys<'a> {
     }
 
     /// Returns an iterator over the keys of a leaf.
-    pub(crate) fn of_leaf(mut self, leaf: u16) -> impl Iterator<Item = Result<Vec<u8>, Refusal>> + 'a {
+    pub(crate) fn of_leaf(self, leaf: u16) -> impl Iterator<Item = Result<Vec<u8>, Refusal>> + 'a {
         let mut seen = Some(Seen::none_of(leaf));
         iter::from_fn(move || {
             let next = self.key_next(seen.as_mut()?).transpose();
@@ -70,7 +70,7 @@ impl<'a> Keys<'a> {
     }
 
     /// Returns the next key of a leaf, or the first one of those after it.
-    fn key_on(&mut self, seen: &mut Seen) -> Result<Option<Vec<u8>>, Refusal> {
+    fn key_on(&self, seen: &mut Seen) -> Result<Option<Vec<u8>>, Refusal> {
         loop {
             match self.key_next(seen) {
                 Ok(None) => *seen = Seen::none_of(seen.leaf + 1),
@@ -81,10 +81,10 @@ impl<'a> Keys<'a> {
     }
 
     /// Returns the next key of a leaf.
-    fn key_next(&mut self, seen: &mut Seen) -> Result<Option<Vec<u8>>, Refusal> {
-        let (handle, leaf, key) = (self.handle.raw(), seen.leaf.into(), seen.key.as_mut_ptr());
+    fn key_next(&self, seen: &mut Seen) -> Result<Option<Vec<u8>>, Refusal> {
+        let (mut share, leaf, key) = (self.handle.share(), seen.leaf.into(), seen.key.as_mut_ptr());
         // SAFETY: as in `sys`.
-        let next = check(unsafe { (self.call)(handle, leaf, key, KEY_MAX, &mut seen.len) });
+        let next = check(unsafe { (self.call)(&mut share, leaf, key, KEY_MAX, &mut seen.len) });
         Ok(found(next)?.map(|()| seen.key[..seen.len as usize].to_vec()))
     }
 }

@@ -26,7 +26,7 @@ pub struct SessionId {
 /// use antientropy::{Clock, Config, Replica, State};
 /// let (mut a, mut b) = (Replica::new(Config::default())?, Replica::new(Config::default())?);
 /// a.put(1, b"cart", Some(b"milk"), &Clock::new())?;
-/// let mut offered = a.snapshot()?;
+/// let offered = a.snapshot()?;
 /// let id = b.open(1, &offered.offer(7)?)?;
 /// while let Some(ask) = b.session(id).ask()? {
 ///     b.session(id).take(&offered.serve(7, &ask)?)?;
@@ -51,44 +51,48 @@ impl<'a> Session<'a> {
     }
 
     /// Returns the state of the session.
-    pub fn state(&mut self) -> Result<State, Refusal> {
+    pub fn state(&self) -> Result<State, Refusal> {
         let state: u64 = written(|state| {
             // SAFETY: as in `sys`.
-            unsafe { sys::antientropy_session(self.handle.raw(), self.id.number, state) }
+            unsafe { sys::antientropy_share_session(&mut self.handle.share(), self.id.number, state) }
         })?;
         Ok(State::from(state))
     }
 
     /// Returns the number of nodes that are outstanding: 0 if the session has ended.
-    pub fn outstanding(&mut self) -> Result<u64, Refusal> {
+    pub fn outstanding(&self) -> Result<u64, Refusal> {
         written(|count| {
             // SAFETY: as in `sys`.
-            unsafe { sys::antientropy_outstanding(self.handle.raw(), self.id.number, count) }
+            unsafe { sys::antientropy_share_outstanding(&mut self.handle.share(), self.id.number, count) }
         })
     }
 
     /// Returns the ask for the first outstanding node, or `None` if there is none.
-    pub fn ask(&mut self) -> Result<Option<Vec<u8>>, Refusal> {
-        let (handle, id) = (self.handle.raw(), self.id);
+    pub fn ask(&self) -> Result<Option<Vec<u8>>, Refusal> {
+        let (mut share, id) = (self.handle.share(), self.id);
         // SAFETY: as in `sys`.
-        let ask = unsafe { bytes(|out, len, need| sys::antientropy_ask(handle, id.number, id.offer, out, len, need)) }?;
+        let ask = unsafe {
+            bytes(|out, len, need| sys::antientropy_share_ask(&mut share, id.number, id.offer, out, len, need))
+        }?;
         Ok(Some(ask).filter(|ask| !ask.is_empty()))
     }
 
     /// Returns the ask for an outstanding node by its place from 0, or `None` if there are no more.
     ///
     /// Each answer that is taken changes the places.
-    pub fn ask_at(&mut self, place: u64) -> Result<Option<Vec<u8>>, Refusal> {
-        let (handle, id) = (self.handle.raw(), self.id);
+    pub fn ask_at(&self, place: u64) -> Result<Option<Vec<u8>>, Refusal> {
+        let (mut share, id) = (self.handle.share(), self.id);
         // SAFETY: as in `sys`.
         let ask = unsafe {
-            bytes(|out, len, need| sys::antientropy_ask_at(handle, id.number, place, id.offer, out, len, need))
+            bytes(|out, len, need| {
+                sys::antientropy_share_ask_at(&mut share, id.number, place, id.offer, out, len, need)
+            })
         }?;
         Ok(Some(ask).filter(|ask| !ask.is_empty()))
     }
 
     /// Returns the asks for all outstanding nodes. They may be sent at once.
-    pub fn asks(&mut self) -> Result<Vec<Vec<u8>>, Refusal> {
+    pub fn asks(&self) -> Result<Vec<Vec<u8>>, Refusal> {
         let places = 0..self.outstanding()?;
         places.filter_map(|place| self.ask_at(place).transpose()).collect()
     }

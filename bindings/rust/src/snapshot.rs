@@ -12,13 +12,13 @@ use crate::values::{About, Root};
 /// The rows of a replica at one moment.
 ///
 /// It serves a partner's asks while the replica goes on, maybe in another thread, and may outlive the replica. Threads
-/// read its rows at the same time, each by a snapshot of its own, which [`share`](Snapshot::share) returns.
+/// may read it at once: by a reference, or each by a snapshot of its own, which [`share`](Snapshot::share) returns.
 ///
 /// ```
 /// use antientropy::{read_offer, Clock, Config, Replica};
 /// let mut replica = Replica::new(Config::default())?;
 /// replica.put(1, b"cart", Some(b"milk"), &Clock::new())?;
-/// let mut snapshot = replica.snapshot()?;
+/// let snapshot = replica.snapshot()?;
 /// let offer = snapshot.offer(7)?;
 /// assert_eq!(read_offer(&offer)?.root, snapshot.root()?);
 /// # Ok::<(), antientropy::Refusal>(())
@@ -31,10 +31,10 @@ pub struct Snapshot {
 
 impl Snapshot {
     /// Returns the snapshot of a handle.
-    pub(crate) fn of(mut handle: Owned) -> Result<Snapshot, Refusal> {
+    pub(crate) fn of(handle: Owned) -> Result<Snapshot, Refusal> {
         let about: sys::About = written(|about| {
             // SAFETY: as in `sys`.
-            unsafe { sys::antientropy_snapshot_about(handle.raw(), about) }
+            unsafe { sys::antientropy_share_snapshot_about(&mut handle.share(), about) }
         })?;
         Ok(Snapshot { handle, about: about.into() })
     }
@@ -47,17 +47,17 @@ impl Snapshot {
     /// # use antientropy::{Clock, Config, Replica};
     /// # let mut replica = Replica::new(Config::default())?;
     /// replica.put(1, b"cart", Some(b"milk"), &Clock::new())?;
-    /// let mut snapshot = replica.snapshot()?;
-    /// let mut shared = snapshot.share()?;
+    /// let snapshot = replica.snapshot()?;
+    /// let shared = snapshot.share()?;
     /// let reader = std::thread::spawn(move || shared.row(b"cart"));
     /// assert_eq!(snapshot.row(b"cart")?, reader.join().unwrap()?);
     /// # Ok::<(), antientropy::Refusal>(())
     /// ```
-    pub fn share(&mut self) -> Result<Snapshot, Refusal> {
-        let from = self.handle.raw();
+    pub fn share(&self) -> Result<Snapshot, Refusal> {
+        let mut share = self.handle.share();
         let handle = Owned::make(sys::antientropy_snapshot_free, |into| {
             // SAFETY: as in `sys`; `into` is empty and a local one.
-            unsafe { sys::antientropy_snapshot_share(from, into) }
+            unsafe { sys::antientropy_share_snapshot_share(&mut share, into) }
         })?;
         Ok(Snapshot { handle, about: self.about })
     }
@@ -83,73 +83,77 @@ impl Snapshot {
     }
 
     /// Returns the size of the rows in bytes, as [`rows`](Snapshot::rows) returns them.
-    pub fn bytes(&mut self) -> Result<u64, Refusal> {
+    pub fn bytes(&self) -> Result<u64, Refusal> {
         written(|bytes| {
             // SAFETY: as in `sys`.
-            unsafe { sys::antientropy_snapshot_bytes(self.handle.raw(), bytes) }
+            unsafe { sys::antientropy_share_snapshot_bytes(&mut self.handle.share(), bytes) }
         })
     }
 
     /// Returns the digest of the root.
-    pub fn root(&mut self) -> Result<Root, Refusal> {
+    pub fn root(&self) -> Result<Root, Refusal> {
         let (mut root, mut need) = (Root::default(), 0);
         // SAFETY: as in `sys`.
-        check(unsafe { sys::antientropy_root(self.handle.raw(), root.as_mut_ptr(), root.len(), &mut need) })?;
+        check(unsafe {
+            sys::antientropy_share_root(&mut self.handle.share(), root.as_mut_ptr(), root.len(), &mut need)
+        })?;
         Ok(root)
     }
 
     /// Returns the digest of a node of the tree. Refused as `BadMessage` if the tree has no such node.
     ///
     /// The root is node 0 at depth 0; the leaves are at depth 2, or at 3 in format 2.
-    pub fn digest(&mut self, depth: u8, index: u16) -> Result<Root, Refusal> {
+    pub fn digest(&self, depth: u8, index: u16) -> Result<Root, Refusal> {
         let (mut digest, mut need) = (Root::default(), 0);
-        let (handle, out, len) = (self.handle.raw(), digest.as_mut_ptr(), digest.len());
+        let (mut share, out, len) = (self.handle.share(), digest.as_mut_ptr(), digest.len());
         // SAFETY: as in `sys`.
-        check(unsafe { sys::antientropy_digest(handle, depth.into(), index.into(), out, len, &mut need) })?;
+        check(unsafe { sys::antientropy_share_digest(&mut share, depth.into(), index.into(), out, len, &mut need) })?;
         Ok(digest)
     }
 
     /// Returns the message that offers the snapshot. The caller gives each of its offers a number.
-    pub fn offer(&mut self, number: u32) -> Result<Vec<u8>, Refusal> {
-        let handle = self.handle.raw();
+    pub fn offer(&self, number: u32) -> Result<Vec<u8>, Refusal> {
+        let mut share = self.handle.share();
         // SAFETY: as in `sys`.
-        unsafe { bytes(|out, len, need| sys::antientropy_offer(handle, number, out, len, need)) }
+        unsafe { bytes(|out, len, need| sys::antientropy_share_offer(&mut share, number, out, len, need)) }
     }
 
     /// Returns the answer to a partner's ask for the offer of that number. Refused as `BadMessage` or `Gone`.
-    pub fn serve(&mut self, number: u32, ask: &[u8]) -> Result<Vec<u8>, Refusal> {
-        let handle = self.handle.raw();
+    pub fn serve(&self, number: u32, ask: &[u8]) -> Result<Vec<u8>, Refusal> {
+        let mut share = self.handle.share();
         // SAFETY: as in `sys`.
         unsafe {
-            bytes(|out, len, need| sys::antientropy_serve(handle, number, ask.as_ptr(), ask.len(), out, len, need))
+            bytes(|out, len, need| {
+                sys::antientropy_share_serve(&mut share, number, ask.as_ptr(), ask.len(), out, len, need)
+            })
         }
     }
 
     /// Returns the texts of the rows of a leaf. Refused as `BadMessage` if the tree has no such leaf.
-    pub fn rows(&mut self, leaf: u16) -> Result<Vec<u8>, Refusal> {
-        let handle = self.handle.raw();
+    pub fn rows(&self, leaf: u16) -> Result<Vec<u8>, Refusal> {
+        let mut share = self.handle.share();
         // SAFETY: as in `sys`.
-        unsafe { bytes(|out, len, need| sys::antientropy_rows(handle, leaf.into(), out, len, need)) }
+        unsafe { bytes(|out, len, need| sys::antientropy_share_rows(&mut share, leaf.into(), out, len, need)) }
     }
 
     /// Returns the text of the row of a key (`docs/FORMATS.md`), or `None` if no version is held. Refused as `BadKey`.
-    pub fn row(&mut self, key: &[u8]) -> Result<Option<Vec<u8>>, Refusal> {
-        row(&mut self.handle, sys::antientropy_snapshot_get, key)
+    pub fn row(&self, key: &[u8]) -> Result<Option<Vec<u8>>, Refusal> {
+        row(&self.handle, sys::antientropy_share_snapshot_get, key)
     }
 
     /// Returns an iterator over the keys, leaf by leaf.
-    pub fn keys(&mut self) -> impl Iterator<Item = Result<Vec<u8>, Refusal>> + '_ {
-        Keys::of(&mut self.handle, sys::antientropy_snapshot_key_next).all()
+    pub fn keys(&self) -> impl Iterator<Item = Result<Vec<u8>, Refusal>> + '_ {
+        Keys::of(&self.handle, sys::antientropy_share_snapshot_key_next).all()
     }
 
     /// Returns an iterator over the keys of a leaf, in ascending order. Its first result is a refusal as `BadMessage`
     /// if the tree has no such leaf.
-    pub fn keys_of(&mut self, leaf: u16) -> impl Iterator<Item = Result<Vec<u8>, Refusal>> + '_ {
-        Keys::of(&mut self.handle, sys::antientropy_snapshot_key_next).of_leaf(leaf)
+    pub fn keys_of(&self, leaf: u16) -> impl Iterator<Item = Result<Vec<u8>, Refusal>> + '_ {
+        Keys::of(&self.handle, sys::antientropy_share_snapshot_key_next).of_leaf(leaf)
     }
 
     /// Writes a checkpoint of the rows (`docs/FORMATS.md`).
-    pub fn save(&mut self, file: &mut (impl Write + ?Sized)) -> Result<(), CheckpointError> {
+    pub fn save(&self, file: &mut (impl Write + ?Sized)) -> Result<(), CheckpointError> {
         checkpoint::save(self, file)
     }
 }

@@ -82,7 +82,7 @@ fn open_unless_equal(
     partner: u16,
     offer: &[u8],
 ) -> Result<(Snapshot, Option<SessionId>), Refusal> {
-    let (mut moment, offered) = (replica.moment()?, read_offer(offer)?);
+    let (moment, offered) = (replica.moment()?, read_offer(offer)?);
     if (offered.format, offered.range, offered.root) == (moment.format(), moment.range(), moment.root()?) {
         return Ok((moment, None));
     }

@@ -2,7 +2,9 @@
 //!
 //! A call is sound under these conditions, to which the SAFETY comments of the other modules refer:
 //!
-//! - The handle is that of an `Owned`, which is borrowed exclusively: so one call at a time is on it.
+//! - The handle is that of an `Owned`, which is borrowed exclusively: so the call has it alone.
+//! - A share is a copy of the handle of an `Owned`, and no other call has it meanwhile. The `Owned` is borrowed, so the
+//!   calls that are made of its handle at once are all by shares.
 //! - A pointer with a length is that of one slice. An empty slice has an aligned pointer other than NULL.
 //! - A result goes to a local variable or to room for the length that is passed, and overlaps nothing.
 
@@ -12,6 +14,7 @@ use crate::values::{Bytes, Counts, HintCounts, Pair, Receipt, Root, SlotCounts};
 
 /// A handle. Hints have all of these fields, the other four structs of handles in the header the first two.
 #[repr(C)]
+#[derive(Clone, Copy)]
 pub struct Handle {
     pub at: *mut c_void,
     pub held: bool,
@@ -75,6 +78,175 @@ pub struct Percentile {
     pub micros: u64,
 }
 
+// The calls that read a replica or a snapshot. `share` is a copy of its handle, which the call alone uses.
+extern "C" {
+    pub fn antientropy_share_renew(share: *mut Handle, into: *mut Handle, limit: u64) -> u32;
+    pub fn antientropy_share_count(share: *mut Handle, counts: *mut Counts) -> u32;
+    pub fn antientropy_share_about(share: *mut Handle, about: *mut About) -> u32;
+    pub fn antientropy_share_bytes(share: *mut Handle, bytes: *mut Bytes) -> u32;
+    pub fn antientropy_share_get(
+        share: *mut Handle,
+        key: *const u8,
+        key_len: usize,
+        out: *mut u8,
+        out_len: usize,
+        need: *mut u64,
+    ) -> u32;
+    pub fn antientropy_share_versions(share: *mut Handle, key: *const u8, key_len: usize, count: *mut u64) -> u32;
+    pub fn antientropy_share_value(
+        share: *mut Handle,
+        key: *const u8,
+        key_len: usize,
+        index: u64,
+        kind: *mut u8,
+        out: *mut u8,
+        out_len: usize,
+        need: *mut u64,
+    ) -> u32;
+    pub fn antientropy_share_clock(
+        share: *mut Handle,
+        key: *const u8,
+        key_len: usize,
+        index: u64,
+        out: *mut Pair,
+        out_len: usize,
+        need: *mut u64,
+    ) -> u32;
+    pub fn antientropy_share_read(
+        share: *mut Handle,
+        key: *const u8,
+        key_len: usize,
+        index: u64,
+        reading: *mut Reading,
+        pairs: *mut Pair,
+        pairs_len: usize,
+        value: *mut u8,
+        value_len: usize,
+    ) -> u32;
+    pub fn antientropy_share_key_after(
+        share: *mut Handle,
+        leaf: u64,
+        key: *const u8,
+        key_len: usize,
+        out: *mut u8,
+        out_len: usize,
+        need: *mut u64,
+    ) -> u32;
+    pub fn antientropy_share_key_next(
+        share: *mut Handle,
+        leaf: u64,
+        key: *mut u8,
+        key_room: usize,
+        key_len: *mut u64,
+    ) -> u32;
+    pub fn antientropy_share_entries(
+        share: *mut Handle,
+        from: u64,
+        out: *mut u8,
+        out_len: usize,
+        need: *mut u64,
+        next: *mut u64,
+    ) -> u32;
+    pub fn antientropy_share_entry_key(
+        share: *mut Handle,
+        number: u64,
+        out: *mut u8,
+        out_len: usize,
+        need: *mut u64,
+    ) -> u32;
+    pub fn antientropy_share_entry_value(
+        share: *mut Handle,
+        number: u64,
+        kind: *mut u8,
+        out: *mut u8,
+        out_len: usize,
+        need: *mut u64,
+    ) -> u32;
+    pub fn antientropy_share_entry_clock(
+        share: *mut Handle,
+        number: u64,
+        out: *mut Pair,
+        out_len: usize,
+        need: *mut u64,
+    ) -> u32;
+    pub fn antientropy_share_entry_source(share: *mut Handle, number: u64, source: *mut u64) -> u32;
+    pub fn antientropy_share_top_counter(
+        share: *mut Handle,
+        node: u64,
+        key: *const u8,
+        key_len: usize,
+        entries: u64,
+        counter: *mut u64,
+    ) -> u32;
+    pub fn antientropy_share_take_portion(share: *mut Handle, most: u64, portion: *mut Handle) -> u32;
+    pub fn antientropy_share_moment(share: *mut Handle, snapshot: *mut Handle) -> u32;
+    pub fn antientropy_share_snapshot(share: *mut Handle, snapshot: *mut Handle) -> u32;
+    pub fn antientropy_share_snapshot_share(share: *mut Handle, other: *mut Handle) -> u32;
+    pub fn antientropy_share_snapshot_about(share: *mut Handle, about: *mut About) -> u32;
+    pub fn antientropy_share_snapshot_bytes(share: *mut Handle, bytes: *mut u64) -> u32;
+    pub fn antientropy_share_snapshot_get(
+        share: *mut Handle,
+        key: *const u8,
+        key_len: usize,
+        out: *mut u8,
+        out_len: usize,
+        need: *mut u64,
+    ) -> u32;
+    pub fn antientropy_share_snapshot_key_next(
+        share: *mut Handle,
+        leaf: u64,
+        key: *mut u8,
+        key_room: usize,
+        key_len: *mut u64,
+    ) -> u32;
+    pub fn antientropy_share_digest(
+        share: *mut Handle,
+        depth: u64,
+        index: u64,
+        out: *mut u8,
+        out_len: usize,
+        need: *mut u64,
+    ) -> u32;
+    pub fn antientropy_share_root(share: *mut Handle, out: *mut u8, out_len: usize, need: *mut u64) -> u32;
+    pub fn antientropy_share_offer(
+        share: *mut Handle,
+        number: u32,
+        out: *mut u8,
+        out_len: usize,
+        need: *mut u64,
+    ) -> u32;
+    pub fn antientropy_share_serve(
+        share: *mut Handle,
+        number: u32,
+        ask: *const u8,
+        ask_len: usize,
+        out: *mut u8,
+        out_len: usize,
+        need: *mut u64,
+    ) -> u32;
+    pub fn antientropy_share_rows(share: *mut Handle, leaf: u64, out: *mut u8, out_len: usize, need: *mut u64) -> u32;
+    pub fn antientropy_share_outstanding(share: *mut Handle, session: u64, count: *mut u64) -> u32;
+    pub fn antientropy_share_ask_at(
+        share: *mut Handle,
+        session: u64,
+        place: u64,
+        number: u32,
+        out: *mut u8,
+        out_len: usize,
+        need: *mut u64,
+    ) -> u32;
+    pub fn antientropy_share_ask(
+        share: *mut Handle,
+        session: u64,
+        number: u32,
+        out: *mut u8,
+        out_len: usize,
+        need: *mut u64,
+    ) -> u32;
+    pub fn antientropy_share_session(share: *mut Handle, session: u64, state: *mut u64) -> u32;
+}
+
+// The other calls.
 extern "C" {
     pub fn antientropy_version() -> u32;
     pub fn antientropy_name(number: u32, out: *mut u8, out_len: usize, need: *mut u64) -> u32;
@@ -90,11 +262,7 @@ extern "C" {
         second: u64,
     ) -> u32;
     pub fn antientropy_free(replica: *mut Handle);
-    pub fn antientropy_renew(from: *mut Handle, into: *mut Handle, limit: u64) -> u32;
     pub fn antientropy_migrate(replica: *mut Handle) -> u32;
-    pub fn antientropy_count(replica: *mut Handle, counts: *mut Counts) -> u32;
-    pub fn antientropy_about(replica: *mut Handle, about: *mut About) -> u32;
-    pub fn antientropy_bytes(replica: *mut Handle, bytes: *mut Bytes) -> u32;
     pub fn antientropy_put_read(
         replica: *mut Handle,
         node: u64,
@@ -130,61 +298,6 @@ extern "C" {
         value_len: usize,
         taken: *mut u64,
     ) -> u32;
-    pub fn antientropy_get(
-        replica: *mut Handle,
-        key: *const u8,
-        key_len: usize,
-        out: *mut u8,
-        out_len: usize,
-        need: *mut u64,
-    ) -> u32;
-    pub fn antientropy_versions(replica: *mut Handle, key: *const u8, key_len: usize, count: *mut u64) -> u32;
-    pub fn antientropy_value(
-        replica: *mut Handle,
-        key: *const u8,
-        key_len: usize,
-        index: u64,
-        kind: *mut u8,
-        out: *mut u8,
-        out_len: usize,
-        need: *mut u64,
-    ) -> u32;
-    pub fn antientropy_clock(
-        replica: *mut Handle,
-        key: *const u8,
-        key_len: usize,
-        index: u64,
-        out: *mut Pair,
-        out_len: usize,
-        need: *mut u64,
-    ) -> u32;
-    pub fn antientropy_read(
-        replica: *mut Handle,
-        key: *const u8,
-        key_len: usize,
-        index: u64,
-        reading: *mut Reading,
-        pairs: *mut Pair,
-        pairs_len: usize,
-        value: *mut u8,
-        value_len: usize,
-    ) -> u32;
-    pub fn antientropy_key_after(
-        replica: *mut Handle,
-        leaf: u64,
-        key: *const u8,
-        key_len: usize,
-        out: *mut u8,
-        out_len: usize,
-        need: *mut u64,
-    ) -> u32;
-    pub fn antientropy_key_next(
-        replica: *mut Handle,
-        leaf: u64,
-        key: *mut u8,
-        key_room: usize,
-        key_len: *mut u64,
-    ) -> u32;
     pub fn antientropy_compare(
         first: *const Pair,
         first_len: usize,
@@ -201,96 +314,16 @@ extern "C" {
         out_len: usize,
         need: *mut u64,
     ) -> u32;
-    pub fn antientropy_entries(
-        replica: *mut Handle,
-        from: u64,
-        out: *mut u8,
-        out_len: usize,
-        need: *mut u64,
-        next: *mut u64,
-    ) -> u32;
-    pub fn antientropy_entry_key(
-        replica: *mut Handle,
-        number: u64,
-        out: *mut u8,
-        out_len: usize,
-        need: *mut u64,
-    ) -> u32;
-    pub fn antientropy_entry_value(
-        replica: *mut Handle,
-        number: u64,
-        kind: *mut u8,
-        out: *mut u8,
-        out_len: usize,
-        need: *mut u64,
-    ) -> u32;
-    pub fn antientropy_entry_clock(
-        replica: *mut Handle,
-        number: u64,
-        out: *mut Pair,
-        out_len: usize,
-        need: *mut u64,
-    ) -> u32;
-    pub fn antientropy_entry_source(replica: *mut Handle, number: u64, source: *mut u64) -> u32;
-    pub fn antientropy_top_counter(
-        replica: *mut Handle,
-        node: u64,
-        key: *const u8,
-        key_len: usize,
-        entries: u64,
-        counter: *mut u64,
-    ) -> u32;
     pub fn antientropy_rehash(replica: *mut Handle) -> u32;
     pub fn antientropy_rehash_some(replica: *mut Handle, most: u64, left: *mut u64) -> u32;
     pub fn antientropy_hold(replica: *mut Handle) -> u32;
     pub fn antientropy_drop_moment(replica: *mut Handle) -> u32;
     pub fn antientropy_hash_moment(replica: *mut Handle, most: u64, left: *mut u64) -> u32;
-    pub fn antientropy_take_portion(replica: *mut Handle, most: u64, portion: *mut Handle) -> u32;
     pub fn antientropy_hash_portion(portion: *mut Handle) -> u32;
     pub fn antientropy_install_portion(replica: *mut Handle, portion: *mut Handle, left: *mut u64) -> u32;
     pub fn antientropy_portion_free(portion: *mut Handle);
-    pub fn antientropy_moment(replica: *mut Handle, snapshot: *mut Handle) -> u32;
-    pub fn antientropy_snapshot(replica: *mut Handle, snapshot: *mut Handle) -> u32;
-    pub fn antientropy_snapshot_about(snapshot: *mut Handle, about: *mut About) -> u32;
-    pub fn antientropy_snapshot_bytes(snapshot: *mut Handle, bytes: *mut u64) -> u32;
-    pub fn antientropy_snapshot_share(snapshot: *mut Handle, other: *mut Handle) -> u32;
     pub fn antientropy_snapshot_free(snapshot: *mut Handle);
-    pub fn antientropy_snapshot_get(
-        snapshot: *mut Handle,
-        key: *const u8,
-        key_len: usize,
-        out: *mut u8,
-        out_len: usize,
-        need: *mut u64,
-    ) -> u32;
-    pub fn antientropy_snapshot_key_next(
-        snapshot: *mut Handle,
-        leaf: u64,
-        key: *mut u8,
-        key_room: usize,
-        key_len: *mut u64,
-    ) -> u32;
-    pub fn antientropy_digest(
-        snapshot: *mut Handle,
-        depth: u64,
-        index: u64,
-        out: *mut u8,
-        out_len: usize,
-        need: *mut u64,
-    ) -> u32;
-    pub fn antientropy_root(snapshot: *mut Handle, out: *mut u8, out_len: usize, need: *mut u64) -> u32;
-    pub fn antientropy_offer(snapshot: *mut Handle, number: u32, out: *mut u8, out_len: usize, need: *mut u64) -> u32;
     pub fn antientropy_read_offer(offer: *const u8, offer_len: usize, parts: *mut OfferParts) -> u32;
-    pub fn antientropy_serve(
-        snapshot: *mut Handle,
-        number: u32,
-        ask: *const u8,
-        ask_len: usize,
-        out: *mut u8,
-        out_len: usize,
-        need: *mut u64,
-    ) -> u32;
-    pub fn antientropy_rows(snapshot: *mut Handle, leaf: u64, out: *mut u8, out_len: usize, need: *mut u64) -> u32;
     pub fn antientropy_load(replica: *mut Handle, rows: *const u8, rows_len: usize, loaded: *mut Loaded) -> u32;
     pub fn antientropy_load_format(
         replica: *mut Handle,
@@ -313,24 +346,6 @@ extern "C" {
         offer_len: usize,
         session: *mut u64,
     ) -> u32;
-    pub fn antientropy_outstanding(replica: *mut Handle, session: u64, count: *mut u64) -> u32;
-    pub fn antientropy_ask_at(
-        replica: *mut Handle,
-        session: u64,
-        place: u64,
-        number: u32,
-        out: *mut u8,
-        out_len: usize,
-        need: *mut u64,
-    ) -> u32;
-    pub fn antientropy_ask(
-        replica: *mut Handle,
-        session: u64,
-        number: u32,
-        out: *mut u8,
-        out_len: usize,
-        need: *mut u64,
-    ) -> u32;
     pub fn antientropy_take(
         replica: *mut Handle,
         session: u64,
@@ -341,7 +356,6 @@ extern "C" {
     ) -> u32;
     pub fn antientropy_cancel(replica: *mut Handle, session: u64) -> u32;
     pub fn antientropy_drop_sessions(replica: *mut Handle) -> u32;
-    pub fn antientropy_session(replica: *mut Handle, session: u64, state: *mut u64) -> u32;
     pub fn antientropy_hints_new(hints: *mut Handle) -> u32;
     pub fn antientropy_hints_restore(hints: *mut Handle, first: u64) -> u32;
     pub fn antientropy_hints_free(hints: *mut Handle);

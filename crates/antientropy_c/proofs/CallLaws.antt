@@ -3,21 +3,14 @@ use Rattle.std.proofs.Common.{◌≡◌, ℕ, List, sym, subst}
 use Rattle.std.specs.Prelude.{Bool, true, false, Result}
 use Rattle.vclock.specs.declared.refusal.Refusal.{Refusal}
 use Rattle.c_calls.specs.Numbers.{code_of, Returns, EMPTY}
-use Rattle.antientropy_c.specs.Calls.{CallsOn, CallsOnState, OnHeld}
+use Rattle.antientropy_c.specs.Calls.{CallsOn, CallsOnState, ReadsOn}
+use Rattle.c_calls.proofs.FrameLaws.{on_held, on_empty}
 use Rattle.c_calls.specs.Hands.{HandsOut, HandsOutRight}
 use Rattle.c_calls.specs.Kept.{KeptState}
 use Rattle.c_calls.specs.Merges.{HandsClock, GivesClock}
 use Rattle.c_calls.specs.declared.pair.Pair.{Pair}
 use Rattle.vclock.specs.Clock.{Pairs}
 use Rattle.range_state.specs.State.{State}
-
-pub on_held : (was now : Bool) (code : ℕ) (Same Right : Type 0) → was ≡ true → now ≡ true → Right → OnHeld was now code Same Right
-on_held true now code Same Right is_was is_now right = (is_now, right)
-on_held false now code Same Right is_was is_now right = absurd (cc)
-
-pub on_empty : (was now : Bool) (code : ℕ) (Same Right : Type 0) → was ≡ false → now ≡ false → code ≡ EMPTY → Same → OnHeld was now code Same Right
-on_empty true now code Same Right is_was is_now is_code same = absurd (cc)
-on_empty false now code Same Right is_was is_now is_code same = (is_now, is_code, same)
 
 -- nothing was held
 pub empty : {S : Type 0} (code : ℕ) (old new : Bool × S) (Same : Type 0) (Right : S → S → Type 0)
@@ -47,6 +40,18 @@ unfolding CallsOnState
 state_held code old new Same Right s t was now first renewed is_old is_new right =
     on_held old.0 new.0 code Same _ was now
     (first, renewed, subst (λ (x : State). Right x new.1.state) is_old (subst (λ (x : State). Right s x) (sym is_new) right))
+
+-- a share was read, and nothing was held
+pub reads_nothing : {H S : Type 0} (code : ℕ) (old new : H) (held : Bool) (s : S) (Same : Type 0) (Right : S → Type 0)
+    → new ≡ old → held ≡ false → code ≡ EMPTY → Same → ReadsOn code old new held s Same Right
+unfolding ReadsOn
+reads_nothing code old new held s Same Right unchanged was is_code same = (unchanged, on_empty held held code Same (Right s) was was is_code same)
+
+-- a share was read, and its value is t
+pub reads_held : {H S : Type 0} (code : ℕ) (old new : H) (held : Bool) (s : S) (Same : Type 0) (Right : S → Type 0) (t : S)
+    → new ≡ old → held ≡ true → t ≡ s → Right t → ReadsOn code old new held s Same Right
+unfolding ReadsOn
+reads_held {H} {S} code old new held s Same Right t unchanged was is right = (unchanged, on_held held held code Same (Right s) was was (subst (λ (x : S). Right x) is right))
 
 -- the number is that of a result
 pub returns : {T : Type 0} (code : ℕ) (Right : Result T Refusal → Type 0) (r : Result T Refusal) → code ≡ code_of r → Right r → Returns code Right

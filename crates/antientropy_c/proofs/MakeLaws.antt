@@ -1,13 +1,12 @@
 -- What a call that makes a value in a handle owes, from what its parts did.
-use Rattle.std.proofs.Common.{◌≡◌, ℕ, refl, sym, ap, ◌∙◌, subst}
+use Rattle.std.proofs.Common.{◌≡◌, ℕ, refl, sym, ◌∙◌, subst}
 use Rattle.std.specs.Prelude.{Bool, true, false, Result, Ok, Err, MatchResult, Option}
 use Rattle.vclock.specs.Answer.{Answers}
 use Rattle.vclock.specs.declared.refusal.Refusal.{Refusal}
-use Rattle.range_state.specs.State.{State}
-use Rattle.c_calls.specs.Kept.{KeptState}
 use Rattle.c_calls.specs.Numbers.{code_of, HELD}
-use Rattle.antientropy_c.specs.Makes.{MakesIn, MadeWhere, Takes, FillsWhere}
-use Rattle.antientropy_c.specs.Calls.{CallsOn, CallsOnState, OnHeld}
+use Rattle.c_calls.specs.Frame.{OnHeld, FillsWhere}
+use Rattle.antientropy_c.specs.Makes.{MakesIn, MadeWhere, Takes}
+use Rattle.antientropy_c.specs.Calls.{ReadsOn}
 use Rattle.antientropy_c.proofs.CallLaws.{returns}
 
 where_already : {S : Type 0} (was : Bool) (code : ℕ) (old new : Bool × S) (cause : Option Refusal) (Right : S → Type 0)
@@ -53,19 +52,6 @@ pub filled : {B S : Type 0} (code : ℕ) (old new : Bool × S) (cause : Option R
 filled code old new cause Right value r was number fills right =
     made code old new cause Right (unit_of r) was (number ∙ same_code r) (takes new cause Right value r right fills)
 
--- a handle is filled by a call that returned r
-pub fills : {B S : Type 0} (was : Bool) (code : ℕ) (old new : Bool × S) (Returned : Result B Refusal → Type 0) (value : B → S) (r : Result B Refusal)
-    → was ≡ false → Returned r → code ≡ code_of r → MatchResult r (λ b. (new.0 ≡ true) × (new.1 ≡ value b)) (λ _. new.0 ≡ false)
-    → FillsWhere was code old new Returned value
-fills true code old new Returned value r is returned number filled = absurd (cc)
-fills false code old new Returned value r is returned number filled = record { made = r; returned = returned; number = number; filled = filled }
-
--- it was full
-pub full : {B S : Type 0} (was : Bool) (code : ℕ) (old new : Bool × S) (Returned : Result B Refusal → Type 0) (value : B → S)
-    → was ≡ true → new.0 ≡ true → new.1 ≡ old.1 → code ≡ HELD → FillsWhere was code old new Returned value
-full true code old new Returned value is held same number = (held, same, number)
-full false code old new Returned value is held same number = absurd (cc)
-
 -- where a call returns what is right, it makes a value in the handle that it fills
 makes : {B S : Type 0} (was : Bool) (code : ℕ) (old new : Bool × S) (Returned : Result B Refusal → Type 0) (value : B → S) (cause : Option Refusal) (Right : S → Type 0)
     → ((r : Result B Refusal) → Returned r → Answers r cause (λ b. Right (value b))) → FillsWhere was code old new Returned value → MadeWhere was code old new cause Right
@@ -73,25 +59,13 @@ makes true code old new Returned value cause Right right fills = fills
 makes false code old new Returned value cause Right right fills =
     returns code (Takes new cause Right) (unit_of fills.made) (fills.number ∙ same_code fills.made) (takes new cause Right value fills.made (right fills.made fills.returned) fills.filled)
 
--- the same of a call on another handle, which it leaves unchanged
-pub made_from : {B S H : Type 0} (was now : Bool) (s t : S) (code : ℕ) (Same : Type 0) (old new : Bool × H) (Returned : Result B Refusal → Type 0) (value : B → H)
+-- the same of a call on a share of another value, which it reads
+pub made_from : {B S T H : Type 0} (from after : T) (held : Bool) (s : S) (code : ℕ) (Same : Type 0) (old new : Bool × H) (Returned : Result B Refusal → Type 0) (value : B → H)
     → (cause : S → Option Refusal) (Right : S → H → Type 0)
     → ((r : Result B Refusal) → Returned r → Answers r (cause s) (λ b. Right s (value b)))
-    → OnHeld was now code Same ((t ≡ s) × FillsWhere old.0 code old new Returned value)
-    → CallsOn code (was, s) (now, t) Same (λ a b. (b ≡ a) × MakesIn code old new (cause a) (Right a))
-unfolding CallsOn MakesIn
-made_from true now s t code Same old new Returned value cause Right right done =
-    (done.0, (done.1.0, makes old.0 code old new Returned value (cause s) (Right s) right done.1.1))
-made_from false now s t code Same old new Returned value cause Right right done = done
-
--- the same of a call on the state in a replica
-pub state_from : {B H : Type 0} (was now : Bool) (s t : KeptState) (code : ℕ) (Same : Type 0) (old new : Bool × H) (Returned : Result B Refusal → Type 0) (value : B → H)
-    → (cause : State → Option Refusal) (Right : State → H → Type 0)
-    → ((r : Result B Refusal) → Returned r → Answers r (cause s.state) (λ b. Right s.state (value b)))
-    → OnHeld was now code Same ((t ≡ s) × FillsWhere old.0 code old new Returned value)
-    → CallsOnState code (was, s) (now, t) Same (λ a b. (b ≡ a) × MakesIn code old new (cause a) (Right a))
-unfolding CallsOnState MakesIn
-state_from true now s t code Same old new Returned value cause Right right done =
-    let same = done.1.0 in
-    (done.0, (ap (λ k. k.first) same, ap (λ k. k.renewed) same, (ap (λ k. k.state) same, makes old.0 code old new Returned value (cause s.state) (Right s.state) right done.1.1)))
-state_from false now s t code Same old new Returned value cause Right right done = done
+    → after ≡ from → OnHeld held held code Same (FillsWhere old.0 code old new Returned value)
+    → ReadsOn code from after held s Same (λ a. MakesIn code old new (cause a) (Right a))
+unfolding ReadsOn MakesIn
+made_from from after true s code Same old new Returned value cause Right right unchanged done =
+    (unchanged, (done.0, makes old.0 code old new Returned value (cause s) (Right s) right done.1))
+made_from from after false s code Same old new Returned value cause Right right unchanged done = (unchanged, done)

@@ -1,15 +1,10 @@
 -- The effect of a call on the replica of a handle.
-use Rattle.std.specs.Prelude.{◌≡◌, ℕ, Bool, true, false}
+use Rattle.std.specs.Prelude.{◌≡◌, ℕ, Bool}
 use Rattle.range_state.specs.State.{State}
 use Rattle.antientropy_c.specs.declared.replica.Replica.{Replica}
+use Rattle.antientropy_c.specs.declared.replica_share.ReplicaShare.{ReplicaShare}
+use Rattle.c_calls.specs.Frame.{OnHeld}
 use Rattle.c_calls.specs.Kept.{KeptState}
-use Rattle.c_calls.specs.Numbers.{EMPTY}
-
--- the call of a full handle leaves it full, and is right; the call of an empty handle leaves it empty, returns EMPTY,
--- and its other arguments are the same
-abbrev pub OnHeld : Bool → Bool → ℕ → Type 0 → Type 0 → Type 0
-OnHeld true now code Same Right = (now ≡ true) × Right
-OnHeld false now code Same Right = (now ≡ false) × (code ≡ EMPTY) × Same
 
 -- a call on a handle, by its flag and the value in it
 unfoldable pub CallsOn : {S : Type 0} → ℕ → Bool × S → Bool × S → Type 0 → (S → S → Type 0) → Type 0
@@ -29,3 +24,15 @@ CallsOnState code old new Same Right = OnHeld old.0 new.0 code Same
 
 abbrev pub Calls : ℕ → Replica → Replica → Type 0 → (State → State → Type 0) → Type 0
 Calls code old new Same Right = CallsOnState code (replica_in old) (replica_in new) Same Right
+
+-- a call that reads a value of which a handle has a share, by the handle's flag and the value
+unfoldable pub ReadsOn : {H S : Type 0} → ℕ → H → H → Bool → S → Type 0 → (S → Type 0) → Type 0
+ReadsOn code old new held s Same Right = (new ≡ old) × OnHeld held held code Same (Right s)
+
+-- a call that reads a replica, by its state and the numbers of its entries
+abbrev pub ReadsKept : ℕ → ReplicaShare → ReplicaShare → Type 0 → (KeptState → Type 0) → Type 0
+ReadsKept code old new Same Right = ReadsOn code old new old.held old.kept Same Right
+
+-- a call that reads the state in a replica
+abbrev pub ReadsState : ℕ → ReplicaShare → ReplicaShare → Type 0 → (State → Type 0) → Type 0
+ReadsState code old new Same Right = ReadsOn code old new old.held old.kept.state Same Right

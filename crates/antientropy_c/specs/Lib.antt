@@ -4,3 +4,4 @@ pub mod Offers
 pub mod Portions
 pub mod Handoff
 pub mod SlotCalls
+pub mod Exchanges

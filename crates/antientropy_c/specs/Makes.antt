@@ -1,10 +1,10 @@
 -- The making of a value in a handle.
-use Rattle.std.specs.Prelude.{◌≡◌, ℕ, Bool, true, false, Option, Result, MatchResult, OnErr}
+use Rattle.std.specs.Prelude.{◌≡◌, ℕ, Bool, true, false, Option, Result, OnErr}
 use Rattle.vclock.specs.Answer.{Answers}
 use Rattle.vclock.specs.declared.refusal.Refusal.{Refusal}
 use Rattle.antientropy_c.specs.Calls.{replica_in}
 use Rattle.c_calls.specs.Kept.{KeptState}
-use Rattle.c_calls.specs.Numbers.{code_of, Returns, HELD}
+use Rattle.c_calls.specs.Numbers.{Returns, HELD}
 use Rattle.antientropy_c.specs.declared.replica.Replica.{Replica}
 
 -- a handle holds a right value, or is empty on error
@@ -22,15 +22,3 @@ MakesIn code old new cause Right = MadeWhere old.0 code old new cause Right
 -- a replica is made
 abbrev pub Makes : ℕ → Replica → Replica → Option Refusal → (KeptState → Type 0) → Type 0
 Makes code old new cause Right = MakesIn code (replica_in old) (replica_in new) cause Right
-
--- a value was made, or refused, by a call that returned it: the handle holds it, or is empty on error
-pub record Fills {B S : Type 0} (code : ℕ) (new : Bool × S) (Returned : Result B Refusal → Type 0) (value : B → S) : Type 0 where
-  pub made : Result B Refusal
-  pub returned : Returned made
-  pub number : code ≡ code_of made
-  pub filled : MatchResult made (λ b. (new.0 ≡ true) × (new.1 ≡ value b)) (λ _. new.0 ≡ false)
-
--- a full handle is unchanged, and HELD is returned; otherwise it is filled
-abbrev pub FillsWhere : {B S : Type 0} → Bool → ℕ → Bool × S → Bool × S → (Result B Refusal → Type 0) → (B → S) → Type 0
-FillsWhere true code old new Returned value = (new.0 ≡ true) × (new.1 ≡ old.1) × (code ≡ HELD)
-FillsWhere false code old new Returned value = Fills code new Returned value

@@ -1,6 +1,7 @@
 //! A replica of a range, for programs in C and in languages that can call C. Use it through `include/antientropy.h`,
-//! which declares these calls. An export takes the value out of a handle, makes a call of `c_calls` with it, and puts it
-//! back.
+//! which declares these calls. An export that changes a value takes it out of its handle, makes a call of `c_calls` with
+//! it, and puts it back. One that reads a replica or a snapshot has a share of the value: the caller passes a copy of the
+//! handle, so threads may read at the same time. Its name begins with `antientropy_share_`.
 #![tactic(auto)]
 
 pub mod about;
@@ -10,6 +11,8 @@ pub mod clocks;
 pub mod counters;
 pub mod counts;
 pub mod entries;
+pub mod exchange_handle;
+pub mod exchanges;
 mod frame;
 pub mod hint_calls;
 pub mod hints;
@@ -23,12 +26,15 @@ pub mod offers;
 pub mod packed;
 pub mod portion_handle;
 pub mod portions;
+pub mod progress;
 pub mod publication;
+pub mod publication_share;
 pub mod puts;
 pub mod readers;
 pub mod readings;
 pub mod renewal;
 pub mod replica;
+pub mod replica_share;
 pub mod rows;
 pub mod sessions;
 pub mod sizes;

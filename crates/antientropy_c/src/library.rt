@@ -9,12 +9,12 @@ use c_calls::library::name_of;
 use c_calls::output::copy_out;
 
 /// The version of the library: 10,000 times the major number, 100 times the minor one, and the patch.
-const VERSION: u32 = 10_100;
+const VERSION: u32 = 20_000;
 
-/// Returns the version of the library as one number: 10,100 for 1.1.0.
+/// Returns the version of the library as one number: 20,000 for 2.0.0.
 #[unsafe(no_mangle)]
 pub extern "C" fn antientropy_version() -> u32
-    ensures { result ≡ 10100 }
+    ensures { result ≡ 20000 }
 {
     VERSION
 }

@@ -9,8 +9,9 @@ ghost use Rattle.antientropy_c.specs.Calls.{Calls};
 ghost use Rattle.antientropy_c.specs.Makes.{Makes};
 ghost use Rattle.c_calls.specs.Fresh.{config_fault, IsFresh};
 
-use crate::frame::{fill, with_state};
+use crate::frame::with_state;
 use crate::replica::Replica;
+use c_calls::frame::fill;
 use c_calls::lifecycle::fresh;
 use c_calls::numbers::{HELD, code};
 use c_handle::InC;

@@ -18,9 +18,10 @@ ghost use Rattle.c_calls.specs.Numbers.{Returns};
 ghost use Rattle.antientropy_c.specs.Offers.{ShowsRows};
 ghost use Rattle.c_calls.specs.Puts.{NoMemoryAfter};
 
-use crate::frame::{with, with_state};
-use crate::publication::Publication;
+use crate::frame::with_state;
+use crate::publication_share::PublicationShare;
 use crate::replica::Replica;
+use c_calls::frame::read;
 use c_calls::loads::{LoadReceipt, load_format, rows_of, tell_loaded};
 use c_calls::numbers::code;
 use c_calls::output::hand_out;
@@ -31,24 +32,24 @@ use std::alloc::Global;
 /// Writes the texts of the rows of a leaf of a snapshot, in ascending order of key. Refused, in order: EMPTY, BadMessage
 /// (the tree has no such leaf), NoMemory, SMALL.
 #[unsafe(no_mangle)]
-#[tactic(auto, using(crate::proofs::CallLaws::empty, crate::proofs::CallLaws::held, crate::proofs::CallLaws::gives))]
-pub extern "C" fn antientropy_rows(
+#[tactic(auto, using(crate::proofs::CallLaws::reads_nothing, crate::proofs::CallLaws::reads_held, crate::proofs::CallLaws::gives))]
+pub extern "C" fn antientropy_share_rows(
     alloc: Global,
-    publication: &mut Publication,
+    share: &mut PublicationShare,
     leaf: u64,
     out: &mut [u8],
     need: &mut u64,
 ) -> u32
-    ensures { ShowsRows result publication.old publication.new (HandsNothing (need.old, out.old) (need.new, out.new))
+    ensures { ShowsRows result share.old share.new (HandsNothing (need.old, out.old) (need.new, out.new))
         (λ m. HandsOutRight result (need.old, out.old) (need.new, out.new)
         (λ r. Answers r (leaf_fault m.format leaf)
         (λ bytes. bytes ≡ flat_map (row_text m.format) (rows_in_leaf (leaf_in m) leaf m.rows)))) }
 {
-    let mut call = |rows: &mut Published| {
+    let mut call = |rows: &Published| {
         let outcome = rows_of(alloc, rows.snapshot(), leaf);
         hand_out(&outcome, out, need)
     };
-    with(publication, alloc, &mut call)
+    read(share, &mut call)
 }
 
 /// Loads rows of one leaf from their texts, as [`RangeState::load_rows`](range_state::RangeState::load_rows) does at

@@ -5,15 +5,17 @@ ghost use Rattle.vclock.specs.declared.refusal.Refusal.{Refusal};
 ghost use Rattle.range_state.specs.Moments.{with_moment, without_moment, moment_fault};
 ghost use Rattle.range_state.specs.Portions.{HashesMoment};
 ghost use Rattle.range_state.specs.declared.local_rows.LocalRows.TheVariants as local_rows;
-ghost use Rattle.antientropy_c.specs.Calls.{Calls, CallsKept};
+ghost use Rattle.antientropy_c.specs.Calls.{Calls, ReadsKept};
 ghost use Rattle.c_calls.specs.Numbers.{Returns};
 ghost use Rattle.antientropy_c.specs.Offers.{Publishes};
 ghost use Rattle.c_calls.specs.Published.{shown_by};
 ghost use Rattle.c_calls.specs.Sessions.{TellsNumber};
 
-use crate::frame::{fill_from, with_state};
+use crate::frame::with_state;
 use crate::publication::Publication;
 use crate::replica::Replica;
+use crate::replica_share::ReplicaShare;
+use c_calls::frame::read_into;
 use c_calls::kept::Kept;
 use c_calls::moments::{hash_moment, hold};
 use c_calls::numbers::code;
@@ -75,15 +77,15 @@ pub extern "C" fn antientropy_hash_moment(
 /// already), Dirty (there is no moment, or some node of it has no digest), NoMemory. On error the publication is
 /// unchanged.
 #[unsafe(no_mangle)]
-pub extern "C" fn antientropy_moment(
+pub extern "C" fn antientropy_share_moment(
     alloc: Global,
-    replica: &mut Replica,
+    share: &mut ReplicaShare,
     publication: &mut Publication,
 ) -> u32
-    ensures { CallsKept result replica.old replica.new (publication.new ≡ publication.old) (λ s t. (t ≡ s)
-        × Publishes result publication.old publication.new (moment_fault s.state.moment) (shown_by local_rows.Moment s)) }
+    ensures { ReadsKept result share.old share.new (publication.new ≡ publication.old) (λ s.
+        Publishes result publication.old publication.new (moment_fault s.state.moment) (shown_by local_rows.Moment s)) }
 {
-    fill_from(replica, publication, alloc, |kept: &Kept| {
+    read_into(share, publication, alloc, |kept: &Kept| {
         shown(alloc, kept, LocalRows::Moment)
     })
 }

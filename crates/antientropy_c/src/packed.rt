@@ -1,14 +1,13 @@
 //! Many entries at once, as bytes: for a log, or another reader that follows the journal.
 ghost use Rattle.std.specs.Prelude.{◌≡◌};
-ghost use Rattle.antientropy_c.specs.Calls.{CallsKept};
+ghost use Rattle.antientropy_c.specs.Calls.{ReadsKept};
 ghost use Rattle.c_calls.specs.Hands.{HandsNothing};
 ghost use Rattle.c_calls.specs.Packed.{PacksFrom};
 
-use crate::frame::with;
-use crate::replica::Replica;
+use crate::replica_share::ReplicaShare;
+use c_calls::frame::read;
 use c_calls::kept::Kept;
 use c_calls::packed::pack_from;
-use std::alloc::Global;
 
 /// Copies out the entries from number `from` on, as many whole ones as fit. Stores the number of bytes in `need`, and the
 /// number after the last of these entries in `next`: `from` if there is none. The text of an entry is its source in one
@@ -19,18 +18,17 @@ use std::alloc::Global;
 /// renewal, and isn't the journal's first number); SMALL (the first entry doesn't fit). On error `next` and the buffer are
 /// unchanged.
 #[unsafe(no_mangle)]
-#[tactic(auto, using(crate::proofs::CallLaws::empty, crate::proofs::CallLaws::held))]
-pub extern "C" fn antientropy_entries(
-    alloc: Global,
-    replica: &mut Replica,
+#[tactic(auto, using(crate::proofs::CallLaws::reads_nothing, crate::proofs::CallLaws::reads_held))]
+pub extern "C" fn antientropy_share_entries(
+    share: &mut ReplicaShare,
     from: u64,
     out: &mut [u8],
     need: &mut u64,
     next: &mut u64,
 ) -> u32
-    ensures { CallsKept result replica.old replica.new ((next.new ≡ next.old) × HandsNothing (need.old, out.old) (need.new, out.new))
-        (λ s t. (t ≡ s) × PacksFrom s from result next.old next.new (need.old, out.old) (need.new, out.new)) }
+    ensures { ReadsKept result share.old share.new ((next.new ≡ next.old) × HandsNothing (need.old, out.old) (need.new, out.new))
+        (λ s. PacksFrom s from result next.old next.new (need.old, out.old) (need.new, out.new)) }
 {
-    let mut call = |kept: &mut Kept| pack_from(kept, from, out, need, next);
-    with(replica, alloc, &mut call)
+    let mut call = |kept: &Kept| pack_from(kept, from, out, need, next);
+    read(share, &mut call)
 }

@@ -1,13 +1,15 @@
 //! Portions of a replica's moment, which are hashed while the replica is in other calls.
 ghost use Rattle.std.specs.Prelude.{◌≡◌, false, None, ⊤};
 ghost use Rattle.range_state.specs.Portions.{IsPortion};
-ghost use Rattle.antientropy_c.specs.Calls.{Calls, CallsOn};
+ghost use Rattle.antientropy_c.specs.Calls.{Calls, CallsOn, ReadsState};
 ghost use Rattle.antientropy_c.specs.Makes.{MakesIn};
 ghost use Rattle.antientropy_c.specs.Portions.{nodes_in, Installs};
 
-use crate::frame::{fill_from, with, with_state};
+use crate::frame::with_state;
 use crate::portion_handle::PortionHandle;
 use crate::replica::Replica;
+use crate::replica_share::ReplicaShare;
+use c_calls::frame::{read_into, with};
 use c_calls::kept::Kept;
 use c_calls::numbers::EMPTY;
 use c_calls::portions::take_portion;
@@ -21,16 +23,16 @@ use std::alloc::Global;
 /// Refused, in order: EMPTY (the replica), HELD (the handle holds a portion already), NoMemory. On error the handle is
 /// unchanged.
 #[unsafe(no_mangle)]
-pub extern "C" fn antientropy_take_portion(
+pub extern "C" fn antientropy_share_take_portion(
     alloc: Global,
-    replica: &mut Replica,
+    share: &mut ReplicaShare,
     most: u64,
     portion: &mut PortionHandle,
 ) -> u32
-    ensures { Calls result replica.old replica.new (portion.new ≡ portion.old) (λ s t. (t ≡ s)
-        × MakesIn result (nodes_in portion.old) (nodes_in portion.new) None (IsPortion s.moment most)) }
+    ensures { ReadsState result share.old share.new (portion.new ≡ portion.old) (λ s.
+        MakesIn result (nodes_in portion.old) (nodes_in portion.new) None (IsPortion s.moment most)) }
 {
-    fill_from(replica, portion, alloc, |kept: &Kept| {
+    read_into(share, portion, alloc, |kept: &Kept| {
         take_portion(alloc, kept.state(), most)
     })
 }

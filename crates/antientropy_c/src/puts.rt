@@ -11,8 +11,9 @@ ghost use Rattle.c_calls.specs.Pairs.{clock_pairs};
 ghost use Rattle.range_store.specs.declared.receipt.Accepted.{Accepted};
 ghost use Rattle.c_calls.specs.Puts.{node_fault, parts_fault, put_at, put_read_at, accept_at, NoMemoryAfter, TellsPut, TellsAccepted};
 
-use crate::frame::{with, with_state};
+use crate::frame::with_state;
 use crate::replica::Replica;
+use c_calls::frame::with;
 use c_calls::kept::Kept;
 use c_calls::numbers::code;
 use c_calls::pair::Pair;

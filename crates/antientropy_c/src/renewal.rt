@@ -1,11 +1,12 @@
 //! New replicas that begin with the versions that others hold.
 ghost use Rattle.std.specs.Prelude.{◌≡◌};
-ghost use Rattle.antientropy_c.specs.Calls.{CallsKept};
+ghost use Rattle.antientropy_c.specs.Calls.{ReadsKept};
 ghost use Rattle.c_calls.specs.Kept.{renewal_fault, renewed_kept};
 ghost use Rattle.antientropy_c.specs.Makes.{Makes};
 
-use crate::frame::fill_from;
 use crate::replica::Replica;
+use crate::replica_share::ReplicaShare;
+use c_calls::frame::read_into;
 use c_calls::kept::Kept;
 use c_calls::renewal::renewed;
 use std::alloc::Global;
@@ -18,14 +19,19 @@ use std::alloc::Global;
 /// (more versions are held than the limit, or after 1,000,000 entries more a number could be over 2^64 - 1), NoMemory. On
 /// error both handles are unchanged.
 #[unsafe(no_mangle)]
-pub extern "C" fn antientropy_renew(
+pub extern "C" fn antientropy_share_renew(
     alloc: Global,
-    from: &mut Replica,
+    share: &mut ReplicaShare,
     into: &mut Replica,
     limit: u64,
 ) -> u32
-    ensures { CallsKept result from.old from.new (into.new ≡ into.old) (λ s t. (t ≡ s)
-        × Makes result into.old into.new (renewal_fault s limit) (λ new. new ≡ renewed_kept s limit)) }
+    ensures { ReadsKept result share.old share.new (into.new ≡ into.old) (λ s.
+        Makes result into.old into.new (renewal_fault s limit) (λ new. new ≡ renewed_kept s limit)) }
 {
-    fill_from(from, into, alloc, |kept: &Kept| renewed(alloc, kept, limit))
+    read_into(
+        share,
+        into,
+        alloc,
+        |kept: &Kept| renewed(alloc, kept, limit),
+    )
 }

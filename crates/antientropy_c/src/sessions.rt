@@ -7,12 +7,15 @@ ghost use Rattle.range_state.specs.Sessions.{cancel_session};
 ghost use Rattle.range_state.specs.declared.event.AnswerTaken.{AnswerTaken};
 ghost use Rattle.range_state.specs.declared.local_rows.LocalRows.TheVariants as rows;
 ghost use Rattle.c_calls.specs.Numbers.{Returns};
-ghost use Rattle.antientropy_c.specs.Calls.{Calls};
+ghost use Rattle.antientropy_c.specs.Calls.{Calls, ReadsState};
 ghost use Rattle.c_calls.specs.Reads.{Reads};
 ghost use Rattle.c_calls.specs.Sessions.{OpensUnless, partner_fault, TellsNumber, TakesMessage, TellsTaken, session_seen};
 
 use crate::frame::with_state;
 use crate::replica::Replica;
+use crate::replica_share::ReplicaShare;
+use c_calls::frame::read;
+use c_calls::kept::Kept;
 use c_calls::numbers::code;
 use c_calls::sessions::{TakenReceipt, open, standing_of, take, tell_number, tell_taken};
 use range_state::{LocalRows, RangeState};
@@ -114,23 +117,22 @@ pub extern "C" fn antientropy_cancel(alloc: Global, replica: &mut Replica, sessi
 
 /// Stores the state of a session: 0 open, 1 finished, 2 failed, 3 cancelled. Refused, in order: EMPTY, UnknownSession.
 #[unsafe(no_mangle)]
-#[tactic(auto, using(crate::proofs::CallLaws::state_empty, crate::proofs::CallLaws::state_held, crate::proofs::CallLaws::returns))]
-pub extern "C" fn antientropy_session(
-    alloc: Global,
-    replica: &mut Replica,
+#[tactic(auto, using(crate::proofs::CallLaws::reads_nothing, crate::proofs::CallLaws::reads_held, crate::proofs::CallLaws::returns))]
+pub extern "C" fn antientropy_share_session(
+    share: &mut ReplicaShare,
     session: u64,
     standing: &mut u64,
 ) -> u32
-    ensures { Calls result replica.old replica.new (standing.new ≡ standing.old)
-        (λ s t. (t ≡ s) × Returns result (λ (r : Result ℕ Refusal).
+    ensures { ReadsState result share.old share.new (standing.new ≡ standing.old)
+        (λ s. Returns result (λ (r : Result ℕ Refusal).
         (r ≡ session_seen s session) × TellsNumber r standing.old standing.new)) }
 {
-    let mut call = |state: &mut RangeState| {
-        let outcome = standing_of(state, session);
+    let mut call = |kept: &Kept| {
+        let outcome = standing_of(kept.state(), session);
         tell_number(&outcome, standing);
         code(&outcome)
     };
-    with_state(replica, alloc, &mut call)
+    read(share, &mut call)
 }
 
 /// Drops the records of ended sessions, as [`RangeState::drop_ended_sessions`] does. Refused: EMPTY.

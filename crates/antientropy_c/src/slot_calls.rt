@@ -9,9 +9,9 @@ ghost use Rattle.c_calls.specs.Numbers.{Returns};
 ghost use Rattle.antientropy_c.specs.SlotCalls.{slots_in};
 ghost use Rattle.c_calls.specs.SlotCalls.{bounds_fault, set_target, TellsPercentile, numbers_of};
 
-use crate::frame::{fill, with};
 use crate::slots::Slots;
 use admission::SlotBudget;
+use c_calls::frame::{fill, with};
 use c_calls::numbers::{HELD, code};
 use c_calls::slot_calls::{
     Percentile, SlotNumbers, new_slots, numbers_of, set_target, tell_percentile,

@@ -1,3 +1,4 @@
+pub mod FrameLaws
 pub mod HintNumberLaws
 pub mod KeptLaws
 pub mod KeyLaws

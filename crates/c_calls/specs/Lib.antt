@@ -3,6 +3,8 @@ pub mod Asks
 pub mod Carried
 pub mod Counts
 pub mod Entries
+pub mod Exchanges
+pub mod Frame
 pub mod Fresh
 pub mod Handoff
 pub mod Hands
@@ -17,6 +19,7 @@ pub mod OfferParts
 pub mod Offers
 pub mod Packed
 pub mod Pairs
+pub mod Progress
 pub mod Published
 pub mod Puts
 pub mod Readers

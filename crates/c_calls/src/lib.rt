@@ -1,6 +1,7 @@
-//! Calls from C, without handles: on a replica's state, a snapshot, a store of hints or a budget of slots, with the
-//! numbers and the buffers of C. `antientropy_c` has the exports, which make these calls with the value of a handle.
+//! Calls from C on a replica's state, a snapshot, a store of hints or a budget of slots, with the numbers and the buffers
+//! of C. `antientropy_c` has the exports, which make these calls with the value of a handle.
 //!
+//! - [`frame`]: the frame of a call with the value of a handle, or with one of which it has a share.
 //! - [`numbers`]: the number that a call returns: 0, that of a refusal, or one of C alone; [`library`]: their names.
 //! - [`kept`]: a replica's state, with the numbers of its entries; [`lifecycle`], [`renewal`]: new ones.
 //! - [`published`]: a snapshot, with the number of its entries; [`offers`], [`readers`], [`loads`]: the calls on it.
@@ -8,12 +9,13 @@
 //! - [`rows`], [`versions`], [`readings`], [`keys`], [`counters`]: reads of a replica.
 //! - [`counts`], [`sizes`], [`about`], [`entries`], [`packed`]: its counts, its size, its place, and its entries.
 //! - [`tree`], [`moments`], [`portions`]: hashing; [`sessions`], [`asks`], [`offer_parts`]: sessions with partners.
+//! - [`exchanges`]: the loop of a sync with a partner; [`progress`]: how far it is.
 //! - [`hint_calls`]: hints, whose numbers go on through renewals; [`laws`]: that no number names two of them.
 //! - [`slot_calls`]: slots for background work; [`spots`]: the range and the leaf of a key.
 //! - [`output`]: copies of bytes to the buffers of C.
 //!
 //! ```
-//! let outcome = ask(alloc, state, session, place, number);
+//! let outcome = ask(alloc, kept.state(), session, place, number);
 //! hand_out(&outcome, out, need)
 //! ```
 #![tactic(auto)]
@@ -24,6 +26,8 @@ pub mod clocks;
 pub mod counters;
 pub mod counts;
 pub mod entries;
+pub mod exchanges;
+pub mod frame;
 pub mod hint_calls;
 pub mod kept;
 pub mod keys;
@@ -39,6 +43,7 @@ pub mod output;
 pub mod packed;
 pub mod pair;
 pub mod portions;
+pub mod progress;
 pub mod published;
 pub mod puts;
 pub mod readers;

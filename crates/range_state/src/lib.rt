@@ -7,9 +7,9 @@
 //!   `hold_moment`, `take_moment_jobs` and `install_moment`, or `hash_moment`, `take_portion` and `install_portion` for
 //!   many of its nodes, `moment`, `open_session_at_moment`, `whole_front` and `take_moment`;
 //!   `load_rows`, `load_into` and `load_format` for rows as bytes; `migrate` to format 2; `renewed` for a new range
-//!   that begins with the versions held; other reads are had by `store`. For sessions with partners `open_session`,
-//!   `outstanding`, `take_answer`, `take_answer_into`, `cancel_session`, `records` and `open_sessions`, and `sync_with`
-//!   for a whole session; `reconcile` for a session each way; `counts`.
+//!   that begins with the versions held; other reads are had by `store`. For sessions with partners `check_offer`,
+//!   `open_session`, `outstanding`, `take_answer`, `take_answer_into`, `cancel_session`, `records` and `open_sessions`,
+//!   and `sync_with` for a whole session; `reconcile` for a session each way; `counts`.
 //! - [`local_rows`]: the choice of the rows now or those of the moment, for `snapshot_of` and `open_session_by`.
 //! - [`moment`]: the rows that a range had at a moment; [`portion`]: nodes of it that any thread hashes.
 //! - [`record`]: a session of a range, and its partner.

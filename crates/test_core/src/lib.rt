@@ -6,6 +6,8 @@ mod calls;
 #[cfg(test)]
 mod events;
 #[cfg(test)]
+mod exchanges;
+#[cfg(test)]
 mod loads;
 #[cfg(test)]
 mod migrations;

@@ -32,3 +32,11 @@ Decodes bytes (Ok m) = IsMessage m × (message_text m ≡ bytes)
 Decodes bytes (Err refusals.BadMessage) = (m : Message) → IsMessage m → message_text m ≡ bytes → ⊥
 Decodes bytes (Err refusals.NoMemory) = (a : Answer) × IsMessage (messages.Answer a) × (message_text (messages.Answer a) ≡ bytes)
 Decodes bytes (Err e) = ⊥
+
+-- the bytes are those of an answer
+abbrev pub IsAnswerOf : List ℕ → Answer → Type 0
+IsAnswerOf bytes a = IsMessage (messages.Answer a) × (message_text (messages.Answer a) ≡ bytes)
+
+-- they are those of none
+abbrev pub IsNoAnswer : List ℕ → Type 0
+IsNoAnswer bytes = (a : Answer) → IsMessage (messages.Answer a) → message_text (messages.Answer a) ≡ bytes → ⊥

@@ -1,9 +1,9 @@
 //! Reading messages, whose bytes this project's profile defines.
-ghost use Rattle.std.specs.Prelude.{◌∷◌};
-ghost use Rattle.walk_messages.specs.Messages.{Decodes};
+ghost use Rattle.std.specs.Prelude.{◌∷◌, MatchOption};
+ghost use Rattle.walk_messages.specs.Messages.{Decodes, IsAnswerOf, IsNoAnswer};
 
 use crate::fields::{answer_parts_of, ask_of, offer_of};
-use crate::message::{Answer, Message};
+use crate::message::{Answer, Ask, Message};
 use std::alloc::Global;
 use tree_nodes::Text;
 use vclock::Refusal;
@@ -20,6 +20,19 @@ pub fn decode(alloc: Global, bytes: &[u8]) -> Result<Message, Refusal>
         [2, fields @ ..] => decode_ask(fields),
         [3, fields @ ..] => decode_answer(alloc, fields),
         _ => Err(Refusal::BadMessage),
+    }
+}
+
+/// Returns the number of the offer and the node of the answer that has exactly these bytes, and its text, without a
+/// copy. Returns `None` if the bytes aren't an answer.
+#[tactic(auto, unfolding(crate::specs::Messages::message_text))]
+pub fn answer_parts(bytes: &[u8]) -> Option<(Ask, &[u8])>
+    ensures { MatchOption result (IsNoAnswer bytes.now)
+        (λ parts. IsAnswerOf bytes.now (record { offer = parts.0.offer; node = parts.0.node; text = parts.1.now })) }
+{
+    match bytes {
+        [3, fields @ ..] => answer_parts_of(fields),
+        _ => None,
     }
 }
 

@@ -18,6 +18,6 @@ mod fields;
 pub mod laws;
 pub mod message;
 
-pub use decoder::decode;
+pub use decoder::{answer_parts, decode};
 pub use encoder::encode;
 pub use message::{Answer, Ask, Message, Offer};

@@ -20,7 +20,7 @@ from .schedule import Nemesis
 REST_S = 60.0
 
 #: Few entries of a range and of a log, and short rounds, so that a run has renewals, checkpoints and syncs.
-SETTINGS = {"CLUSTER_LIMIT": "4000", "CLUSTER_CHECKPOINT": "200", "CLUSTER_ROUND_MS": "400"}
+SETTINGS = {"limit": "4000", "checkpoint_entries": "200", "round_ms": "400"}
 
 
 def words() -> argparse.Namespace:

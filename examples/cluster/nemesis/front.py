@@ -9,6 +9,8 @@ from dataclasses import dataclass
 from typing import Any, Dict, List, Mapping, Optional, Sequence, Tuple
 from urllib.parse import quote
 
+from .places import PLACES
+
 HOST = "127.0.0.1"
 TOMBSTONE = "tombstone "
 
@@ -46,7 +48,7 @@ class Found:
 
 
 class Front:
-    """Requests to the nodes, over one connection for each place. For one thread."""
+    """Requests to the nodes, over one connection for each port. For one thread."""
 
     def __init__(self, base: int, patience_s: float = PATIENCE_S) -> None:
         self._base, self._patience_s = base, patience_s
@@ -55,11 +57,16 @@ class Front:
     def ask(
         self, place: int, method: str, path: str, body: Optional[bytes] = None, headers: Mapping[str, str] = {}
     ) -> Answer:
-        """Sends a request, and returns its answer."""
-        link = self._open.get(place)
+        """Sends a request of a client, and returns its answer."""
+        return self._ask(client_port(self._base, place), method, path, body, headers)
+
+    def _ask(
+        self, port: int, method: str, path: str, body: Optional[bytes] = None, headers: Mapping[str, str] = {}
+    ) -> Answer:
+        link = self._open.get(port)
         if link is None:
-            link = http.client.HTTPConnection(HOST, self._base + place, timeout=self._patience_s)
-            self._open[place] = link
+            link = http.client.HTTPConnection(HOST, port, timeout=self._patience_s)
+            self._open[port] = link
         try:
             link.request(method, path, body, dict(headers))
             answer = link.getresponse()
@@ -67,7 +74,7 @@ class Front:
             return Answer(answer.status, named, answer.read())
         except (OSError, http.client.HTTPException):
             link.close()
-            del self._open[place]
+            del self._open[port]
             return NO_ANSWER
 
     def put(self, place: int, key: str, value: str, context: Optional[str] = None) -> Answer:
@@ -104,10 +111,21 @@ class Front:
     def _json(self, place: int, method: str, path: str, body: Optional[dict] = None) -> Any:
         """Sends a request that may be repeated: the node may have been started anew since the connection was made."""
         for _ in range(2):
-            answer = self.ask(place, method, path, None if body is None else json.dumps(body).encode())
+            text = None if body is None else json.dumps(body).encode()
+            answer = self._ask(admin_port(self._base, place), method, path, text)
             if answer.status == 200:
                 return answer.json()
         return None
+
+
+def client_port(base: int, place: int) -> int:
+    """Returns the port of a node's front for clients."""
+    return base + place
+
+
+def admin_port(base: int, place: int) -> int:
+    """Returns the port of a node's front for an administrator."""
+    return base + len(PLACES) + place
 
 
 def _path(key: str) -> str:

@@ -143,7 +143,7 @@ def words() -> argparse.Namespace:
     parser.add_argument("--silence", type=float, default=30, help="time for which places are silent, in seconds")
     parser.add_argument("--clients", type=int, default=8)
     parser.add_argument("--no-admission", action="store_true", help="repair does not wait for slots")
-    parser.add_argument("--ports", type=int, metavar="FIRST", help="first of seven ports; free ones if it's omitted")
+    parser.add_argument("--ports", type=int, metavar="FIRST", help="first of twelve ports; free ones if it's omitted")
     return parser.parse_args()
 
 
@@ -152,7 +152,7 @@ def work(given: argparse.Namespace, room: Path) -> int:
     build(given.library, room / "out")
     watch = Watch()
     log = Log(room / "nemesis.log", watch)
-    settings = {"CLUSTER_ADMISSION": "off"} if given.no_admission else {}
+    settings = {"slots": "{64,64,20000}"} if given.no_admission else {}
     with Nodes(room / "out", room, room, log, settings, given.ports) as nodes:
         nodes.begin()
         with figures.Counts(nodes.base, Log(room / "status.log", watch)) as counts:

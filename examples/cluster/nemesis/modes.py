@@ -24,13 +24,13 @@ ALL = Mode("all")
 
 #: Only rounds bring versions to replicas. A lost disk may have been one of two that had a put.
 REPAIR = Mode(
-    "repair", {"CLUSTER_HANDOFF": "off", "CLUSTER_READ_REPAIR": "off"}, has_losses=False, needs_no_hints=False
+    "repair", {"handoff": "off", "read_repair": "off"}, has_losses=False, needs_no_hints=False
 )
 
 #: Only hints do. A copy that is under way is lost with its coordinator, so no node is killed.
 HANDOFF = Mode(
     "handoff",
-    {"CLUSTER_REPAIR": "off", "CLUSTER_READ_REPAIR": "off"},
+    {"repair": "off", "read_repair": "off"},
     has_kills=False,
     has_losses=False,
     needs_equal_roots=False,

@@ -13,7 +13,7 @@ from pathlib import Path
 from typing import Callable, Dict, List, Optional, Pattern, Sequence, Tuple
 
 from . import power
-from .front import HOST
+from .front import HOST, admin_port, client_port
 from .links import Links
 from .log import Log
 from .node import Node
@@ -22,10 +22,20 @@ from .power import Power
 
 EXAMPLE = Path(__file__).resolve().parents[1]
 
-#: A cluster listens on a few ports in a row: those of HTTP are the first plus the place, and that of epmd is the last.
-#: It claims them by a socket that is bound to the first.
+#: A cluster listens on a few ports in a row: two of HTTP for each place, and that of epmd is the last. It claims them
+#: by a socket that is bound to the first.
 PORTS = range(20000, 30000)
-PORTS_EACH = len(PLACES) + 2
+PORTS_EACH = 2 * len(PLACES) + 2
+
+#: The settings of all nodes: five places of one host, and four ranges.
+SYS_CONFIG = """[{{cluster, [
+    {{places, [
+{places}
+    ]}},
+    {{bits, 2}},
+    {{quorums, {{3, 2, 2}}}}
+]}}].
+"""
 
 #: Seconds that a process may take to start, on a machine that is busy, and that epmd may take to end.
 START_S, END_S = 120.0, 5.0
@@ -75,12 +85,13 @@ class Nodes:
         self.powers: Dict[int, Power] = {}
         if library is not None:
             self.powers = {place: Power(library, disk) for place, disk in self._disks.items()}
+        self._config = _config(room / "config")
+        self._settings = [word for setting in (settings or {}).items() for word in setting]
         self._environment = {
             **os.environ,
             **self.links.environment(),
             "ERL_EPMD_PORT": str(self._epmd_port),
-            "CLUSTER_COOKIE": secrets.token_hex(16),
-            **(settings or {}),
+            "ERL_EPMD_ADDRESS": HOST,
         }
         self._epmd: Optional[subprocess.Popen] = None
         self._nodes: Dict[int, Node] = {}
@@ -126,7 +137,8 @@ class Nodes:
         for place in places:
             self._disks[place].mkdir(parents=True, exist_ok=True)
             self._log.write(op="start", place=place)
-            words = [EXAMPLE / "node", self._out, place, self._disks[place], self.base]
+            ports = ["http_port", client_port(self.base, place), "admin_port", admin_port(self.base, place)]
+            words = [EXAMPLE / "node", self._out, self._config, place, self._disks[place], *ports, *self._settings]
             environment = self._environment
             if place in self.powers:
                 environment = self.powers[place].environment(environment)
@@ -232,6 +244,17 @@ class Nodes:
         for node in running:
             node.end()
         self._paused.difference_update(places)
+
+
+def _config(folder: Path) -> Path:
+    """Makes the configuration of all nodes, with a cookie that nobody else may read."""
+    folder.mkdir(mode=0o700)
+    places = ",\n".join(f'        {{{place}, "{HOST}"}}' for place in PLACES)
+    (folder / "sys.config").write_text(SYS_CONFIG.format(places=places))
+    cookie = folder / ".erlang.cookie"
+    cookie.write_text(secrets.token_hex(16))
+    cookie.chmod(0o400)
+    return folder
 
 
 def _serves(node: Node) -> bool:

@@ -31,7 +31,7 @@ KEYS_EACH = 40
 REST_S = 60.0
 
 #: Few entries of a log, so that a run has checkpoints.
-SETTINGS = {"CLUSTER_LIMIT": "4000", "CLUSTER_CHECKPOINT": "200", "CLUSTER_ROUND_MS": "400"}
+SETTINGS = {"limit": "4000", "checkpoint_entries": "200", "round_ms": "400"}
 
 
 class Count:

@@ -20,7 +20,7 @@ def parse(parser: argparse.ArgumentParser) -> argparse.Namespace:
     parser.add_argument("--library", type=Path, help="folder of the C library, made by ./build-c")
     parser.add_argument("--out", type=Path, help="folder of a cluster that is built already")
     parser.add_argument("--keep", type=Path, metavar="LOGS", help="folder for the logs")
-    parser.add_argument("--ports", type=int, metavar="FIRST", help="first of seven ports; free ones if it's omitted")
+    parser.add_argument("--ports", type=int, metavar="FIRST", help="first of twelve ports; free ones if it's omitted")
     given = parser.parse_args()
     if not given.library and not given.out:
         parser.error("--library or --out is wanted")

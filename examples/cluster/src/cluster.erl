@@ -1,7 +1,14 @@
 %% @doc A Dynamo-style store: puts, gets and its status.
 -module(cluster).
 
--export([put/2, put/3, delete/2, get/1, status/0, status_of_all/0, table/0, json/0, dump/0, versions/1]).
+-export([put/2, put/3, put/4, delete/2, get/1, get/2, status/0, status_of_all/0, table/0, json/0, dump/0, versions/1]).
+
+-export_type([json/0, options/0]).
+
+-type json() :: integer() | boolean() | null | binary() | [json()] | #{atom() | binary() => json()}.
+%% What a JSON text is made of. Binaries are strings, of UTF-8.
+-type options() :: #{r => pos_integer(), w => pos_integer()}.
+%% The numbers of replicas that a get has seen, and of disks that have a put: those of the settings, if it has none.
 
 %% @doc Puts a value of a key that the client hasn't read: see {@link put/3}.
 -spec put(Key :: binary(), antientropy:value()) -> {ok, cluster_coordinator:stored()} | cluster_refusal:refused().
@@ -12,21 +19,34 @@ put(Key, Value) ->
 -spec put(Key :: binary(), antientropy:value(), Context :: antientropy:clock_like()) ->
     {ok, cluster_coordinator:stored()} | cluster_refusal:refused().
 put(Key, Value, Context) ->
-    cluster_coordinator:put(Key, Value, Context).
+    put(Key, Value, Context, #{}).
+
+%% @doc Puts a value as {@link put/3} does, with options.
+-spec put(Key :: binary(), antientropy:value(), Context :: antientropy:clock_like(), options()) ->
+    {ok, cluster_coordinator:stored()} | cluster_refusal:refused().
+put(Key, Value, Context, Options) ->
+    {_, _, W} = cluster_settings:quorums(),
+    cluster_requests:put(Key, Value, Context, maps:get(w, Options, W)).
 
 %% @doc Deletes a key: puts a tombstone.
 -spec delete(Key :: binary(), Context :: antientropy:clock_like()) ->
     {ok, cluster_coordinator:stored()} | cluster_refusal:refused().
 delete(Key, Context) ->
-    cluster_coordinator:put(Key, tombstone, Context).
+    put(Key, tombstone, Context).
 
 %% @doc Returns the versions of a key. Several are concurrent.
 -spec get(Key :: binary()) -> {ok, cluster_coordinator:found()} | cluster_refusal:refused().
 get(Key) ->
-    cluster_coordinator:get(Key).
+    get(Key, #{}).
+
+%% @doc Returns the versions of a key as {@link get/1} does, with options.
+-spec get(Key :: binary(), options()) -> {ok, cluster_coordinator:found()} | cluster_refusal:refused().
+get(Key, Options) ->
+    {_, R, _} = cluster_settings:quorums(),
+    cluster_requests:get(Key, maps:get(r, Options, R)).
 
 %% @doc Returns the counts of this node, as they are written to JSON.
--spec status() -> cluster_json:json().
+-spec status() -> json().
 status() ->
     Asides = [#{folder => text(Folder), why => text(Why)} || {Folder, Why} <- cluster_folder:asides()],
     Status = #{
@@ -66,7 +86,7 @@ status_of_store() ->
             #{
                 ranges => [],
                 hints => #{pending => 0, delivered => 0, bytes => 0},
-                slots => #{target => 0, lent => 0, free => 0, p99_micros => null},
+                slots => #{target => 0, lent => 0, free => 0, waiting => 0, p99_micros => null},
                 rounds => 0,
                 keys_repaired => 0,
                 bytes_repaired => 0
@@ -80,7 +100,7 @@ slots_status(#{p99_micros := none} = Counts) -> Counts#{p99_micros := null};
 slots_status(Counts) -> Counts.
 
 %% @doc Returns the counts of all nodes that answer, by place.
--spec status_of_all() -> [{cluster_ring:place(), cluster_json:json() | down}].
+-spec status_of_all() -> [{cluster_ring:place(), json() | down}].
 status_of_all() ->
     [{Place, status_of(Place)} || Place <- cluster_settings:places()].
 
@@ -98,7 +118,7 @@ status_of(Place) ->
 %% @doc Returns the counts of all nodes as JSON.
 -spec json() -> iodata().
 json() ->
-    cluster_json:encode([Status || {_, Status} <- status_of_all(), Status =/= down]).
+    jiffy:encode([Status || {_, Status} <- status_of_all(), Status =/= down]).
 
 %% @doc Returns the counts of all nodes as a table.
 -spec table() -> iodata().
@@ -130,7 +150,7 @@ table_line(Cells) ->
     [[io_lib:format("~11ts", [lists:flatten(Cell)]) || Cell <- Cells], $\n].
 
 %% @doc Returns everything that this node holds, as it is written to JSON.
--spec dump() -> cluster_json:json().
+-spec dump() -> json().
 dump() ->
     #{pending := Pending} = cluster_hints:count(),
     #{
@@ -148,7 +168,7 @@ range_dump(Range, {Root, Rows}) ->
     }.
 
 %% @doc Returns versions as they are written to JSON.
--spec versions([antientropy:version()]) -> cluster_json:json().
+-spec versions([antientropy:version()]) -> json().
 versions(Versions) ->
     [version(Version) || Version <- Versions].
 

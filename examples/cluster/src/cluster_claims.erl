@@ -29,9 +29,9 @@
 %% `{Reference, Steps, Made}' and `{{Reference, Holder}, given, Given}'.
 
 %% @doc Starts the process that owns the table, and removes old claims.
--spec start_link() -> {ok, pid()}.
+-spec start_link() -> {ok, pid()} | {error, term()}.
 start_link() ->
-    {ok, _} = gen_server:start_link({local, ?MODULE}, ?MODULE, [], []).
+    gen_server:start_link({local, ?MODULE}, ?MODULE, [], []).
 
 %% @doc Makes a claim.
 -spec new() -> claim().
@@ -94,11 +94,12 @@ init([]) ->
     {ok, none}.
 
 %% @private
-handle_call(_, _, none) ->
-    {reply, ok, none}.
+handle_call(Request, _, none) ->
+    {reply, cluster_stray:call(?MODULE, Request), none}.
 
 %% @private
-handle_cast(_, none) ->
+handle_cast(Message, none) ->
+    ok = cluster_stray:message(?MODULE, Message),
     {noreply, none}.
 
 %% @private
@@ -106,5 +107,6 @@ handle_info(sweep, none) ->
     Before = now_micros() - 1000 * ?SWEEP_MS,
     _ = ets:select_delete(?MODULE, [{{'_', '_', '$1'}, [{'<', '$1', Before}], [true]}]),
     {noreply, none};
-handle_info(_, none) ->
+handle_info(Message, none) ->
+    ok = cluster_stray:message(?MODULE, Message),
     {noreply, none}.

@@ -4,8 +4,8 @@
 %% isn't one, the others are asked: see {@link cluster_errand}.
 -module(cluster_coordinator).
 
--export([put/3, get/1]).
--export([put_claimed/5, get_here/2]).
+-export([put/4, get/2]).
+-export([put_claimed/6, get_here/3]).
 
 -export_type([stored/0, found/0]).
 
@@ -16,18 +16,21 @@
 -type stored() :: #{coordinator := cluster_ring:place(), clock := antientropy:clock(), on := [cluster_ring:place()]}.
 -type found() :: #{coordinator := cluster_ring:place(), versions := [antientropy:version()]}.
 
-%% @doc Puts a version of a key. Refused: `bad_key', what {@link cluster_range:put/4} refuses, `starting', `down' (no
-%% holder, or too few nodes, answered), `hints_full'.
--spec put(Key :: binary(), antientropy:value(), Context :: antientropy:clock_like()) ->
+%% @doc Puts a version of a key, which W disks have before the answer. Refused: `bad_key', `bad_context' (a number that
+%% is no life of a place), what {@link cluster_range:put/4} refuses, `starting', `down' (no holder, or too few nodes,
+%% answered), `hints_full'.
+-spec put(Key :: binary(), antientropy:value(), Context :: antientropy:clock_like(), W :: pos_integer()) ->
     {ok, stored()} | cluster_refusal:refused().
-put(Key, Value, Context) ->
-    case cluster_ring:range(Key) of
+put(Key, Value, Context, W) ->
+    case cluster_clock:are_lives(Context) andalso cluster_ring:range(Key) of
         {ok, Range} ->
             Begun = erlang:monotonic_time(microsecond),
-            Here = fun() -> put_here(Range, Key, Value, Context) end,
-            raced(ask(Range, Here, {put, [Range, Key, Value, Context]}), Begun);
+            Here = fun() -> put_here(Range, Key, Value, Context, W) end,
+            raced(ask(Range, Here, {put, [Range, Key, Value, Context, W]}), Begun);
         {error, Name} ->
-            {refused, Name}
+            {refused, Name};
+        false ->
+            {refused, bad_context}
     end.
 
 %% A client whose put is stale everywhere has lost a race. It waits for about as long as puts take here: then it can
@@ -41,11 +44,12 @@ raced({refused, stale_context} = Refused, _) ->
 raced(Refused, _) ->
     Refused.
 
-%% @doc Returns the versions of a key. Refused: `bad_key', what {@link cluster_rows:read/2} refuses, `starting'.
--spec get(Key :: binary()) -> {ok, found()} | cluster_refusal:refused().
-get(Key) ->
+%% @doc Returns the versions of a key by R replicas. Refused: `bad_key', what {@link cluster_rows:read/3} refuses,
+%% `starting'.
+-spec get(Key :: binary(), R :: pos_integer()) -> {ok, found()} | cluster_refusal:refused().
+get(Key, R) ->
     case cluster_ring:range(Key) of
-        {ok, Range} -> ask(Range, fun() -> get_here(Range, Key) end, {get, [Range, Key]});
+        {ok, Range} -> ask(Range, fun() -> get_here(Range, Key, R) end, {get, [Range, Key, R]});
         {error, Name} -> {refused, Name}
     end.
 
@@ -75,22 +79,22 @@ ask_others(Others, Request, Refused) ->
 
 %% @private
 %% @doc Puts for the node that gave a claim, or returns `unclaimed', and does nothing.
--spec put_claimed(cluster_claims:claim(), cluster_ring:range(), Key, antientropy:value(), Context) ->
+-spec put_claimed(cluster_claims:claim(), cluster_ring:range(), Key, antientropy:value(), Context, W) ->
     {ok, stored()} | cluster_refusal:refused() | unclaimed when
-    Key :: binary(), Context :: antientropy:clock_like().
-put_claimed(Claim, Range, Key, Value, Context) ->
+    Key :: binary(), Context :: antientropy:clock_like(), W :: pos_integer().
+put_claimed(Claim, Range, Key, Value, Context, W) ->
     case cluster_claims:claim(Claim) of
-        true -> put_here(Range, Key, Value, Context);
+        true -> put_here(Range, Key, Value, Context, W);
         false -> unclaimed
     end.
 
 %% Puts a version at this node, and then at the other holders or at carriers.
-put_here(Range, Key, Value, Context) ->
+put_here(Range, Key, Value, Context, W) ->
     Begun = erlang:monotonic_time(microsecond),
     Life = cluster_life:number(),
     case cluster_life:is_ready() andalso cluster_range:put(Range, Key, Value, Context) of
         {ok, #{clock := Clock} = Version} ->
-            Spread = cluster_copies:spread(Range, Key, Version),
+            Spread = cluster_copies:spread(Range, Key, Version, W),
             ok = cluster_slots:sample(erlang:monotonic_time(microsecond) - Begun),
             stored(Spread, Clock, Life =:= cluster_life:number());
         {error, Name} ->
@@ -106,9 +110,10 @@ stored(Refused, _, _) -> Refused.
 
 %% @private
 %% @doc Returns the versions of a key by this node's range and those of other holders.
--spec get_here(cluster_ring:range(), Key :: binary()) -> {ok, found()} | cluster_refusal:refused().
-get_here(Range, Key) ->
-    case cluster_life:is_ready() andalso cluster_rows:read(Range, Key) of
+-spec get_here(cluster_ring:range(), Key :: binary(), R :: pos_integer()) ->
+    {ok, found()} | cluster_refusal:refused().
+get_here(Range, Key, R) ->
+    case cluster_life:is_ready() andalso cluster_rows:read(Range, Key, R) of
         {ok, Versions} -> {ok, #{coordinator => cluster_ring:here(), versions => Versions}};
         {refused, Name} -> {refused, Name};
         false -> {refused, starting}

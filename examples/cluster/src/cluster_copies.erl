@@ -9,7 +9,7 @@
 %% the start ({@link cluster_range:unchecked/1}) is asked first, for as long as a call may take.
 -module(cluster_copies).
 
--export([spread/3]).
+-export([spread/4]).
 
 -record(copy, {
     range :: cluster_ring:range(),
@@ -25,19 +25,19 @@
 
 %% @doc Copies a version to the other holders, all at once, and returns when W disks have it, that of this node among
 %% them. The other copies go on.
--spec spread(cluster_ring:range(), Key :: binary(), antientropy:version()) ->
+-spec spread(cluster_ring:range(), Key :: binary(), antientropy:version(), W :: pos_integer()) ->
     {ok, On :: [cluster_ring:place()]} | cluster_refusal:refused().
-spread(Range, Key, Version) ->
+spread(Range, Key, Version, W) ->
     Copies = [
         #copy{range = Range, owner = Partner, key = Key, version = Version}
      || Partner <- cluster_ring:partners(Range)
     ],
-    await(maps:from_list(lists:map(fun begin_copy/1, Copies)), [cluster_ring:here()], []).
+    await(W, maps:from_list(lists:map(fun begin_copy/1, Copies)), [cluster_ring:here()], []).
 
 begin_copy(#copy{range = Range, owner = Owner} = Copy) ->
     IsUnchecked = lists:member(Owner, cluster_range:unchecked(Range)),
     Places = places(Copy, IsUnchecked),
-    {Process, Monitor} = spawn_monitor(fun() -> exit(bring_or_keep(Copy, Places)) end),
+    {Process, Monitor} = cluster_task:start(fun() -> bring_or_keep(Copy, Places) end),
     {Monitor, {hint_due_ms(Owner, Places, IsUnchecked), Process, Copy}}.
 
 places(#copy{owner = Owner} = Copy, true) -> [Owner | cluster_wire:up_first(carriers(Copy))];
@@ -61,26 +61,26 @@ patience_ms(Owner) ->
 %% ---- the put's process
 
 %% Waits for outcomes until enough disks have the version. `Full' are the owners for whose hints there was no room.
--spec await(processes(), On :: [cluster_ring:place()], Full :: [cluster_ring:place()]) ->
+-spec await(W :: pos_integer(), processes(), On :: [cluster_ring:place()], Full :: [cluster_ring:place()]) ->
     {ok, [cluster_ring:place()]} | cluster_refusal:refused().
-await(Processes, On, Full) ->
-    {_, _, W} = cluster_settings:quorums(),
+await(W, Processes, On, Full) ->
     case length(On) >= W orelse map_size(Processes) =:= 0 of
         true ->
-            [demonitor(Monitor, [flush]) || Monitor <- maps:keys(Processes)],
+            ok = cluster_task:forget(maps:keys(Processes)),
             result(length(On) >= W, On, Full);
         false ->
             receive
-                {'DOWN', Monitor, process, _, Outcome} when is_map_key(Monitor, Processes) ->
-                    await_others(Outcome, maps:remove(Monitor, Processes), On, Full)
+                {'DOWN', Monitor, process, _, Reason} when is_map_key(Monitor, Processes) ->
+                    Others = maps:remove(Monitor, Processes),
+                    await_others(cluster_task:result(copies, Reason), W, Others, On, Full)
             after ms_to_first(Processes) ->
-                await(with_hints_that_are_due(Processes), On, Full)
+                await(W, with_hints_that_are_due(Processes), On, Full)
             end
     end.
 
-await_others({on, Place}, Processes, On, Full) -> await(Processes, lists:usort([Place | On]), Full);
-await_others({full, Owner}, Processes, On, Full) -> await(Processes, On, lists:usort([Owner | Full]));
-await_others(_, Processes, On, Full) -> await(Processes, On, Full).
+await_others({ok, {on, Place}}, W, Processes, On, Full) -> await(W, Processes, lists:usort([Place | On]), Full);
+await_others({ok, {full, Owner}}, W, Processes, On, Full) -> await(W, Processes, On, lists:usort([Owner | Full]));
+await_others(_, W, Processes, On, Full) -> await(W, Processes, On, Full).
 
 result(true, On, _) -> {ok, On};
 result(false, _, []) -> {perhaps, down};
@@ -102,7 +102,7 @@ hint_if_silent(Monitor, {_, Process, #copy{owner = Owner} = Copy}, Processes) ->
     PatienceMs = patience_ms(Owner),
     case cluster_patience:is_silent(Owner, PatienceMs) of
         true ->
-            {HintProcess, HintMonitor} = spawn_monitor(fun() -> exit(hint(Process, Copy)) end),
+            {HintProcess, HintMonitor} = cluster_task:start(fun() -> hint(Process, Copy) end),
             Processes#{Monitor := {infinity, Process, Copy}, HintMonitor => {infinity, HintProcess, Copy}};
         false ->
             Processes#{Monitor := {now_ms() + PatienceMs, Process, Copy}}

@@ -34,7 +34,7 @@ replace(File, Write) ->
 
 write_new(New, Write) ->
     case file:open(New, [raw, write, binary, {delayed_write, 1 bsl 16, 100}]) of
-        {ok, Device} -> first_error([Write(Device), file:sync(Device), file:close(Device)]);
+        {ok, Device} -> first_error([Write(Device), synced(Device), file:close(Device)]);
         Failed -> Failed
     end.
 
@@ -95,7 +95,13 @@ names(Folder) ->
 %% @doc Brings an open file to the disk.
 -spec sync(file:filename(), file:io_device()) -> ok.
 sync(File, Device) ->
-    done(File, file:sync(Device)).
+    done(File, synced(Device)).
+
+synced(Device) ->
+    Begun = erlang:monotonic_time(microsecond),
+    Synced = file:sync(Device),
+    ok = cluster_metrics:observe(fsync, [], erlang:monotonic_time(microsecond) - Begun),
+    Synced.
 
 %% @doc Brings the names in a folder to the disk.
 -spec sync_folder(file:filename()) -> ok.

@@ -13,7 +13,7 @@
 -define(CALLS_IN_A_ROW, 3).
 
 -type request() :: {put, Arguments :: [term()]} | {get, Arguments :: [term()]}.
-%% Arguments of {@link cluster_coordinator:put_claimed/5} after the claim, or of {@link cluster_coordinator:get_here/2}.
+%% Arguments of {@link cluster_coordinator:put_claimed/6} after the claim, or of {@link cluster_coordinator:get_here/3}.
 -type answer() :: {ok, map()} | cluster_refusal:refused().
 
 -record(errand, {
@@ -48,7 +48,7 @@ go_on(#errand{calls = Calls, unasked = Unasked, wait_ms = WaitMs} = Errand) ->
         _ ->
             receive
                 {'DOWN', Call, process, _, Reason} when is_map_key(Call, Calls) ->
-                    answered(result(Reason), Errand#errand{calls = maps:remove(Call, Calls)})
+                    answered(result(cluster_task:result(errand, Reason)), Errand#errand{calls = maps:remove(Call, Calls)})
             after WaitMs -> late(Errand)
             end
     end.
@@ -72,8 +72,8 @@ begin_call(Holder, #errand{request = Request, claim = Claim}) ->
     Claim =:= none orelse cluster_claims:give(Claim, Holder),
     LimitMs = ?CALLS_IN_A_ROW * cluster_wire:limit_ms(),
     {Function, Arguments} = function(Request, Claim),
-    Call = fun() -> exit({called, cluster_wire:call(Holder, cluster_coordinator, Function, Arguments, LimitMs)}) end,
-    {_, Monitor} = spawn_monitor(Call),
+    Call = fun() -> cluster_wire:call(Holder, cluster_coordinator, Function, Arguments, LimitMs) end,
+    {_, Monitor} = cluster_task:start(Call),
     Monitor.
 
 function({put, Arguments}, Claim) -> {put_claimed, [Claim | Arguments]};
@@ -91,8 +91,8 @@ kind({get, _}) -> {cluster_coordinator, get_here}.
 
 %% ---- answers
 
-result({called, Result}) -> Result;
-result(_) -> down.
+result({ok, Result}) -> Result;
+result(crashed) -> down.
 
 answered(Nothing, Errand) when Nothing =:= down; Nothing =:= {ok, unclaimed} ->
     go_on(Errand);
@@ -116,8 +116,7 @@ ended(Answer, #errand{calls = Calls}) ->
     Answer.
 
 leave(Calls) ->
-    _ = [demonitor(Call, [flush]) || Call <- maps:keys(Calls)],
-    ok.
+    cluster_task:forget(maps:keys(Calls)).
 
 %% ---- silence
 

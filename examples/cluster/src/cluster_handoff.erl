@@ -12,9 +12,9 @@
 -type state() :: #{reference() => cluster_hints:name()}.
 
 %% @doc Starts the process of the hand-offs.
--spec start_link() -> {ok, pid()}.
+-spec start_link() -> {ok, pid()} | {error, term()}.
 start_link() ->
-    {ok, _} = gen_server:start_link({local, ?MODULE}, ?MODULE, [], []).
+    gen_server:start_link({local, ?MODULE}, ?MODULE, [], []).
 
 %% @doc Hands the hints of an owner to it now, since it is up again. Otherwise each second is soon enough.
 -spec wake(cluster_ring:place()) -> ok.
@@ -24,25 +24,28 @@ wake(Owner) ->
 %% @private
 -spec init([]) -> {ok, state()}.
 init([]) ->
-    %% The processes that hand hints on end with this one: their numbers are of its life.
-    false = process_flag(trap_exit, true),
     {ok, _} = timer:send_interval(?EVERY_MS, wake_all),
     {ok, #{}}.
 
 %% @private
-handle_call(_, _, State) ->
-    {reply, ok, State}.
+handle_call(Request, _, State) ->
+    {reply, cluster_stray:call(?MODULE, Request), State}.
 
 %% @private
 handle_cast({wake, Owner}, State) ->
-    {noreply, begin_for([Owner], State)}.
+    {noreply, begin_for([Owner], State)};
+handle_cast(Message, State) ->
+    ok = cluster_stray:message(?MODULE, Message),
+    {noreply, State}.
 
 %% @private
 handle_info(wake_all, State) ->
     {noreply, begin_for(cluster_ring:others() -- cluster_wire:down(), State)};
-handle_info({'DOWN', Monitor, process, _, _}, State) ->
+handle_info({'DOWN', Monitor, process, _, Reason}, State) ->
+    _ = cluster_task:result(handoff, Reason),
     {noreply, maps:remove(Monitor, State)};
-handle_info(_, State) ->
+handle_info(Message, State) ->
+    ok = cluster_stray:message(?MODULE, Message),
     {noreply, State}.
 
 %% Begins the hand-offs to some owners that aren't in progress. A confirmation needs room on the disk.
@@ -55,8 +58,10 @@ begin_for(Owners, State) ->
             State
     end.
 
+%% (The process that hands hints on ends with this one: its numbers are of the hints that this one knows.)
 begin_one(Name, State) ->
-    State#{element(2, spawn_opt(fun() -> hand_off(Name, 0) end, [link, monitor])) => Name}.
+    {_, Monitor} = cluster_task:start_link(fun() -> hand_off(Name, 0) end),
+    State#{Monitor => Name}.
 
 %% Hands on the hints of a queue after a number, some at a time, until none is left or the owner is down.
 hand_off({Owner, Range} = Name, After) ->

@@ -33,6 +33,8 @@
     %% Records that aren't in the log, and answers that wait for them, both the last first.
     records = [] :: [record()],
     waiting = [] :: [{gen_server:from(), request(), Answer :: term()}],
+    %% Queues that refused a hint since they delivered one.
+    full = [] :: [name()],
     %% Hints that were delivered before the last checkpoint.
     delivered = 0 :: non_neg_integer()
 }).
@@ -133,13 +135,15 @@ handle_call(Request, From, State) ->
     wait(with_answer(Request, From, cluster_space:is_full(), State)).
 
 %% @private
-handle_cast(_, State) ->
+handle_cast(Message, State) ->
+    ok = cluster_stray:message(?MODULE, Message),
     wait(State).
 
 %% @private
 handle_info(timeout, State) ->
     {noreply, commit(State)};
-handle_info(_, State) ->
+handle_info(Message, State) ->
+    ok = cluster_stray:message(?MODULE, Message),
     wait(State).
 
 %% @private
@@ -166,8 +170,8 @@ answer({keep, Name, {Key, Version} = Kept}, #state{life = Life, queues = Queues,
     case cluster_hint_queue:keep(queue(Name, Life, Queues), Key, Version, cluster_settings:hint_bytes()) of
         {ok, Number, Queue} ->
             {{ok, Number}, State#state{queues = Queues#{Name => Queue}, records = [{keep, Name, Kept} | Records]}};
-        Refused ->
-            {Refused, State}
+        {error, Refused} ->
+            {{error, Refused}, refused(Refused, Name, State)}
     end;
 answer({confirm, Name, Outcomes}, State) ->
     {ok, lists:foldl(fun(Outcome, Before) -> confirmed(Name, Outcome, Before) end, State, Outcomes)};
@@ -177,14 +181,25 @@ answer(waiting, #state{queues = Queues} = State) ->
     {[Name || {Name, Queue} <- maps:to_list(Queues), pending_in(Queue) > 0], State};
 answer(count, #state{delivered = Before} = State) ->
     #{delivered := Delivered} = Counts = counts(State),
-    {Counts#{delivered := Before + Delivered}, State}.
+    {Counts#{delivered := Before + Delivered}, State};
+answer(Request, State) ->
+    {cluster_stray:call(?MODULE, Request), State}.
 
-confirmed(Name, Outcome, #state{queues = Queues, records = Records} = State) ->
+%% A queue that is full is said once, until it has delivered some.
+refused(hints_full, {Owner, Range} = Name, #state{full = Full} = State) ->
+    ok = cluster_metrics:count(hints_refused, []),
+    lists:member(Name, Full) orelse cluster_event:note(hints_refused, [{owner, Owner}, {range, Range}]),
+    State#state{full = lists:usort([Name | Full])};
+refused(_, _, State) ->
+    State.
+
+confirmed(Name, Outcome, #state{queues = Queues, full = Full} = State) ->
     case Queues of
         #{Name := Queue} ->
             case cluster_hint_queue:confirm(Queue, Outcome) of
                 {ok, Next} ->
-                    State#state{queues = Queues#{Name := Next}, records = [{confirm, Name, Outcome} | Records]};
+                    Records = [{confirm, Name, Outcome} | State#state.records],
+                    State#state{queues = Queues#{Name := Next}, records = Records, full = Full -- [Name]};
                 {error, unknown_hint} ->
                     State
             end;

@@ -1,154 +1,170 @@
-%% @doc The HTTP front: a module of `inets'. Values are bodies, contexts are a header, all other bodies are JSON.
+%% @doc The HTTP fronts: servers of `inets', each with a module that responds to its requests. One is for clients, and
+%% one for an administrator, on a port of its own.
+%%
+%% Bodies, headers and paths that are too long are refused before they are in memory. A front has TLS if the settings
+%% name a certificate, and wants a token if they name its file.
 -module(cluster_http).
+-behaviour(httpd_custom_api).
 
--export([start_link/0]).
--export([do/1]).
+-export([start_link/1, do/3]).
+-export([request_header/1, response_header/1, response_default_headers/0]).
+-export([json/2, refusal/1, health/0, add_headers/2]).
+
+-export_type([request/0, response/0]).
 
 -include_lib("inets/include/httpd.hrl").
 
 -define(TRIES, 40).
 -define(AGAIN_MS, 50).
+%% The longest value, the longest path (each byte of a key may be three), and all headers.
+-define(MOST_BODY, 65536).
+-define(LIMIT, "65537").
+-define(MOST_PATH, 1024).
+-define(MOST_HEADERS, 8192).
 
--type response() :: {Status :: 200..503, Headers :: [{atom() | string(), string()}], Body :: iodata()}.
+-type request() :: #{
+    method := string(), path := string(), query := string(), headers := [{string(), string()}], body := binary()
+}.
+-type response() :: {Status :: 200..505, Headers :: [{atom() | string(), string()}], Body :: iodata()}.
 
-%% @doc Starts the server on 127.0.0.1. One that was killed takes a moment to leave its port.
--spec start_link() -> {ok, pid()} | {error, term()}.
-start_link() ->
-    start_link(?TRIES).
+%% @doc Starts a front. One that was killed takes a moment to leave its port.
+-spec start_link(clients | admin) -> {ok, pid()} | {error, term()}.
+start_link(Front) ->
+    start_link(options(Front, cluster_settings:front(Front)), ?TRIES).
 
-start_link(Tries) ->
-    case inets:start(httpd, options(), stand_alone) of
+start_link(Options, Tries) ->
+    case inets:start(httpd, Options, stand_alone) of
         {error, _} when Tries > 1 ->
             timer:sleep(?AGAIN_MS),
-            start_link(Tries - 1);
+            start_link(Options, Tries - 1);
         Started ->
             Started
     end.
 
-options() ->
+options(Front, #{ip := Ip, port := Port, connections := Connections, tls := Tls, token := Token}) ->
+    ok = persistent_term:put({?MODULE, Front}, read_token(Token)),
     Folder = cluster_settings:folder(),
     [
-        {bind_address, {127, 0, 0, 1}},
-        {port, cluster_settings:http_port()},
+        {bind_address, Ip},
+        {port, Port},
+        {ipfamily, family(Ip)},
         {server_name, "cluster"},
         {server_root, Folder},
         {document_root, Folder},
-        {modules, [?MODULE]}
+        {server_tokens, none},
+        {max_clients, Connections},
+        {max_content_length, ?MOST_BODY},
+        {max_body_size, ?MOST_BODY + 1},
+        {max_header_size, ?MOST_HEADERS},
+        {max_uri_size, ?MOST_PATH},
+        {customize, ?MODULE},
+        {modules, [module(Front)]}
+        | socket(Tls)
     ].
 
 %% @private
-%% @doc Answers a request: a call of `inets'.
--spec do(#mod{}) -> {proceed, [{response, {response, Head :: list(), Body :: list()}}]}.
-do(#mod{method = Method, request_uri = Uri, parsed_header = Headers, entity_body = Body}) ->
-    Context = proplists:get_value("x-context", Headers, ""),
-    {Status, Extra, Text} = respond(Method, hd(string:split(Uri, "?")), Context, iolist_to_binary(Body)),
+%% @doc Changes a header of a request: a call of `inets', which would take a chunk of any size into memory, so a body in
+%% chunks is one that it doesn't know. Nor does it take a length of just its limit, if the client expects to be told to
+%% go on: so its limit is one more than that of a value, and no length is that.
+request_header({"transfer-encoding", _}) -> {true, {"transfer-encoding", "unknown"}};
+request_header({"content-length", ?LIMIT}) -> {true, {"content-length", ?LIMIT ++ "0"}};
+request_header(Header) -> {true, Header}.
+
+%% @private
+response_header(Header) -> {true, Header}.
+
+%% @private
+response_default_headers() -> [].
+
+family(Ip) when tuple_size(Ip) =:= 4 -> inet;
+family(_) -> inet6.
+
+module(clients) -> cluster_client_front;
+module(admin) -> cluster_admin_front.
+
+socket(none) ->
+    [];
+socket({CertFile, KeyFile}) ->
+    [{socket_type, {ssl, [{certfile, CertFile}, {keyfile, KeyFile}, {versions, ['tlsv1.3', 'tlsv1.2']}]}}].
+
+read_token(none) ->
+    none;
+read_token(File) ->
+    {ok, Text} = file:read_file(File),
+    string:trim(Text).
+
+%% @doc Answers a request by a function, unless it lacks the front's token: a call of a front's module by `inets'. The
+%% answer to HEAD has no body.
+-spec do(clients | admin, #mod{}, fun((request()) -> response())) -> {proceed, list()}.
+do(Front, #mod{method = Method, request_uri = Uri, parsed_header = Headers, entity_body = Body}, Respond) ->
+    {Path, Query} = split(Uri),
+    Request = #{method => Method, path => Path, query => Query, headers => Headers, body => iolist_to_binary(Body)},
+    {Status, Extra, Text} = with_token(persistent_term:get({?MODULE, Front}), Request, Respond),
     Bytes = iolist_to_binary(Text),
     Head = [{code, Status}, {content_length, integer_to_list(byte_size(Bytes))} | Extra],
-    {proceed, [{response, {response, Head, binary_to_list(Bytes)}}]}.
+    {proceed, [{response, {response, Head, body(Method, Bytes)}}]}.
 
--spec respond(Method :: string(), Path :: string(), Context :: string(), Body :: binary()) -> response().
-respond("GET", "/keys/" ++ Key, _, _) -> get_key(key(Key));
-respond("PUT", "/keys/" ++ Key, Context, Value) -> put_key(key(Key), Value, Context);
-respond("DELETE", "/keys/" ++ Key, Context, _) -> put_key(key(Key), tombstone, Context);
-respond("GET", "/status", _, _) -> json(200, cluster:status());
-respond("GET", "/table", _, _) -> {200, [{content_type, "text/plain"}], cluster:table()};
-respond("GET", "/dump", _, _) -> dump();
-respond("PUT", "/repair", _, _) -> repair();
-respond(_, _, _, _) -> json(404, #{refused => <<"NoSuchPath">>}).
-
-%% Returns the bytes of a key in a path. `inets' has refused bad escapes, and has removed the segments `.' and `..'.
-key(Encoded) ->
-    list_to_binary(unescaped(Encoded)).
-
-unescaped([$%, High, Low | Rest]) -> [list_to_integer([High, Low], 16) | unescaped(Rest)];
-unescaped([Char | Rest]) -> [Char | unescaped(Rest)];
-unescaped([]) -> [].
-
-repair() ->
-    unless_starting(fun() -> cluster_repair:round() end, fun(_) -> #{} end).
-
-dump() ->
-    unless_starting(fun cluster:dump/0, fun(Dump) -> Dump end).
-
-%% A node without a life has no store.
-unless_starting(Call, Members) ->
-    try
-        json(200, Members(Call()))
-    catch
-        exit:_ -> refusal({refused, starting})
+split(Uri) ->
+    case string:split(Uri, "?") of
+        [Path] -> {Path, ""};
+        [Path, Query] -> {Path, Query}
     end.
 
-%% ---- keys
+body("HEAD", _) -> nobody;
+body(_, Bytes) -> Bytes.
 
-get_key(Key) ->
-    case outcome(fun() -> cluster_coordinator:get(Key) end, {refused, down}) of
-        {ok, #{coordinator := Place, versions := Versions}} -> from(Place, versions(Versions));
-        Refused -> refused(Refused)
+%% The health of a node is no secret.
+with_token(none, Request, Respond) ->
+    Respond(Request);
+with_token(_, #{path := "/health"} = Request, Respond) ->
+    Respond(Request);
+with_token(Token, #{headers := Headers} = Request, Respond) ->
+    case [Given || {"authorization", "Bearer " ++ Given} <- Headers] of
+        [Given] ->
+            case is_equal(Token, unicode:characters_to_binary(Given)) of
+                true -> Respond(Request);
+                false -> unauthorized()
+            end;
+        _ ->
+            unauthorized()
     end.
 
-put_key(Key, Value, ContextText) ->
-    case cluster_clock:read_context(ContextText) of
-        {ok, Context} -> stored(outcome(fun() -> cluster_coordinator:put(Key, Value, Context) end, {perhaps, down}));
-        {error, Name} -> refused({refused, Name})
-    end.
+%% The time of it says nothing of the token.
+is_equal(Token, Given) ->
+    crypto:hash_equals(crypto:hash(sha256, Token), crypto:hash(sha256, Given)).
 
-stored({ok, #{coordinator := Place, clock := Clock, on := On}}) ->
-    Text = iolist_to_binary(cluster_clock:text(Clock)),
-    from(Place, json(200, #{clock => Text, context => cluster_clock:context(Clock), on => On}));
-stored(Refused) ->
-    refused(Refused).
-
-%% Returns the outcome of a request, or this one if a process of this node ends.
-outcome(Request, IfEnded) ->
-    try
-        Request()
-    catch
-        exit:_ -> IfEnded
-    end.
-
-%% Returns the response with the versions of a key.
-versions([]) ->
-    json(404, #{});
-versions(Versions) ->
-    Clocks = [Clock || #{clock := Clock} <- Versions],
-    case antientropy:merge(Clocks) of
-        {ok, Merged} ->
-            Context = {"x-context", binary_to_list(cluster_clock:context(Merged))},
-            Clock = {"x-clock", lists:flatten(lists:join($;, [cluster_clock:text(Clock) || Clock <- Clocks]))},
-            versions(Versions, Context, Clock);
-        {error, Name} ->
-            refused({refused, Name})
-    end.
-
-versions([#{value := Value}], Context, Clock) when is_binary(Value) ->
-    {200, [{content_type, "application/octet-stream"}, Context, Clock], Value};
-versions(Versions, Context, Clock) ->
-    case [Value || #{value := Value} <- Versions, Value =/= tombstone] of
-        [] -> add_headers([Context, Clock], json(404, #{}));
-        _ -> add_headers([Context], json(300, #{siblings => cluster:versions(Versions)}))
-    end.
+unauthorized() ->
+    add_headers([{"www-authenticate", "Bearer"}], json(401, #{refused => <<"NoToken">>})).
 
 %% ---- responses
 
-refused(Refused) ->
-    ok = cluster_requests:count(Refused),
-    from(cluster_ring:here(), refusal(Refused)).
+%% @doc Returns the health of this node. It waits for no process and no disk.
+-spec health() -> response().
+health() ->
+    IsReady = cluster_life:is_ready(),
+    Status = if IsReady -> 200; true -> 503 end,
+    json(Status, #{ready => IsReady, full => cluster_space:is_full(), down => cluster_wire:down()}).
 
+%% @doc Returns the response to a request that is refused.
+-spec refusal(cluster_refusal:refused()) -> response().
 refusal({refused, Name}) -> json(status(Name), #{refused => cluster_refusal:text(Name)});
 refusal({perhaps, Name}) -> json(503, #{refused => cluster_refusal:text(Name), perhaps => true});
 refusal({perhaps, Name, For}) -> json(503, #{refused => cluster_refusal:text(Name), perhaps => true, for => For}).
 
 status(stale_context) -> 409;
 status(Name) when Name =:= bad_key; Name =:= bad_value; Name =:= bad_clock; Name =:= bad_context -> 400;
+status(Name) when Name =:= two_contexts; Name =:= bad_quorum; Name =:= bad_body -> 400;
 status(Name) when Name =:= clock_full; Name =:= counter_full -> 400;
+status(no_such_path) -> 404;
+status(bad_method) -> 405;
 status(_) -> 503.
 
+%% @doc Returns a response with a JSON body.
+-spec json(Status :: 200..505, map()) -> response().
 json(Status, Members) ->
-    {Status, [{content_type, "application/json"}], [cluster_json:encode(Members), "\n"]}.
+    {Status, [{content_type, "application/json"}], [jiffy:encode(Members), "\n"]}.
 
-%% Names the place that coordinated.
-from(Place, Response) ->
-    add_headers([{"x-place", integer_to_list(Place)}], Response).
-
+%% @doc Adds headers to a response.
+-spec add_headers([{atom() | string(), string()}], response()) -> response().
 add_headers(More, {Status, Headers, Body}) ->
     {Status, More ++ Headers, Body}.

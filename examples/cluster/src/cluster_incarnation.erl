@@ -49,14 +49,17 @@ refuse(Format, Arguments) ->
 
 %% Calls all places at once, and returns those that answered.
 gather(Call, Places) ->
-    Calls = [{Place, spawn_monitor(fun() -> exit({answer, Call(Place)}) end)} || Place <- Places],
+    Calls = [{Place, cluster_task:start(fun() -> Call(Place) end)} || Place <- Places],
     lists:append([answer(Place, Monitor) || {Place, {_, Monitor}} <- Calls]).
 
 answer(Place, Monitor) ->
     receive
-        {'DOWN', Monitor, process, _, {answer, {ok, ok}}} -> [{Place, 0}];
-        {'DOWN', Monitor, process, _, {answer, {ok, {ok, Known}}}} -> [{Place, Known}];
-        {'DOWN', Monitor, process, _, _} -> []
+        {'DOWN', Monitor, process, _, Reason} ->
+            case cluster_task:result(incarnation, Reason) of
+                {ok, {ok, ok}} -> [{Place, 0}];
+                {ok, {ok, {ok, Known}}} -> [{Place, Known}];
+                _ -> []
+            end
     end.
 
 %% Tries again until all places answer. To an operator's incarnation, those that do are enough.
@@ -73,7 +76,7 @@ until_enough(Gather, Named, Count, Try) ->
 
 say_who_is_silent(Answering) ->
     Silent = lists:join(", ", [integer_to_list(Place) || Place <- cluster_ring:others() -- Answering]),
-    Format = "place ~b waits for a new life until all places answer (CLUSTER_INCARNATION names one): not ~ts~n",
+    Format = "place ~b waits for a new life until all places answer (the setting incarnation names one): not ~ts~n",
     io:format(standard_error, Format, [cluster_ring:here(), Silent]).
 
 until_there_is_room(Try) ->

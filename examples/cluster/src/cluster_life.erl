@@ -29,9 +29,9 @@
 }).
 
 %% @doc Starts the process, which begins or goes on with a life.
--spec start_link() -> {ok, pid()}.
+-spec start_link() -> {ok, pid()} | {error, term()}.
 start_link() ->
-    {ok, _} = gen_server:start_link({local, ?MODULE}, ?MODULE, [], []).
+    gen_server:start_link({local, ?MODULE}, ?MODULE, [], []).
 
 %% @doc Returns how far the start is.
 -spec phase() -> phase().
@@ -84,11 +84,14 @@ handle_call({lost, Life, Why}, _, State) ->
     end;
 handle_call({started, Store}, {Starter, _}, #state{starter = Starter} = State) ->
     {reply, ok, State#state{store = monitor(process, Store), named = none}};
-handle_call(_, _, State) ->
-    {reply, ok, State}.
+handle_call({started, _}, _, State) ->
+    {reply, ok, State};
+handle_call(Request, _, State) ->
+    {reply, cluster_stray:call(?MODULE, Request), State}.
 
 %% @private
-handle_cast(_, State) ->
+handle_cast(Message, State) ->
+    ok = cluster_stray:message(?MODULE, Message),
     {noreply, State}.
 
 %% Ends the store, and starts it again. The starter's calls take time, and `lost' must not wait for them.
@@ -100,8 +103,10 @@ handle_continue(begin_again, #state{store = Store, named = Named} = State) ->
 
 %% @private
 handle_info({'DOWN', Store, process, _, _}, #state{store = Store} = State) ->
-    {stop, {shutdown, store_ended}, State};
-handle_info(_, State) ->
+    %% (Also when the node stops: then it isn't an error.)
+    {stop, shutdown, State};
+handle_info(Message, State) ->
+    ok = cluster_stray:message(?MODULE, Message),
     {noreply, State}.
 
 %% Ends the starter before its next step, if it still runs.
@@ -124,6 +129,7 @@ start(Named) ->
     ok = take_what_is_lacking(erlang:monotonic_time(millisecond) + ?PATIENCE_MS),
     ok = check_for_a_later_life(Life),
     ok = enter({ready, Life}),
+    ok = cluster_event:note(ready, [{life, Life}]),
     io:format("ready~n").
 
 incarnation({whole, Incarnation}, _) ->
@@ -138,6 +144,7 @@ incarnation({damaged, Why}, Named) ->
     {ok, Aside} = again_if_full(fun cluster_folder:move_aside/0),
     Kept = filename:join(cluster_settings:folder(), Aside),
     Format = "the disk of place ~b is damaged: ~ts; it is kept in ~ts, and a new life begins",
+    ok = cluster_metrics:count(events, [{event, damage}]),
     ok = say(Format, [cluster_ring:here(), Why, Kept]),
     new_incarnation(Named);
 incarnation({refused, Why}, _) ->
@@ -147,6 +154,7 @@ new_incarnation(Named) ->
     ok = again_if_full(fun cluster_lives:begin_anew/0),
     Incarnation = cluster_incarnation:take(Named),
     ok = again_if_full(fun() -> cluster_folder:make(Incarnation) end),
+    ok = cluster_event:note(new_life, [{incarnation, Incarnation}]),
     Incarnation.
 
 say(Format, Arguments) ->

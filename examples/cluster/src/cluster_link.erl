@@ -3,10 +3,10 @@
 
 -export([call/5]).
 
-%% @doc Calls a function at another place by {@link cluster_wire:serve/4}, with a limit in milliseconds. It raises what
+%% @doc Calls a function at another place by {@link cluster_wire:serve/5}, with a limit in milliseconds. It raises what
 %% `erpc:call/5' raises.
 -spec call(cluster_ring:place(), module(), Function :: atom(), Arguments :: [term()], LimitMs :: pos_integer()) ->
     Result :: term().
 call(Place, Module, Function, Arguments, LimitMs) ->
-    Served = [cluster_ring:here(), Module, Function, Arguments],
+    Served = [cluster_ring:here(), cluster_ring:digest(), Module, Function, Arguments],
     erpc:call(cluster_ring:node_of(Place), cluster_wire, serve, Served, LimitMs).

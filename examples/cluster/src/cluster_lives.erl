@@ -6,7 +6,7 @@
 -module(cluster_lives).
 -behaviour(gen_server).
 
--export([number/2, incarnation/1, greatest/0]).
+-export([number/2, place/1, incarnation/1, greatest/0]).
 -export([start_link/0, state/0, begin_anew/0, known/1, learn/1, learn_from/1]).
 -export([init/1, handle_call/3, handle_cast/2, handle_info/2]).
 
@@ -25,6 +25,11 @@
 number(Place, Incarnation) ->
     Place + ?PLACES * Incarnation.
 
+%% @doc Returns the place of a life.
+-spec place(life()) -> cluster_ring:place().
+place(Life) ->
+    Life rem ?PLACES.
+
 %% @doc Returns the incarnation of a life.
 -spec incarnation(life()) -> incarnation().
 incarnation(Life) ->
@@ -36,9 +41,9 @@ greatest() ->
     ?GREATEST.
 
 %% @doc Starts the process that writes the file.
--spec start_link() -> {ok, pid()}.
+-spec start_link() -> {ok, pid()} | {error, term()}.
 start_link() ->
-    {ok, _} = gen_server:start_link({local, ?MODULE}, ?MODULE, cluster_settings:folder(), []).
+    gen_server:start_link({local, ?MODULE}, ?MODULE, cluster_settings:folder(), []).
 
 %% @doc Returns what the file is. A place knows nothing before it is whole.
 -spec state() -> whole | missing | damaged.
@@ -107,14 +112,18 @@ handle_call({learn, Incarnations}, _, File) ->
             Known when is_map(Known) -> learn(File, Known, Incarnations);
             _ -> {error, starting}
         end,
-    {reply, Learnt, File}.
+    {reply, Learnt, File};
+handle_call(Request, _, File) ->
+    {reply, cluster_stray:call(?MODULE, Request), File}.
 
 %% @private
-handle_cast(_, File) ->
+handle_cast(Message, File) ->
+    ok = cluster_stray:message(?MODULE, Message),
     {noreply, File}.
 
 %% @private
-handle_info(_, File) ->
+handle_info(Message, File) ->
+    ok = cluster_stray:message(?MODULE, Message),
     {noreply, File}.
 
 learn(File, Known, Incarnations) ->

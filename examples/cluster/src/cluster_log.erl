@@ -18,9 +18,11 @@
 -module(cluster_log).
 
 -export([make/3, check/2, open/4, write/2, close/1, note/1, set_note/2]).
--export([begin_file/1, checkpoint/1, save/2, adopt/2]).
+-export([begin_file/1, checkpoint/1, saved/1, save/2, adopt/2]).
 
 -export_type([log/0]).
+
+-include_lib("kernel/include/file.hrl").
 
 -import(cluster_manifest, [damaged/1, damaged/2, path/2, log_file/2]).
 
@@ -223,6 +225,16 @@ begin_file(File, {full, Log}) ->
 -spec checkpoint(log()) -> file:filename().
 checkpoint(#log{folder = Folder, manifest = #{last := Last}}) ->
     cluster_manifest:checkpoint_file(Folder, Last).
+
+%% @doc Returns the time at which the checkpoint was saved with which the log begins, in seconds of the system's time.
+-spec saved(log()) -> integer() | none.
+saved(#log{manifest = #{checkpoint := none}}) ->
+    none;
+saved(#log{folder = Folder, manifest = #{first := First}}) ->
+    case file:read_file_info(cluster_manifest:checkpoint_file(Folder, First), [raw, {time, posix}]) of
+        {ok, #file_info{mtime = Seconds}} -> Seconds;
+        {error, _} -> none
+    end.
 
 %% @doc Writes a checkpoint, in any process. Its seal says what must be there after {@link adopt/2}.
 -spec save(file:filename(), Write :: fun((file:io_device()) -> ok | {error, term()})) ->

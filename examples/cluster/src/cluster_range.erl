@@ -13,12 +13,12 @@
 -module(cluster_range).
 -behaviour(gen_server).
 
--export([start_link/1, put/4, copies/2, copy/3, own/2, row/2, read/4, take_row/3, counts/1, dump/1]).
+-export([start_link/1, put/4, copies/2, copy/3, own/2, row/2, read/4, take_row/3, counts/1, sizes/1, dump/1]).
 -export([is_joined/1, unchecked/1]).
 -export([offer/2, serve/4, borrow/1, give_back/3]).
 -export([init/1, handle_call/3, handle_cast/2, handle_info/2, format_status/1]).
 
--export_type([counts/0, row/0]).
+-export_type([counts/0, sizes/0, row/0]).
 
 %% Answers that wait at most for one sync of the log.
 -define(MOST_WAITING, 512).
@@ -29,10 +29,19 @@
     limit := pos_integer(),
     dirty := non_neg_integer(),
     sessions := non_neg_integer(),
-    bytes := #{rows := non_neg_integer(), journal := non_neg_integer(), sessions := non_neg_integer()},
+    bytes := bytes(),
     joined := boolean(),
     root := binary() | null
 }.
+-type sizes() :: #{
+    entries := non_neg_integer(),
+    limit := pos_integer(),
+    dirty := non_neg_integer(),
+    sessions := non_neg_integer(),
+    bytes := bytes(),
+    queue := non_neg_integer()
+}.
+-type bytes() :: #{rows := non_neg_integer(), journal := non_neg_integer(), sessions := non_neg_integer()}.
 %% (`entries' are those of the journal, at most `limit'. The bytes are those of {@link antientropy:bytes/1}.)
 -type row() :: {Key :: binary(), [antientropy:version()]}.
 -type request() :: tuple() | atom().
@@ -52,8 +61,8 @@
     waiting = [] :: [{gen_server:from(), request(), Answer :: term()}],
     offers = 0 :: non_neg_integer(),
     offered = #{} :: #{cluster_ring:place() => {Number :: pos_integer(), antientropy_snapshot:snapshot()}},
-    %% Processes that sync into the replica.
-    borrowers = #{} :: #{pid() => reference()},
+    %% Monitors of the processes that sync into the replica.
+    borrowers = #{} :: #{reference() => pid()},
     %% Holders whose versions aren't all in the range of a new life, and those of which all weren't taken yet since this
     %% process began.
     lacking :: [cluster_ring:place()],
@@ -153,6 +162,11 @@ give_back(Range, Replica, Taken) ->
 counts(Range) ->
     call(Range, counts).
 
+%% @doc Returns what the range counts without a look at its tree, and the number of calls that wait for it.
+-spec sizes(cluster_ring:range()) -> sizes().
+sizes(Range) ->
+    call(Range, sizes).
+
 %% @doc Returns all rows, and the root.
 -spec dump(cluster_ring:range()) -> {Root :: binary(), [row()]}.
 dump(Range) ->
@@ -197,6 +211,7 @@ init(Range) ->
 load(Range, Life) ->
     case cluster_replica:open(Range, Life) of
         {ok, Log, Replica, Terms} ->
+            ok = note_saved(Range, cluster_log:saved(Log)),
             {ok, #state{
                 range = Range,
                 life = Life,
@@ -221,7 +236,8 @@ handle_call(Request, From, State) ->
     wait(with_answer(Request, From, cluster_space:is_full(), Next)).
 
 %% @private
-handle_cast(_, State) ->
+handle_cast(Message, State) ->
+    ok = cluster_stray:message(?MODULE, Message),
     wait(State).
 
 %% @private
@@ -229,9 +245,12 @@ handle_info(timeout, State) ->
     {noreply, commit(State)};
 handle_info({saved, Saver, Saved}, #state{saver = Saver} = State) ->
     wait(adopt(Saved, State#state{saver = undefined}));
-handle_info({'DOWN', _, process, Borrower, _}, State) ->
-    wait(returned(Borrower, State));
-handle_info(_, State) ->
+handle_info({saved, _, _}, State) ->
+    wait(State);
+handle_info({'DOWN', Monitor, process, _, _}, State) ->
+    wait(returned(Monitor, State));
+handle_info(Message, State) ->
+    ok = cluster_stray:message(?MODULE, Message),
     wait(State).
 
 %% @private
@@ -299,28 +318,19 @@ answer({offered, Partner}, _, #state{offered = Offered} = State) ->
 answer(borrow, {Borrower, _}, State) ->
     lend(Borrower, State);
 answer({give_back, Replica, Taken}, {Borrower, _}, State) ->
-    {ok, taken(Replica, Taken, returned(Borrower, State))};
+    {ok, taken(Replica, Taken, returned(monitor_of(Borrower, State), State))};
 answer(counts, _, #state{range = Range, replica = Replica, lacking = Lacking} = State) ->
-    {ok, #{entries := Entries, first := First, limit := Limit} = Counts} = antientropy:count(Replica),
-    #{dirty := Dirty, sessions := Sessions} = Counts,
-    {ok, Bytes} = antientropy:bytes(Replica),
-    {
-        #{
-            range => Range,
-            entries => Entries - First,
-            limit => Limit,
-            dirty => Dirty,
-            sessions => Sessions,
-            bytes => Bytes,
-            joined => Lacking =:= [],
-            root => cluster_replica:root(Replica)
-        },
-        State
-    };
+    Counts = cluster_replica:sizes(Replica),
+    {Counts#{range => Range, joined => Lacking =:= [], root => cluster_replica:root(Replica)}, State};
+answer(sizes, _, #state{replica = Replica, waiting = Waiting} = State) ->
+    {message_queue_len, Length} = process_info(self(), message_queue_len),
+    {(cluster_replica:sizes(Replica))#{queue => length(Waiting) + Length}, State};
 answer(dump, _, #state{replica = Replica} = State) ->
     {ok, Root} = antientropy:root(Replica),
     {ok, Keys} = antientropy:keys(Replica),
-    {{Root, [{Key, element(2, antientropy:get(Replica, Key))} || Key <- Keys]}, State}.
+    {{Root, [{Key, element(2, antientropy:get(Replica, Key))} || Key <- Keys]}, State};
+answer(Request, _, State) ->
+    {cluster_stray:call(?MODULE, Request), State}.
 
 %% The replica would take another value under a clock that it holds as a concurrent version.
 copied(Replica, Key, #{clock := Clock, value := Value} = Version) ->
@@ -459,31 +469,40 @@ save(Range, File) ->
     ok = antientropy_snapshot:close(Snapshot),
     Saved.
 
-adopt({ok, Seal}, #state{log = Log} = State) ->
-    {Adopted, Next} = cluster_log:adopt(Log, Seal),
-    Adopted =:= ok orelse cluster_space:full(),
-    State#state{log = Next};
+adopt({ok, Seal}, #state{range = Range, log = Log} = State) ->
+    case cluster_log:adopt(Log, Seal) of
+        {ok, Next} ->
+            ok = note_saved(Range, cluster_log:saved(Next)),
+            ok = cluster_event:note(checkpoint, [{range, Range}]),
+            State#state{log = Next};
+        {full, Next} ->
+            ok = cluster_space:full(),
+            State#state{log = Next}
+    end;
 adopt(full, State) ->
     ok = cluster_space:full(),
     State.
+
+note_saved(_, none) -> ok;
+note_saved(Range, Seconds) -> cluster_metrics:set(snapshot_saved, [{range, Range}], Seconds).
 
 %% ---- syncs and renewals
 
 lend(Borrower, #state{borrowers = Borrowers, replica = Replica} = State) ->
     case is_renewal_due(State) andalso map_size(Borrowers) > 0 of
         true -> {{error, busy}, State};
-        false -> {{ok, Replica}, State#state{borrowers = Borrowers#{Borrower => monitor(process, Borrower)}}}
+        false -> {{ok, Replica}, State#state{borrowers = Borrowers#{monitor(process, Borrower) => Borrower}}}
     end.
 
-%% A process may give back what it borrowed before this one started.
-returned(Borrower, #state{borrowers = Borrowers} = State) ->
-    case maps:take(Borrower, Borrowers) of
-        {Monitor, Rest} ->
-            true = demonitor(Monitor, [flush]),
-            State#state{borrowers = Rest};
-        error ->
-            State
-    end.
+%% A process may give back what it borrowed before this one started: it has no monitor then.
+returned(none, State) ->
+    State;
+returned(Monitor, #state{borrowers = Borrowers} = State) ->
+    true = demonitor(Monitor, [flush]),
+    State#state{borrowers = maps:remove(Monitor, Borrowers)}.
+
+monitor_of(Borrower, #state{borrowers = Borrowers}) ->
+    hd([Monitor || {Monitor, Process} <- maps:to_list(Borrowers), Process =:= Borrower] ++ [none]).
 
 %% All that a partner had counts if it was taken into this replica.
 taken(Replica, {all_of, Partner}, #state{replica = Replica, lacking = Lacking} = State) ->
@@ -517,11 +536,13 @@ join_if_complete(State) ->
     State.
 
 %% Renews the replica, unless a process syncs into it: it would go on with the old one.
-renew_if_due(#state{borrowers = Borrowers, replica = Replica} = State) ->
+renew_if_due(#state{range = Range, borrowers = Borrowers, replica = Replica} = State) ->
     case map_size(Borrowers) =:= 0 andalso is_logged(State) andalso is_renewal_due(State) of
         true ->
             Renewed = cluster_replica:renewed(Replica, cluster_settings:limit()),
-            State#state{replica = Renewed, held = cluster_replica:used(Renewed)};
+            Held = cluster_replica:used(Renewed),
+            ok = cluster_event:note(renewal, [{range, Range}, {entries, Held}]),
+            State#state{replica = Renewed, held = Held};
         false ->
             State
     end.

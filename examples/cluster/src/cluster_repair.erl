@@ -13,8 +13,13 @@
 -type counts() :: #{rounds := non_neg_integer(), keys := non_neg_integer(), bytes := non_neg_integer()}.
 %% Numbers of rounds, of versions that were taken, and of bytes of answers.
 
+-type cause() :: atom().
+-type failed() :: #{{cluster_ring:range(), cluster_ring:place()} => cause()}.
+
 -record(state, {
     counts = #{rounds => 0, keys => 0, bytes => 0} :: counts(),
+    %% What wasn't taken to the end in the last round.
+    failed = #{} :: failed(),
     timer :: reference() | undefined,
     %% The round in progress, and those who wait for its end, or for that of the next one.
     running :: reference() | undefined,
@@ -23,9 +28,9 @@
 }).
 
 %% @doc Starts the process of the rounds.
--spec start_link() -> {ok, pid()}.
+-spec start_link() -> {ok, pid()} | {error, term()}.
 start_link() ->
-    {ok, _} = gen_server:start_link({local, ?MODULE}, ?MODULE, [], []).
+    gen_server:start_link({local, ?MODULE}, ?MODULE, [], []).
 
 %% @doc Runs a round now. Returns at its end the ranges and partners of which not all versions were taken.
 -spec round() -> [{cluster_ring:range(), cluster_ring:place()}].
@@ -45,10 +50,13 @@ init([]) ->
 handle_call(round, From, #state{next = Next} = State) ->
     {noreply, begin_if_asked(State#state{next = [From | Next]})};
 handle_call(count, _, #state{counts = Counts} = State) ->
-    {reply, Counts, State}.
+    {reply, Counts, State};
+handle_call(Request, _, State) ->
+    {reply, cluster_stray:call(?MODULE, Request), State}.
 
 %% @private
-handle_cast(_, State) ->
+handle_cast(Message, State) ->
+    ok = cluster_stray:message(?MODULE, Message),
     {noreply, State}.
 
 %% @private
@@ -60,10 +68,11 @@ handle_info({timeout, Timer, round}, #state{timer = Timer} = State) ->
 handle_info({timeout, _, round}, State) ->
     {noreply, State};
 handle_info({'DOWN', Running, process, _, Reason}, #state{running = Running, waiting = Waiting} = State) ->
-    {Lacking, Ended} = ended(Reason, State#state{running = undefined, waiting = []}),
+    {Lacking, Ended} = ended(cluster_task:result(repair, Reason), State#state{running = undefined, waiting = []}),
     [gen_server:reply(From, Lacking) || From <- Waiting],
     {noreply, begin_if_asked(begin_later(Ended))};
-handle_info(_, State) ->
+handle_info(Message, State) ->
+    ok = cluster_stray:message(?MODULE, Message),
     {noreply, State}.
 
 %% After a start each range takes what the others have, and joins.
@@ -74,17 +83,28 @@ begin_if_asked(#state{running = undefined, next = [_ | _]} = State) -> begin_rou
 begin_if_asked(State) -> State.
 
 begin_round(#state{next = Next} = State) ->
-    {_, Running} = spawn_monitor(fun() -> exit(pull_all()) end),
+    {_, Running} = cluster_task:start_link(fun pull_all/0),
     State#state{timer = undefined, running = Running, waiting = Next, next = []}.
 
 begin_later(State) ->
     State#state{timer = erlang:start_timer(cluster_settings:round_ms(), self(), round)}.
 
-ended({pulled, MoreKeys, MoreBytes, Lacking}, #state{counts = Counts} = State) ->
+ended({ok, {pulled, MoreKeys, MoreBytes, Failed}}, #state{counts = Counts, failed = Before} = State) ->
     #{rounds := Rounds, keys := Keys, bytes := Bytes} = Counts,
-    {Lacking, State#state{counts = #{rounds => Rounds + 1, keys => Keys + MoreKeys, bytes => Bytes + MoreBytes}}};
-ended(_, State) ->
+    ok = cluster_metrics:count(repair_rounds, []),
+    ok = cluster_metrics:add(repair_keys, [], MoreKeys),
+    ok = cluster_metrics:add(repair_bytes, [], MoreBytes),
+    ok = lists:foreach(fun note_failure/1, maps:to_list(Failed) -- maps:to_list(Before)),
+    Next = #{rounds => Rounds + 1, keys => Keys + MoreKeys, bytes => Bytes + MoreBytes},
+    {maps:keys(Failed), State#state{counts = Next, failed = Failed}};
+ended(crashed, State) ->
     {pulls(), State}.
+
+%% A sync that fails is said once, until it fails for another cause. (That a place is down has a line of its own.)
+note_failure({_, Why}) when Why =:= down; Why =:= busy; Why =:= disk_full ->
+    ok;
+note_failure({{Range, Partner}, Why}) ->
+    cluster_event:note(sync_failed, [{range, Range}, {partner, Partner}, {cause, Why}]).
 
 %% ---- a round
 
@@ -93,31 +113,44 @@ pulls() ->
     [{Range, Partner} || Range <- cluster_ring:held(), Partner <- cluster_ring:partners(Range)].
 
 %% Pulls each range from each other holder, as many at once as slots are lent. Returns the sums of keys and bytes, and
-%% what wasn't taken to the end.
+%% the causes for which not all was taken.
+-spec pull_all() -> {pulled, Keys :: non_neg_integer(), Bytes :: non_neg_integer(), failed()}.
 pull_all() ->
-    Begin = fun({Range, Partner} = Pull) -> {Pull, spawn_monitor(fun() -> pull_admitted(Range, Partner) end)} end,
-    lists:foldl(fun add_pulled/2, {pulled, 0, 0, []}, lists:map(Begin, pulls())).
+    lists:foldl(fun add_pulled/2, {pulled, 0, 0, #{}}, lists:map(fun begin_pull/1, pulls())).
 
-add_pulled({Pull, {_, Monitor}}, {pulled, Keys, Bytes, Lacking}) ->
-    receive
-        {'DOWN', Monitor, process, _, {pulled, all, MoreKeys, MoreBytes}} ->
-            {pulled, Keys + MoreKeys, Bytes + MoreBytes, Lacking};
-        {'DOWN', Monitor, process, _, {pulled, some, MoreKeys, MoreBytes}} ->
-            {pulled, Keys + MoreKeys, Bytes + MoreBytes, [Pull | Lacking]};
-        {'DOWN', Monitor, process, _, _} ->
-            {pulled, Keys, Bytes, [Pull | Lacking]}
+begin_pull({Range, Partner} = Pull) ->
+    {Pull, cluster_task:start_link(fun() -> pull_admitted(Range, Partner) end)}.
+
+add_pulled({Pull, {_, Monitor}}, {pulled, Keys, Bytes, Failed}) ->
+    {Outcome, MoreKeys, MoreBytes} = pulled(Monitor),
+    ok = cluster_metrics:count(pulls, [{outcome, Outcome}]),
+    case Outcome of
+        all -> {pulled, Keys + MoreKeys, Bytes + MoreBytes, Failed};
+        Why -> {pulled, Keys + MoreKeys, Bytes + MoreBytes, Failed#{Pull => Why}}
     end.
 
--spec pull_admitted(cluster_ring:range(), cluster_ring:place()) -> no_return().
+pulled(Monitor) ->
+    receive
+        {'DOWN', Monitor, process, _, Reason} ->
+            case cluster_task:result(repair, Reason) of
+                {ok, Pulled} -> Pulled;
+                crashed -> {crashed, 0, 0}
+            end
+    end.
+
+%% (The slot is free again at the end of this process.)
 pull_admitted(Range, Partner) ->
     ok = cluster_slots:lend(),
-    exit(pull(Range, Partner)).
+    pull(Range, Partner).
 
-%% Takes what a partner has. Returns whether that was all, and the numbers of versions and of bytes.
+%% Takes what a partner has. Returns `all', or the cause for which that wasn't all, and the numbers of versions and of
+%% bytes.
+-spec pull(cluster_ring:range(), cluster_ring:place()) ->
+    {all | cause(), Keys :: non_neg_integer(), Bytes :: non_neg_integer()}.
 pull(Range, Partner) ->
     case cluster_wire:call(Partner, cluster_range, offer, [Range, cluster_ring:here()]) of
         {ok, {ok, Offer}} -> pull_offered(Range, Partner, Offer, cluster_range:borrow(Range));
-        down -> {pulled, some, 0, 0}
+        down -> {down, 0, 0}
     end.
 
 pull_offered(Range, Partner, Offer, {ok, Replica}) ->
@@ -129,16 +162,20 @@ pull_offered(Range, Partner, Offer, {ok, Replica}) ->
     case antientropy:sync(Replica, Partner, Offer, Reach, #{in_flight => ?ASKS_AT_ONCE, most_bad => 0}) of
         {ok, #{accepted := Keys, state := finished, crowded := []}} ->
             ok = cluster_range:give_back(Range, Replica, {all_of, Partner}),
-            {pulled, all, Keys, counters:get(Bytes, 1)};
-        {ok, #{accepted := Keys}} ->
+            {all, Keys, counters:get(Bytes, 1)};
+        {ok, #{accepted := Keys, state := State}} ->
             ok = cluster_range:give_back(Range, Replica, some),
-            {pulled, some, Keys, counters:get(Bytes, 1)};
-        {error, _} ->
+            {cause(State), Keys, counters:get(Bytes, 1)};
+        {error, Reason} ->
             ok = cluster_range:give_back(Range, Replica, some),
-            {pulled, some, 0, counters:get(Bytes, 1)}
+            {cause(Reason), 0, counters:get(Bytes, 1)}
     end;
-pull_offered(_, _, _, {error, _}) ->
-    {pulled, some, 0, 0}.
+pull_offered(_, _, _, {error, Name}) ->
+    {Name, 0, 0}.
+
+%% A sync that is finished has passed a leaf with a crowded key.
+cause(finished) -> crowded;
+cause(Name) -> Name.
 
 %% Brings asks to a partner, and counts the bytes of its answers.
 reach(Range, Partner, Number, Asks, Bytes) ->

@@ -1,7 +1,7 @@
 %% @doc What a range does with its replica: its start from the disk, puts, reads, and the test for what it has lost.
 -module(cluster_replica).
 
--export([open/2, entries/1, used/1, renewed/2, root/1]).
+-export([open/2, entries/1, used/1, sizes/1, renewed/2, root/1]).
 -export([put/5, own/3, read/3, read_apart/4, forgotten/3]).
 
 %% Scans of the journal for single entries: one pass for all costs more, and not more for more of them.
@@ -68,6 +68,20 @@ entries(Replica) ->
 used(Replica) ->
     {ok, #{entries := Entries, first := First}} = antientropy:count(Replica),
     Entries - First.
+
+%% @doc Returns what a replica counts.
+-spec sizes(antientropy:replica()) -> #{
+    entries := non_neg_integer(),
+    limit := pos_integer(),
+    dirty := non_neg_integer(),
+    sessions := non_neg_integer(),
+    bytes := #{rows := non_neg_integer(), journal := non_neg_integer(), sessions := non_neg_integer()}
+}.
+sizes(Replica) ->
+    {ok, #{entries := Entries, first := First} = Counts} = antientropy:count(Replica),
+    {ok, Bytes} = antientropy:bytes(Replica),
+    Sizes = maps:with([limit, dirty, sessions], Counts),
+    Sizes#{entries => Entries - First, bytes => Bytes}.
 
 %% @doc Renews a replica.
 -spec renewed(antientropy:replica(), Limit :: pos_integer()) -> antientropy:replica().

@@ -17,13 +17,30 @@ install() ->
 %% @private
 %% @doc Formats a report: a call of the logger.
 -spec format(logger:log_event(), logger:formatter_config()) -> unicode:chardata().
-format(#{level := Level, msg := Message}, _) ->
-    Line = unicode:characters_to_list([atom_to_list(Level), ": ", message(Message)]),
+format(#{level := Level, msg := Message, meta := Meta}, _) ->
+    Line = unicode:characters_to_list([atom_to_list(Level), ": ", message_or_none(Message, Meta)]),
     [lists:sublist([char(Char) || Char <- Line], ?MOST_CHARS), $\n].
 
-message({string, _}) -> "a text";
-message({report, Report}) -> text(Report);
-message({Format, Arguments}) -> [head(Format), " ", text(Arguments)].
+%% (A formatter that crashes is removed: nothing would be logged any more.)
+message_or_none(Message, Meta) ->
+    try
+        [_ | _] = unicode:characters_to_list(message(Message, Meta))
+    catch
+        _:Reason -> ["a report that can't be written: ", text(Reason)]
+    end.
+
+message({report, #{event := Name, fields := Fields}}, _) ->
+    cluster_event:line(Name, Fields);
+message({report, #{alert := _, role := _} = Report}, #{report_cb := Text}) when is_function(Text, 1) ->
+    %% (Of TLS: it has nothing of what was sent.)
+    {Format, Arguments} = Text(Report),
+    io_lib:format(Format, Arguments);
+message({string, _}, _) ->
+    "a text";
+message({report, Report}, _) ->
+    text(Report);
+message({Format, Arguments}, _) ->
+    [head(Format), " ", text(Arguments)].
 
 %% A format has no bytes of a client, and its arguments may.
 head(Format) when is_atom(Format) -> atom_to_list(Format);

@@ -4,15 +4,14 @@
 %% cluster_life}. The preference list of a range is the list of places, rotated left by the range's number.
 -module(cluster_ring).
 
--export([here/0, node_of/1, replica_options/1, range/1, held/0, holders/1, carriers/1, partners/1, others/0]).
+-export([here/0, node_of/1, digest/0, replica_options/1, range/1, held/0, holders/1, carriers/1, partners/1, others/0]).
 
 -export_type([place/0, range/0]).
 
 -define(FORMAT, 2).
--define(BITS, 2).
 
--type place() :: 1..5.
--type range() :: 0..3.
+-type place() :: 1..31.
+-type range() :: 0..255.
 
 %% @doc Returns the place of this node.
 -spec here() -> place().
@@ -22,17 +21,24 @@ here() ->
 %% @doc Returns the Erlang node of a place.
 -spec node_of(place()) -> node().
 node_of(Place) ->
-    list_to_atom("p" ++ integer_to_list(Place) ++ "@127.0.0.1").
+    {Place, Host} = lists:keyfind(Place, 1, cluster_settings:hosts()),
+    list_to_atom("p" ++ integer_to_list(Place) ++ "@" ++ Host).
+
+%% @doc Returns a digest of the ring's settings. Nodes with different ones refuse each other's calls.
+-spec digest() -> binary().
+digest() ->
+    Ring = {?FORMAT, cluster_settings:bits(), cluster_settings:hosts(), cluster_settings:quorums()},
+    crypto:hash(sha256, term_to_binary(Ring, [{minor_version, 2}])).
 
 %% @doc Returns the options of the replica of a range, except for its limit.
 -spec replica_options(range()) -> antientropy:options().
 replica_options(Range) ->
-    #{format => ?FORMAT, bits => ?BITS, range => Range}.
+    #{format => ?FORMAT, bits => cluster_settings:bits(), range => Range}.
 
 %% @doc Returns the range of a key. Refused: `bad_key'.
 -spec range(Key :: binary()) -> {ok, range()} | antientropy:refused().
 range(Key) ->
-    case antientropy:place(?FORMAT, ?BITS, Key) of
+    case antientropy:place(?FORMAT, cluster_settings:bits(), Key) of
         {ok, #{range := Range}} -> {ok, Range};
         Refused -> Refused
     end.
@@ -40,7 +46,7 @@ range(Key) ->
 %% @doc Returns the ranges that this node holds.
 -spec held() -> [range()].
 held() ->
-    [Range || Range <- lists:seq(0, (1 bsl ?BITS) - 1), lists:member(here(), holders(Range))].
+    [Range || Range <- lists:seq(0, (1 bsl cluster_settings:bits()) - 1), lists:member(here(), holders(Range))].
 
 %% @doc Returns the places that hold a range: the first of its preference list.
 -spec holders(range()) -> [place()].

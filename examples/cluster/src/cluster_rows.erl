@@ -5,7 +5,7 @@
 %% rows at once: what is left out, a round of repair does.
 -module(cluster_rows).
 
--export([begin_counter/0, read/2]).
+-export([begin_counter/0, read/3]).
 
 -define(MOST_WRITTEN_BACK, 16).
 
@@ -26,22 +26,25 @@
 begin_counter() ->
     persistent_term:put(?MODULE, atomics:new(1, [])).
 
-%% @doc Reads the rows of enough holders into this node's range, and returns the versions that it holds then. Refused:
+%% @doc Reads the rows of R holders into this node's range, and returns the versions that it holds then. Refused:
 %% `down', what {@link cluster_range:read/4} refuses.
--spec read(cluster_ring:range(), Key :: binary()) -> {ok, [antientropy:version()]} | cluster_refusal:refused().
-read(Range, Key) ->
-    {_, R, _} = cluster_settings:quorums(),
+-spec read(cluster_ring:range(), Key :: binary(), R :: pos_integer()) ->
+    {ok, [antientropy:version()]} | cluster_refusal:refused().
+read(Range, Key, R) ->
     #rows{alias = Alias, processes = Processes, found = Found} = ask_enough(Range, Key, R),
     true = unalias(Alias),
     ok = flush(Alias),
     case cluster_range:read(Range, Key, Found, R) of
         {ok, Versions, Row} ->
-            [Process ! {merged, Row} || Process <- Processes],
+            ok = tell(Processes, Row),
             {ok, Versions};
         {error, Name} ->
-            [Process ! {merged, none} || Process <- Processes],
+            ok = tell(Processes, none),
             {refused, Name}
     end.
+
+tell(Processes, Row) ->
+    lists:foreach(fun(Process) -> Process ! {merged, Row} end, Processes).
 
 flush(Alias) ->
     receive
@@ -96,6 +99,15 @@ wait_ms(#rows{unasked = Unasked, asked = Asked}) ->
 %% ---- the process of a row
 
 row(Alias, Range, Key, Holder) ->
+    try
+        take_row(Alias, Range, Key, Holder)
+    catch
+        _:Reason ->
+            crashed = cluster_task:crashed(rows, Reason),
+            Alias ! {Alias, Holder, none}
+    end.
+
+take_row(Alias, Range, Key, Holder) ->
     case cluster_wire:call(Holder, cluster_range, row, [Range, Key]) of
         {ok, {ok, Row}} ->
             Alias ! {Alias, Holder, Row},

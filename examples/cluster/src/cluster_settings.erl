@@ -1,13 +1,115 @@
 %% @doc The settings of this node: the parameters of the application `cluster'.
+%%
+%% All nodes have those of the ring alike ({@link cluster_ring:digest/0}). The others are each node's own.
 -module(cluster_settings).
 
--export([place/0, incarnation/0, folder/0, http_port/0]).
--export([places/0, quorums/0, limit/0, checkpoint_entries/0, hint_bytes/0, round_ms/0, slots/0]).
+-export([check/0]).
+-export([place/0, incarnation/0, folder/0, hosts/0, places/0, bits/0, quorums/0]).
+-export([front/1, limit/0, checkpoint_entries/0, hint_bytes/0, round_ms/0, slots/0]).
 -export([is_repair_on/0, is_handoff_on/0, is_read_repair_on/0]).
+
+-export_type([front/0]).
+
+%% Numbers in clocks have room for so many places: see {@link cluster_lives}.
+-define(MOST_PLACES, 31).
+-define(MOST_BITS, 8).
+-define(MOST_LIMIT, 1000000).
+
+-type front() :: #{
+    ip := inet:ip_address(),
+    port := inet:port_number(),
+    connections := pos_integer(),
+    tls := {CertFile :: file:filename(), KeyFile :: file:filename()} | none,
+    token := file:filename() | none
+}.
+%% An HTTP front: where it listens, how many connections it has at most, its certificate, and the file with the token
+%% that a request must have.
+
+%% ---- the check
+
+%% @doc Returns why the settings can't be those of a node, if they can't.
+-spec check() -> ok | {error, Why :: string()}.
+check() ->
+    try
+        ok = lists:foreach(fun check/1, checks())
+    catch
+        throw:Name -> {error, text("the setting ~ts is missing or wrong: ~0tp", [Name, env(Name)])}
+    end.
+
+text(Format, Arguments) ->
+    lists:flatten(io_lib:format(Format, Arguments)).
+
+check({Name, IsRight}) ->
+    try IsRight(env(Name)) of
+        true -> ok;
+        _ -> throw(Name)
+    catch
+        error:_ -> throw(Name)
+    end.
+
+env(Name) ->
+    application:get_env(cluster, Name, undefined).
+
+checks() ->
+    [
+        {places, fun are_places/1},
+        {place, fun(Place) -> lists:keymember(Place, 1, env(places)) end},
+        {bits, fun(Bits) -> is_within(0, Bits, ?MOST_BITS) end},
+        {quorums, fun are_quorums/1},
+        {folder, fun is_text/1},
+        {incarnation, fun(Incarnation) -> Incarnation =:= none orelse is_positive(Incarnation) end},
+        {limit, fun(Limit) -> is_within(1, Limit, ?MOST_LIMIT) end},
+        {slots, fun({Least, Most, Micros}) -> is_within(1, Least, Most) andalso is_positive(Micros) end}
+    ] ++
+        [{Name, fun is_positive/1} || Name <- [checkpoint_entries, hint_bytes, round_ms, http_connections]] ++
+        [{Name, fun(State) -> State =:= on orelse State =:= off end} || Name <- [repair, handoff, read_repair]] ++
+        [{Name, fun(Port) -> is_within(0, Port, 65535) end} || Name <- [http_port, admin_port]] ++
+        [{Name, fun(Host) -> is_tuple(address(Host)) end} || Name <- [http_host, admin_host]] ++
+        [{Name, fun(File) -> File =:= none orelse is_file(File) end} || Name <- [http_token, admin_token]] ++
+        [{https, fun is_tls/1}].
+
+are_places([_ | _] = Hosts) ->
+    Places = [Place || {Place, Host} <- Hosts, is_within(1, Place, ?MOST_PLACES), is_text(Host)],
+    length(lists:usort(Places)) =:= length(Hosts).
+
+are_quorums({N, R, W}) ->
+    is_within(1, N, length(env(places))) andalso is_within(1, R, N) andalso is_within(1, W, N).
+
+is_tls(none) -> true;
+is_tls({CertFile, KeyFile}) -> is_file(CertFile) andalso is_file(KeyFile).
+
+is_within(Least, Number, Most) -> is_integer(Number) andalso Least =< Number andalso Number =< Most.
+
+is_positive(Number) -> is_integer(Number) andalso Number > 0.
+
+is_text(Text) -> io_lib:printable_unicode_list(Text) andalso Text =/= "".
+
+is_file(File) -> is_text(File) andalso filelib:is_regular(File).
+
+%% ---- the ring
 
 %% @doc Returns this node's place on the ring.
 -spec place() -> cluster_ring:place().
 place() -> value(place).
+
+%% @doc Returns the places of the ring, in its order, each with its host.
+-spec hosts() -> [{cluster_ring:place(), Host :: string()}].
+hosts() -> value(places).
+
+%% @doc Returns the places of the ring, in its order.
+-spec places() -> [cluster_ring:place()].
+places() -> [Place || {Place, _} <- hosts()].
+
+%% @doc Returns the number of bits of a range's number: the ring has 2^bits ranges.
+-spec bits() -> 0..?MOST_BITS.
+bits() -> value(bits).
+
+%% @doc Returns the numbers of places that hold a range, that a read has seen, and that have a put before its answer.
+%% A request may name other numbers R and W.
+-spec quorums() -> {N :: pos_integer(), R :: pos_integer(), W :: pos_integer()}.
+quorums() -> value(quorums).
+
+%% ---- this node
 
 %% @doc Returns the incarnation that an operator names for a new life.
 -spec incarnation() -> pos_integer() | none.
@@ -17,17 +119,29 @@ incarnation() -> value(incarnation).
 -spec folder() -> file:filename().
 folder() -> value(folder).
 
-%% @doc Returns the port of the HTTP front.
--spec http_port() -> inet:port_number().
-http_port() -> value(http_port).
+%% @doc Returns an HTTP front: for clients, or for an administrator.
+-spec front(clients | admin) -> front().
+front(clients) -> front(http_host, http_port, http_token);
+front(admin) -> front(admin_host, admin_port, admin_token).
 
-%% @doc Returns the places of the ring, in its order.
--spec places() -> [cluster_ring:place()].
-places() -> value(places).
+front(Host, Port, Token) ->
+    #{
+        ip => address(value(Host)),
+        port => value(Port),
+        connections => value(http_connections),
+        tls => value(https),
+        token => value(Token)
+    }.
 
-%% @doc Returns the numbers of places that hold a range, that a read has seen, and that have a put before its answer.
--spec quorums() -> {N :: pos_integer(), R :: pos_integer(), W :: pos_integer()}.
-quorums() -> value(quorums).
+%% The address of a host: by IPv6 if it has no other.
+address(Host) ->
+    case inet:getaddr(Host, inet) of
+        {ok, Address} ->
+            Address;
+        {error, _} ->
+            {ok, Address} = inet:getaddr(Host, inet6),
+            Address
+    end.
 
 %% @doc Returns the number of entries that a range's journal may have.
 -spec limit() -> pos_integer().

@@ -6,32 +6,29 @@
 -export([init/1, handle_call/3, handle_cast/2, handle_info/2]).
 
 -define(ADJUST_MS, 1000).
--define(AGAIN_MS, 20).
+
+-type monitors() :: #{reference() => pid()}.
 
 -record(state, {
     slots :: antientropy_slots:slots(),
     %% The 99th percentile of the latency of puts in the last minute.
     p99_micros = none :: non_neg_integer() | none,
-    borrowers = #{} :: #{pid() => reference()}
+    %% Monitors of the processes that have a slot, one for each slot, and of those that wait for one, the first first.
+    borrowers = #{} :: monitors(),
+    waiting = queue:new() :: queue:queue({reference(), gen_server:from()})
 }).
 
 %% @doc Starts the process of the slots.
--spec start_link() -> {ok, pid()}.
+-spec start_link() -> {ok, pid()} | {error, term()}.
 start_link() ->
-    {ok, _} = gen_server:start_link({local, ?MODULE}, ?MODULE, cluster_settings:slots(), []).
+    gen_server:start_link({local, ?MODULE}, ?MODULE, cluster_settings:slots(), []).
 
 %% @doc Lends a slot to this process, as soon as one is free, until it gives it back or ends.
 -spec lend() -> ok.
 lend() ->
-    case gen_server:call(?MODULE, lend, infinity) of
-        ok ->
-            ok;
-        {error, no_slot} ->
-            timer:sleep(?AGAIN_MS),
-            lend()
-    end.
+    gen_server:call(?MODULE, lend, infinity).
 
-%% @doc Gives this process's slot back.
+%% @doc Gives a slot of this process back.
 -spec give_back() -> ok.
 give_back() ->
     gen_server:call(?MODULE, give_back, infinity).
@@ -41,11 +38,13 @@ give_back() ->
 sample(Micros) ->
     gen_server:cast(?MODULE, {sample, Micros}).
 
-%% @doc Returns the target, the counts of slots that are lent and free, and the 99th percentile of the latency of puts.
+%% @doc Returns the target, the counts of slots that are lent and free, that of the processes that wait for one, and the
+%% 99th percentile of the latency of puts.
 -spec count() -> #{
     target := pos_integer(),
     lent := non_neg_integer(),
     free := non_neg_integer(),
+    waiting := non_neg_integer(),
     p99_micros := non_neg_integer() | none
 }.
 count() ->
@@ -63,43 +62,66 @@ init({Floor, Ceiling, ThresholdMicros}) ->
     {ok, #state{slots = Slots}}.
 
 %% @private
-handle_call(lend, {Borrower, _}, #state{slots = Slots, borrowers = Borrowers} = State) ->
-    case antientropy_slots:lend(Slots) of
-        ok -> {reply, ok, State#state{borrowers = Borrowers#{Borrower => monitor(process, Borrower)}}};
-        Refused -> {reply, Refused, State}
+handle_call(lend, {Borrower, _} = From, #state{waiting = Waiting} = State) ->
+    Monitor = monitor(process, Borrower),
+    {noreply, lend_free(State#state{waiting = queue:in({Monitor, From}, Waiting)})};
+handle_call(give_back, {Borrower, _}, #state{borrowers = Borrowers} = State) ->
+    %% (A process may give back what it borrowed before this one started: it has no monitor then.)
+    case [Monitor || {Monitor, Process} <- maps:to_list(Borrowers), Process =:= Borrower] of
+        [Monitor | _] -> {reply, ok, lend_free(returned(Monitor, State))};
+        [] -> {reply, ok, State}
     end;
-handle_call(give_back, {Borrower, _}, State) ->
-    {reply, ok, returned(Borrower, State)};
 handle_call(holders, _, #state{borrowers = Borrowers} = State) ->
-    {reply, maps:keys(Borrowers), State};
-handle_call(count, _, #state{slots = Slots, p99_micros = Micros} = State) ->
+    {reply, lists:usort(maps:values(Borrowers)), State};
+handle_call(count, _, #state{slots = Slots, p99_micros = Micros, waiting = Waiting} = State) ->
     {ok, Counts} = antientropy_slots:count(Slots),
-    {reply, Counts#{p99_micros => Micros}, State}.
+    {reply, Counts#{p99_micros => Micros, waiting => queue:len(Waiting)}, State};
+handle_call(Request, _, State) ->
+    {reply, cluster_stray:call(?MODULE, Request), State}.
 
 %% @private
 handle_cast({sample, Micros}, #state{slots = Slots} = State) ->
     ok = antientropy_slots:sample(Slots, now_ms(), Micros),
+    {noreply, State};
+handle_cast(Message, State) ->
+    ok = cluster_stray:message(?MODULE, Message),
     {noreply, State}.
 
 %% @private
 handle_info(adjust, #state{slots = Slots} = State) ->
     {ok, Micros} = antientropy_slots:adjust(Slots, now_ms()),
-    {noreply, State#state{p99_micros = Micros}};
-handle_info({'DOWN', _, process, Borrower, _}, State) ->
-    {noreply, returned(Borrower, State)};
-handle_info(_, State) ->
+    {noreply, lend_free(State#state{p99_micros = Micros})};
+handle_info({'DOWN', Monitor, process, _, _}, #state{borrowers = Borrowers} = State) ->
+    case is_map_key(Monitor, Borrowers) of
+        true -> {noreply, lend_free(returned(Monitor, State))};
+        false -> {noreply, without_waiting(Monitor, State)}
+    end;
+handle_info(Message, State) ->
+    ok = cluster_stray:message(?MODULE, Message),
     {noreply, State}.
 
-%% A process may give back what it borrowed before this one started.
-returned(Borrower, #state{slots = Slots, borrowers = Borrowers} = State) ->
-    case maps:take(Borrower, Borrowers) of
-        {Monitor, Rest} ->
-            true = demonitor(Monitor, [flush]),
-            ok = antientropy_slots:give_back(Slots),
-            State#state{borrowers = Rest};
-        error ->
+%% Lends slots to those that wait, as long as some are free.
+lend_free(#state{slots = Slots, borrowers = Borrowers, waiting = Waiting} = State) ->
+    case queue:out(Waiting) of
+        {{value, {Monitor, {Borrower, _} = From}}, Others} ->
+            case antientropy_slots:lend(Slots) of
+                ok ->
+                    ok = gen_server:reply(From, ok),
+                    lend_free(State#state{borrowers = Borrowers#{Monitor => Borrower}, waiting = Others});
+                {error, no_slot} ->
+                    State
+            end;
+        {empty, _} ->
             State
     end.
+
+returned(Monitor, #state{slots = Slots, borrowers = Borrowers} = State) ->
+    true = demonitor(Monitor, [flush]),
+    ok = antientropy_slots:give_back(Slots),
+    State#state{borrowers = maps:remove(Monitor, Borrowers)}.
+
+without_waiting(Monitor, #state{waiting = Waiting} = State) ->
+    State#state{waiting = queue:delete_with(fun({Other, _}) -> Other =:= Monitor end, Waiting)}.
 
 %% The time since the start of the node: Erlang's monotonic time may be negative.
 now_ms() ->

@@ -13,9 +13,9 @@
 -define(PROBE_BYTES, (1 bsl 20)).
 
 %% @doc Starts the process that looks for room.
--spec start_link() -> {ok, pid()}.
+-spec start_link() -> {ok, pid()} | {error, term()}.
 start_link() ->
-    {ok, _} = gen_server:start_link({local, ?MODULE}, ?MODULE, [], []).
+    gen_server:start_link({local, ?MODULE}, ?MODULE, [], []).
 
 %% @doc Returns true while the disk is full.
 -spec is_full() -> boolean().
@@ -34,23 +34,28 @@ init([]) ->
     {ok, look(room)}.
 
 %% @private
-handle_call(_, _, State) ->
-    {reply, ok, State}.
+handle_call(Request, _, State) ->
+    {reply, cluster_stray:call(?MODULE, Request), State}.
 
 %% @private
 handle_cast(full, room) ->
     {noreply, now_full()};
-handle_cast(_, State) ->
+handle_cast(full, full) ->
+    {noreply, full};
+handle_cast(Message, State) ->
+    ok = cluster_stray:message(?MODULE, Message),
     {noreply, State}.
 
 %% @private
 handle_info(look, State) ->
     {noreply, look(State)};
-handle_info(_, State) ->
+handle_info(Message, State) ->
+    ok = cluster_stray:message(?MODULE, Message),
     {noreply, State}.
 
 now_full() ->
     ok = persistent_term:put(?MODULE, true),
+    ok = cluster_metrics:count(events, [{event, full}]),
     io:format(standard_error, "the disk is full: place ~b is read-only until there is room~n", [cluster_ring:here()]),
     look_again().
 
@@ -65,6 +70,7 @@ look(State) ->
             room;
         {ok, full} ->
             ok = persistent_term:put(?MODULE, false),
+            ok = cluster_metrics:count(events, [{event, room}]),
             io:format(standard_error, "there is room on the disk of place ~b again~n", [cluster_ring:here()]),
             room;
         {full, room} ->

@@ -13,11 +13,16 @@ start_link() ->
 %% @private
 init([]) ->
     %% (This process owns them: they last as long as the node.)
+    ok = cluster_metrics:begin_table(),
     ok = cluster_patience:begin_table(),
-    ok = cluster_requests:begin_table(),
+    ok = cluster_wire:begin_table(),
     ok = cluster_rows:begin_counter(),
-    Modules = [cluster_space, cluster_lives, cluster_claims, cluster_wire, cluster_http, cluster_life],
-    {ok, {#{strategy => one_for_one, intensity => 5, period => 10}, [child(Module) || Module <- Modules]}}.
+    %% None of them depends on another one's process: what they share is in tables and terms. What does is below
+    %% {@link cluster_store}.
+    Servers = [child(Module, Module, []) || Module <- [cluster_space, cluster_lives, cluster_claims, cluster_wire]],
+    Fronts = [child({cluster_http, Front}, cluster_http, [Front]) || Front <- [clients, admin]],
+    Life = child(cluster_life, cluster_life, []),
+    {ok, {#{strategy => one_for_one, intensity => 5, period => 10}, Servers ++ Fronts ++ [Life]}}.
 
-child(Module) ->
-    #{id => Module, start => {Module, start_link, []}}.
+child(Id, Module, Arguments) ->
+    #{id => Id, start => {Module, start_link, Arguments}}.

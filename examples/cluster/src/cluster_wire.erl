@@ -5,17 +5,23 @@
 -module(cluster_wire).
 -behaviour(gen_server).
 
--export([start_link/0, call/4, call/5, limit_ms/0, down/0, is_up/1, up_first/1]).
--export([serve/4]).
+-export([begin_table/0, start_link/0, call/4, call/5, limit_ms/0, down/0, is_up/1, up_first/1]).
+-export([serve/5]).
 -export([init/1, handle_call/3, handle_cast/2, handle_info/2]).
 
 -define(LIMIT_MS, 500).
 -define(AGAIN_MS, 1000).
 
-%% @doc Starts the process that owns the table of places that are down, and listens to OTP's monitor of nodes.
--spec start_link() -> {ok, pid()}.
+%% @doc Makes the table of the places that are down, which this process owns.
+-spec begin_table() -> ok.
+begin_table() ->
+    ?MODULE = ets:new(?MODULE, [named_table, public, {read_concurrency, true}]),
+    ok.
+
+%% @doc Starts the process that listens to OTP's monitor of nodes, and calls places that are down again.
+-spec start_link() -> {ok, pid()} | {error, term()}.
 start_link() ->
-    {ok, _} = gen_server:start_link({local, ?MODULE}, ?MODULE, [], []).
+    gen_server:start_link({local, ?MODULE}, ?MODULE, [], []).
 
 %% @doc Returns the time that a call has, in milliseconds.
 -spec limit_ms() -> pos_integer().
@@ -37,6 +43,9 @@ call(Place, Module, Function, Arguments, LimitMs) ->
         try
             {ok, cluster_link:call(Place, Module, Function, Arguments, LimitMs)}
         catch
+            exit:{exception, settings_differ} ->
+                ok = note_difference(Place),
+                down;
             error:{exception, Reason, Stack} ->
                 logger:error("a call of ~tp at place ~b failed: ~tp ~tp", [Module, Place, Reason, Stack]),
                 down;
@@ -49,11 +58,28 @@ call(Place, Module, Function, Arguments, LimitMs) ->
     Result.
 
 %% @private
-%% @doc Serves a call of another place.
--spec serve(From :: cluster_ring:place(), module(), Function :: atom(), Arguments :: [term()]) -> term().
-serve(_, Module, Function, Arguments) ->
+%% @doc Serves a call of another place. It is refused if the settings of that place's ring are others: then each of both
+%% is down for the other one.
+-spec serve(From :: cluster_ring:place(), Digest :: binary(), module(), Function :: atom(), Arguments :: [term()]) ->
+    term().
+serve(From, Digest, Module, Function, Arguments) ->
     is_started() orelse exit(starting),
+    %% (What this process logs would be that of the node that calls.)
+    true = group_leader(whereis(init), self()),
+    Digest =:= cluster_ring:digest() orelse refuse(From),
     apply(Module, Function, Arguments).
+
+-spec refuse(From :: cluster_ring:place()) -> no_return().
+refuse(From) ->
+    ok = note_difference(From),
+    exit(settings_differ).
+
+%% Says once for a connection that the settings of a place are others.
+note_difference(Place) ->
+    case ets:insert_new(?MODULE, {{differs, Place}}) of
+        true -> cluster_event:note(settings_differ, [{place, Place}]);
+        false -> ok
+    end.
 
 %% A node is reached before its application has started.
 is_started() ->
@@ -62,7 +88,7 @@ is_started() ->
 %% @doc Returns the places whose last call had no answer, or whose node is down.
 -spec down() -> [cluster_ring:place()].
 down() ->
-    lists:sort([Place || {Place} <- ets:tab2list(?MODULE)]).
+    lists:sort([Place || {Place} <- ets:tab2list(?MODULE), is_integer(Place)]).
 
 %% @doc Returns false if the place's last call had no answer, or its node is down.
 -spec is_up(cluster_ring:place()) -> boolean().
@@ -79,37 +105,43 @@ up_first(Places) ->
 note(Place, Result) ->
     case {Result, ets:member(?MODULE, Place)} of
         {down, false} ->
-            ets:insert(?MODULE, {Place});
+            ets:insert_new(?MODULE, {Place}) andalso cluster_event:note(down, [{place, Place}]),
+            ok;
         {{ok, _}, true} ->
-            ets:delete(?MODULE, Place),
+            ets:take(?MODULE, Place) =:= [] orelse cluster_event:note(up, [{place, Place}]),
             cluster_handoff:wake(Place);
         _ ->
             ok
     end.
 
+no_node(Place) ->
+    true = ets:delete(?MODULE, {differs, Place}),
+    note(Place, down).
+
 %% @private
 init([]) ->
-    ?MODULE = ets:new(?MODULE, [named_table, public, {read_concurrency, true}]),
     ok = net_kernel:monitor_nodes(true),
     {ok, _} = timer:send_interval(?AGAIN_MS, call_again),
     {ok, none}.
 
 %% @private
-handle_call(_, _, none) ->
-    {reply, ok, none}.
+handle_call(Request, _, none) ->
+    {reply, cluster_stray:call(?MODULE, Request), none}.
 
 %% @private
-handle_cast(_, none) ->
+handle_cast(Message, none) ->
+    ok = cluster_stray:message(?MODULE, Message),
     {noreply, none}.
 
 %% @private
 handle_info({nodedown, Node}, none) ->
-    [note(Place, down) || Place <- cluster_ring:others(), cluster_ring:node_of(Place) =:= Node],
+    [no_node(Place) || Place <- cluster_ring:others(), cluster_ring:node_of(Place) =:= Node],
     {noreply, none};
 handle_info({nodeup, _}, none) ->
     {noreply, none};
 handle_info(call_again, none) ->
     [spawn(fun() -> call(Place, cluster_ring, here, []) end) || Place <- down()],
     {noreply, none};
-handle_info(_, none) ->
+handle_info(Message, none) ->
+    ok = cluster_stray:message(?MODULE, Message),
     {noreply, none}.

@@ -58,7 +58,7 @@ is_true({refused, _}, Places) -> Places =:= [].
 %% Puts a value, with holders that do these deeds with it.
 put_with(Value, Deeds) ->
     true = ets:insert(?DEEDS, {{deeds, Value}, Deeds}),
-    case cluster_coordinator:put(room:key(1), Value, #{}) of
+    case cluster_coordinator:put(room:key(1), Value, #{}, 2) of
         {ok, #{coordinator := Place}} -> {ok, Place};
         Refused -> Refused
     end.
@@ -68,7 +68,7 @@ places(Value) ->
     lists:sort([Place || {{put, Put}, Place} <- ets:tab2list(?DEEDS), Put =:= Value]).
 
 %% A holder, which calls the place 4 for its claim.
-hold(Place, cluster_coordinator, put_claimed, [{4, Reference}, ?RANGE, _, Value, _]) ->
+hold(Place, cluster_coordinator, put_claimed, [{4, Reference}, ?RANGE, _, Value, _, 2]) ->
     [{_, Deeds}] = ets:lookup(?DEEDS, {deeds, Value}),
     Claim = fun() -> cluster_claims:take(Reference, Place) end,
     Put = fun() ->
@@ -112,7 +112,7 @@ unclaimed_test_() ->
     Other = fun(Place, cluster_claims, take, [_, 1]) -> Place =:= 5 end,
     as_place(1, Other, fun() ->
         Put = fun(Origin) ->
-            cluster_coordinator:put_claimed({Origin, make_ref()}, ?RANGE, room:key(1), <<"value">>, #{0 => 1})
+            cluster_coordinator:put_claimed({Origin, make_ref()}, ?RANGE, room:key(1), <<"value">>, #{0 => 1}, 2)
         end,
         ?assertEqual(unclaimed, Put(4)),
         ?assertEqual({refused, bad_clock}, Put(5)),
@@ -130,7 +130,7 @@ stale_test_() ->
             {refused, stale_context}
     end,
     as_place(1, Other, fun() ->
-        Put = fun() -> cluster_coordinator:put(room:key(1), <<"value">>, #{}) end,
+        Put = fun() -> cluster_coordinator:put(room:key(1), <<"value">>, #{}, 2) end,
         ?assertMatch({ok, #{coordinator := 1, clock := #{33 := 1}, on := [1, _]}}, Put()),
         ?assertEqual({refused, stale_context}, Put()),
         ?assertEqual([{asked, 2}, {asked, 3}], lists:sort(ets:tab2list(?DEEDS)))
@@ -170,22 +170,22 @@ unchecked_test_() ->
     Asked = fun() ->
         true = ets:delete_all_objects(?DEEDS),
         [down = cluster_wire:call(Place, cluster_ring, here, []) || Place <- [2, 3]],
-        {ok, #{on := [1 | _]}} = cluster_coordinator:put(room:key(3), <<"value">>, #{}),
+        {ok, #{on := [1 | _]}} = cluster_coordinator:put(room:key(3), <<"value">>, #{}, 2),
         lists:sort(ets:tab2list(?DEEDS))
     end,
     as_place(1, Other, fun() ->
-        {ok, _} = cluster_coordinator:put(room:key(1), <<"value">>, #{}),
+        {ok, _} = cluster_coordinator:put(room:key(1), <<"value">>, #{}, 2),
         ?assertEqual([], Asked()),
         ok = room:kill(cluster_range_0),
         {ok, Range} = cluster_range:start_link(?RANGE),
         true = unlink(Range),
         ?assertEqual([2, 3], cluster_range:unchecked(?RANGE)),
-        {ok, _} = cluster_coordinator:put(room:key(2), <<"value">>, #{}),
+        {ok, _} = cluster_coordinator:put(room:key(2), <<"value">>, #{}, 2),
         room:until(fun() -> lists:sort(ets:tab2list(?DEEDS)) =:= [{asked, 2}, {asked, 3}] end)
     end).
 
 millis_of_put(Key) ->
-    {Micros, {ok, #{on := [1, Carrier]}}} = timer:tc(fun() -> cluster_coordinator:put(Key, <<"value">>, #{}) end),
+    {Micros, {ok, #{on := [1, Carrier]}}} = timer:tc(fun() -> cluster_coordinator:put(Key, <<"value">>, #{}, 2) end),
     ?assert(lists:member(Carrier, [4, 5])),
     Micros div 1000.
 
@@ -198,7 +198,40 @@ no_room_for_hints_test_() ->
     as_place(1, Other, fun() ->
         {ok, Hints} = cluster_hints:start_link(),
         true = unlink(Hints),
-        ?assertEqual({perhaps, hints_full, [2, 3]}, cluster_coordinator:put(room:key(1), <<"value">>, #{}))
+        ?assertEqual({perhaps, hints_full, [2, 3]}, cluster_coordinator:put(room:key(1), <<"value">>, #{}, 2))
+    end).
+
+%% A request may name its own W: one disk is enough at once, and three are too many if only one other place is up.
+own_w_test_() ->
+    Other = fun
+        (2, cluster_range, copy, _) -> {ok, new};
+        (_, _, _, _) -> error({erpc, noconnection})
+    end,
+    as_place(1, Other, fun() ->
+        Put = fun(Number, W) -> cluster_coordinator:put(room:key(Number), <<"value">>, #{}, W) end,
+        ?assertMatch({ok, #{on := [1]}}, Put(1, 1)),
+        ?assertMatch({ok, #{on := [1, 2]}}, Put(2, 2)),
+        ?assertEqual({perhaps, down}, Put(3, 3))
+    end).
+
+%% So it may name its own R.
+own_r_test_() ->
+    Other = fun
+        (2, cluster_range, row, _) -> {ok, <<>>};
+        (_, _, _, _) -> error({erpc, noconnection})
+    end,
+    as_place(1, Other, fun() ->
+        Get = fun(R) -> cluster_coordinator:get(room:key(1), R) end,
+        ?assertMatch([{ok, #{versions := []}}, {ok, _}, {refused, down}], lists:map(Get, [1, 2, 3]))
+    end).
+
+%% A context with a number that is no life of a place is refused.
+no_life_test_() ->
+    as_place(1, fun(_, _, _, _) -> error({erpc, noconnection}) end, fun() ->
+        Put = fun(Context) -> cluster_coordinator:put(room:key(1), <<"value">>, Context, 1) end,
+        Invented = [#{38 => 1}, #{1 => 1}, [{0, 1}], maps:from_list([{32 * It + 6, 1} || It <- lists:seq(1, 31)])],
+        [?assertEqual({refused, bad_context}, Put(Context)) || Context <- Invented],
+        ?assertMatch({ok, _}, Put(#{}))
     end).
 
 %% ---- gets at place 1
@@ -209,7 +242,7 @@ handed_on_get_test_() ->
         (1, cluster_coordinator, get_here, _) ->
             timer:sleep(300),
             {ok, #{coordinator => 1, versions => []}};
-        (2, cluster_coordinator, get_here, [?RANGE, Key]) ->
+        (2, cluster_coordinator, get_here, [?RANGE, Key, 2]) ->
             case Key =:= room:key(1) of
                 true -> {ok, #{coordinator => 2, versions => []}};
                 false -> {refused, starting}
@@ -218,8 +251,8 @@ handed_on_get_test_() ->
             {refused, down}
     end,
     as_place(4, Other, fun() ->
-        ?assertMatch({ok, #{coordinator := 2}}, cluster_coordinator:get(room:key(1))),
-        ?assertMatch({ok, #{coordinator := 1}}, cluster_coordinator:get(room:key(2)))
+        ?assertMatch({ok, #{coordinator := 2}}, cluster_coordinator:get(room:key(1), 2)),
+        ?assertMatch({ok, #{coordinator := 1}}, cluster_coordinator:get(room:key(2), 2))
     end).
 
 %% A holder whose row is behind gets what it lacks. Equal rows are written nowhere.
@@ -237,7 +270,7 @@ read_repair_test_() ->
     end,
     as_place(1, Other, fun() ->
         Key = room:key(1),
-        Get = fun() -> cluster_coordinator:get(Key) end,
+        Get = fun() -> cluster_coordinator:get(Key, 2) end,
         ?assertEqual({ok, #{coordinator => 1, versions => [Version]}}, Get()),
         timer:sleep(100),
         ?assertEqual([{3, Key, row(Version, Key)}], ets:tab2list(?DEEDS)),
@@ -267,10 +300,10 @@ last_resort_test_() ->
     as_place(1, Other, fun() ->
         down = cluster_wire:call(2, cluster_ring, here, []),
         down = cluster_wire:call(3, cluster_ring, here, []),
-        ?assertMatch({ok, _}, cluster_coordinator:get(room:key(1))),
+        ?assertMatch({ok, _}, cluster_coordinator:get(room:key(1), 2)),
         room:until(fun() -> cluster_wire:down() =:= [3] end),
         true = ets:delete(?DEEDS, row),
-        ?assertMatch({ok, _}, cluster_coordinator:get(room:key(1))),
+        ?assertMatch({ok, _}, cluster_coordinator:get(room:key(1), 2)),
         ?assertEqual([{row, 2}], ets:tab2list(?DEEDS))
     end).
 

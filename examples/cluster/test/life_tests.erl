@@ -84,9 +84,9 @@ cut_off_test_() ->
 %% The disk of another place, or of a life before the last one, is damage. That of other ranges is left alone.
 other_test_() ->
     room:test([], fun(_) ->
-        ok = application:set_env(cluster, places, [2, 3, 1, 4, 5]),
+        ok = application:set_env(cluster, places, room:hosts([2, 3, 1, 4, 5])),
         ?assertMatch({refused, _}, cluster_folder:state()),
-        ok = application:set_env(cluster, places, [1, 2, 3, 4, 5]),
+        ok = application:set_env(cluster, places, room:hosts([1, 2, 3, 4, 5])),
         ok = application:set_env(cluster, place, 2),
         ?assertMatch({damaged, _}, cluster_folder:state()),
         ok = application:set_env(cluster, place, 1),

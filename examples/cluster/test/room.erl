@@ -1,7 +1,8 @@
 %% @doc A folder for a test, and the settings of a node in it.
 -module(room).
 
--export([test/2, full_test/2, stop/1, kill/1, until/1, all_at_once/2, folder/1, flip/1, elsewhere/2, key/1]).
+-export([test/2, full_test/2, hosts/1, stop/1, kill/1, until/1, all_at_once/2, folder/1, flip/1, elsewhere/2, key/1]).
+-export([free_port/0, defaults/1]).
 
 %% A disk may be slow.
 -define(SECONDS, 60).
@@ -34,10 +35,10 @@ run(Settings, Test, Mount, Unmount) ->
     ok = Mount(Folder),
     {ok, _} = application:ensure_all_started(antientropy),
     _ = application:load(cluster),
-    Defaults = [{place, 1}, {folder, Folder}, {limit, 1000}, {checkpoint_entries, 1000}, {hint_bytes, 16777216}],
-    [ok = application:set_env(cluster, Name, Value) || {Name, Value} <- Defaults ++ Settings],
+    [ok = application:set_env(cluster, Name, Value) || {Name, Value} <- defaults(Folder) ++ Settings],
     ok = cluster_patience:begin_table(),
-    ok = cluster_requests:begin_table(),
+    ok = cluster_wire:begin_table(),
+    ok = cluster_metrics:begin_table(),
     ok = cluster_rows:begin_counter(),
     [{ok, _} = Module:start_link() || Module <- ?STARTED],
     try
@@ -46,10 +47,35 @@ run(Settings, Test, Mount, Unmount) ->
     after
         Names = [cluster_range_0, cluster_hints, cluster_life | ?STARTED],
         [ok = kill(Name) || Name <- Names, whereis(Name) =/= undefined],
-        [true = ets:delete(Table) || Table <- [cluster_patience, cluster_requests]],
+        [true = ets:delete(Table) || Table <- [cluster_patience, cluster_wire, cluster_metrics]],
         ok = Unmount(Folder),
         ok = file:del_dir_r(Folder)
     end.
+
+%% @doc Returns the settings of a test: five places of one host, and four ranges.
+defaults(Folder) ->
+    [
+        {place, 1},
+        {places, hosts([1, 2, 3, 4, 5])},
+        {bits, 2},
+        {quorums, {3, 2, 2}},
+        {folder, Folder},
+        {limit, 1000},
+        {checkpoint_entries, 1000},
+        {hint_bytes, 16777216},
+        {http_token, none}
+    ].
+
+%% @doc Returns places of this host.
+hosts(Places) ->
+    [{Place, "127.0.0.1"} || Place <- Places].
+
+%% @doc Returns a port that is free.
+free_port() ->
+    {ok, Socket} = gen_tcp:listen(0, [{ip, {127, 0, 0, 1}}]),
+    {ok, Port} = inet:port(Socket),
+    ok = gen_tcp:close(Socket),
+    Port.
 
 begin_life(none) ->
     ok;
@@ -112,7 +138,8 @@ elsewhere(Settings, Expression) ->
     Words = ["-cluster"] ++ lists:append([[atom_to_list(Name), quoted(Value)] || {Name, Value} <- maps:to_list(All)]),
     Paths = ["-pa", filename:dirname(code:which(?MODULE))],
     Begin = "application:load(cluster), {ok, _} = application:ensure_all_started(antientropy), "
-        "cluster_report:install(), cluster_space:start_link(), cluster_lives:start_link(), "
+        "cluster_metrics:begin_table(), cluster_report:install(), cluster_space:start_link(), "
+        "cluster_lives:start_link(), "
         "cluster_life:enter({ready, 33}), ",
     Run = ["-noinput"] ++ Paths ++ Words ++ ["-eval", Begin ++ Expression ++ ", halt(0)."],
     Port = open_port({spawn_executable, os:find_executable("erl")}, [{args, Run}, exit_status, stderr_to_stdout]),

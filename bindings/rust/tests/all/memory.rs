@@ -35,7 +35,7 @@ fn replicas_snapshots_and_portions() {
         for n in 0..KEYS {
             replica.put(1, &[n], Some(VALUE), &NONE).unwrap();
         }
-        let mut snapshot = replica.snapshot().unwrap().share().unwrap();
+        let snapshot = replica.snapshot().unwrap().share().unwrap();
         replica.put(1, b"later", Some(VALUE), &NONE).unwrap();
         replica.hold().unwrap();
         let mut portion = replica.take_portion(u64::MAX).unwrap();

@@ -23,7 +23,7 @@ fn a_moment() {
     while replica.hash_moment(10).unwrap() > 0 {
         assert_eq!(replica.count().unwrap().front, 0);
     }
-    let mut snapshot = replica.moment().unwrap();
+    let snapshot = replica.moment().unwrap();
     assert_eq!((snapshot.entries(), snapshot.root()), (50, filled(50).root()));
     replica.hold().unwrap();
     assert_eq!(replica.count().unwrap().front, 50);
@@ -36,7 +36,7 @@ fn a_moment() {
 }
 
 fn assert_no_moment(replica: &mut Replica, front: u64) {
-    assert_refused(Refusal::Dirty, replica, Replica::moment);
+    assert_refused(Refusal::Dirty, replica, |replica| replica.moment());
     assert_eq!((replica.hash_moment(0), replica.count().unwrap().front), (Ok(0), front));
 }
 
@@ -44,10 +44,10 @@ fn assert_no_moment(replica: &mut Replica, front: u64) {
 #[test]
 fn no_moment_is_left() {
     let mut replica = filled(50);
-    let mut snapshot = replica.snapshot().unwrap();
+    let snapshot = replica.snapshot().unwrap();
     let offer = snapshot.offer(1).unwrap();
     assert_no_moment(&mut replica, 50);
-    assert_eq!(replica.sync(2, &offer, |asks| serve(&mut snapshot, 1, asks)).unwrap().asks, 0);
+    assert_eq!(replica.sync(2, &offer, |asks| serve(&snapshot, 1, asks)).unwrap().asks, 0);
     assert_no_moment(&mut replica, 50);
     replica.put(1, b"later", Some(b""), &NONE).unwrap();
     assert_eq!(replica.open(2, b""), Err(Refusal::BadMessage));
@@ -59,7 +59,7 @@ fn no_moment_is_left() {
 
 #[test]
 fn a_session_at_the_moment() {
-    let mut snapshot = filled(50).snapshot().unwrap();
+    let snapshot = filled(50).snapshot().unwrap();
     let offer = snapshot.offer(7).unwrap();
     let mut replica = replica();
     replica.hold().unwrap();
@@ -77,10 +77,10 @@ fn a_session_at_the_moment() {
 fn no_whole_moment() {
     let offer = filled(50).snapshot().unwrap().offer(7).unwrap();
     let mut replica = filled(1);
-    assert_refused(Refusal::Dirty, &mut replica, Replica::moment);
+    assert_refused(Refusal::Dirty, &mut replica, |replica| replica.moment());
     assert_refused(Refusal::Dirty, &mut replica, |replica| replica.open_at_moment(1, &offer));
     replica.hold().unwrap();
-    assert_refused(Refusal::Dirty, &mut replica, Replica::moment);
+    assert_refused(Refusal::Dirty, &mut replica, |replica| replica.moment());
     assert_refused(Refusal::Dirty, &mut replica, |replica| replica.open_at_moment(1, &offer));
 }
 
@@ -120,22 +120,22 @@ impl AsMut<Replica> for Busy {
 fn a_replica_that_is_never_at_rest() {
     let shared = Mutex::new(Busy { replica: replica(), locked: 0 });
     assert_eq!(snapshot_beside(&shared).unwrap().entries(), 2);
-    let mut partner = filled(50).snapshot().unwrap();
+    let partner = filled(50).snapshot().unwrap();
     let offer = partner.offer(1).unwrap();
-    let synced = sync_beside(&shared, Bounds::default(), 1, &offer, |asks| serve(&mut partner, 1, asks)).unwrap();
+    let synced = sync_beside(&shared, Bounds::default(), 1, &offer, |asks| serve(&partner, 1, asks)).unwrap();
     assert_eq!((synced.finished(), synced.accepted), (true, 50));
 }
 
 #[test]
 fn a_poisoned_lock() {
-    let mut snapshot = filled(50).snapshot().unwrap();
+    let snapshot = filled(50).snapshot().unwrap();
     let (offer, shared) = (snapshot.offer(1).unwrap(), Mutex::new(replica()));
     let poison = |asks: &[Vec<u8>]| {
         let _locked = shared.lock();
         if asks.len() > 1 {
             panic!("link");
         }
-        serve(&mut snapshot, 1, asks)
+        serve(&snapshot, 1, asks)
     };
     assert!(catch_unwind(AssertUnwindSafe(|| sync_beside(&shared, Bounds::default(), 9, &offer, poison))).is_err());
     assert!(catch_unwind(AssertUnwindSafe(|| snapshot_beside(&shared))).is_err());

@@ -23,7 +23,7 @@ fn put_and_read() {
 
 #[test]
 fn nothing_is_held() {
-    let mut replica = replica();
+    let replica = replica();
     assert_eq!(replica.get(b"cart"), Ok(vec![]));
     assert_eq!(replica.read(b"cart", 0), Ok(None));
     assert_eq!(replica.value(b"cart", 0), Ok(None));
@@ -58,7 +58,7 @@ fn long_values() {
 
 #[test]
 fn keys_and_entries() {
-    let mut replica = filled(300);
+    let replica = filled(300);
     let mut keys: Vec<_> = replica.keys().map(Result::unwrap).collect();
     let mut put: Vec<_> = replica.entries(0).unwrap().map(|entry| entry.unwrap().key).collect();
     assert_eq!(keys.len(), 300);
@@ -81,7 +81,7 @@ fn put_often(replica: &mut Replica, key: &[u8], puts: u64) {
     }
 }
 
-fn entries_of(replica: &mut Replica, start: u64) -> Vec<Entry> {
+fn entries_of(replica: &Replica, start: u64) -> Vec<Entry> {
     replica.entries(start).unwrap().map(Result::unwrap).collect()
 }
 
@@ -95,7 +95,7 @@ fn entries_of_all_kinds() {
         replica.put(1, b"cart", Some(b"milk"), &(2..=32).map(|node| (node, node)).collect()).unwrap();
         replica.accept(&[b'k'; 255], &live([(1, 1), (65_535, u64::MAX)], &[b'v'; 4096])).unwrap();
         replica.accept(b"empty", &live([(3, 1)], b"")).unwrap();
-        let entries = entries_of(&mut replica, 0);
+        let entries = entries_of(&replica, 0);
         assert_eq!(entries.len() as u64, replica.count().unwrap().entries);
         for (number, entry) in (0..).zip(entries) {
             assert_eq!(replica.entry(number), Ok(Some(entry)));
@@ -121,7 +121,7 @@ fn entries_of_several_calls() {
     let packed = replica.packed_entries(0).unwrap();
     assert_eq!((packed.bytes.len(), packed.next), (15 * (22 + value.len()), 15));
     assert_eq!(replica.packed_entries(38).unwrap().next, 40);
-    let entries = entries_of(&mut replica, 3);
+    let entries = entries_of(&replica, 3);
     assert!(entries.iter().map(|entry| (entry.number, entry.key[0])).eq((3..40).map(|n| (n.into(), n))));
 }
 
@@ -132,10 +132,10 @@ fn a_log_goes_on_over_renewals() {
     for round in 0..3u8 {
         put_often(&mut replica, b"cart", 100);
         put_often(&mut replica, &[round], 1);
-        log.append(&mut entries_of(&mut replica, log.len() as u64));
+        log.append(&mut entries_of(&replica, log.len() as u64));
         replica = replica.renew(150).unwrap();
         assert_eq!(replica.snapshot().unwrap().entries(), log.len() as u64);
-        assert_eq!(entries_of(&mut replica, log.len() as u64), []);
+        assert_eq!(entries_of(&replica, log.len() as u64), []);
     }
     assert!(log.iter().map(|entry| entry.number).eq(0..303));
     let mut restored = with_limit(1000);
@@ -150,7 +150,7 @@ fn bad_positions() {
     let mut replica = replica();
     put_often(&mut replica, b"cart", 10);
     put_often(&mut replica, b"gift", 1);
-    assert_eq!((entries_of(&mut replica, 11), replica.entries(12).err()), (vec![], Some(Refusal::BadPosition)));
+    assert_eq!((entries_of(&replica, 11), replica.entries(12).err()), (vec![], Some(Refusal::BadPosition)));
     let mut renewed = replica.renew(1000).unwrap();
     put_often(&mut renewed, b"list", 1);
     for start in [0, 8, 10, 13, u64::MAX] {
@@ -158,10 +158,10 @@ fn bad_positions() {
         assert_eq!(renewed.packed_entries(start), Err(Refusal::BadPosition));
     }
     let first = renewed.count().unwrap().first;
-    let whole = entries_of(&mut renewed, first);
+    let whole = entries_of(&renewed, first);
     assert!(whole.iter().map(|entry| entry.number).eq(9..12));
     assert_eq!([0, 1, 2].map(|n| whole[n].source), [Source::Copy, Source::Copy, Source::Put]);
-    assert_eq!((entries_of(&mut renewed, 11), entries_of(&mut renewed, 12)), (whole[2..].to_vec(), vec![]));
+    assert_eq!((entries_of(&renewed, 11), entries_of(&renewed, 12)), (whole[2..].to_vec(), vec![]));
     assert_eq!([renewed.entry(8), renewed.entry(9)], [Ok(None), Ok(Some(whole[0].clone()))]);
 }
 
@@ -182,7 +182,7 @@ fn two_clients() {
 
 #[test]
 fn keys_of_no_leaf() {
-    let mut replica = filled(3);
+    let replica = filled(3);
     assert_eq!(replica.key_after(4096, b""), Err(Refusal::BadMessage));
     assert_eq!(replica.keys_of(4096).collect::<Vec<_>>(), [Err(Refusal::BadMessage)]);
 }
@@ -195,7 +195,7 @@ fn counts_and_renewal() {
     replica.rehash().unwrap();
     let counts = Counts { entries: 2, limit: 10, ..Counts::default() };
     assert_eq!(replica.count(), Ok(counts));
-    let mut renewed = replica.renew(5).unwrap();
+    let renewed = replica.renew(5).unwrap();
     assert_eq!(renewed.count(), Ok(Counts { limit: 5, first: 1, front: 1, ..counts }));
     assert_eq!(renewed.get(b"cart"), replica.get(b"cart"));
     assert_eq!(replica.renew(0).err(), Some(Refusal::BadRing));
@@ -203,7 +203,7 @@ fn counts_and_renewal() {
 
 /// Returns the lengths of the rows that a replica holds, in all, and of its entries, with 10 bytes for each pair of a
 /// clock.
-fn lengths(replica: &mut Replica) -> (u64, u64) {
+fn lengths(replica: &Replica) -> (u64, u64) {
     let (_, entries, rows) = state(replica);
     let entry_len = |entry: &Entry| {
         let value_len = entry.version.value.as_ref().map_or(0, Vec::len);
@@ -220,16 +220,16 @@ fn sizes_in_bytes() {
     replica.put(1, b"cart", Some(b"milk"), &NONE).unwrap();
     replica.put(1, b"cart", Some(b"milk, eggs"), &Clock::from([(1, 1), (7, 3)])).unwrap();
     replica.accept(b"list", &Version { clock: Clock::from([(2, 5)]), value: None }).unwrap();
-    let mut snapshot = replica.snapshot().unwrap();
-    let (rows, journal) = lengths(&mut replica);
+    let snapshot = replica.snapshot().unwrap();
+    let (rows, journal) = lengths(&replica);
     assert!(journal == 8 + 10 + 14 + 20 + 4 + 10 && rows != journal);
     assert_eq!(replica.bytes(), Ok(Bytes { rows, journal, sessions: 0 }));
     replica.put(1, b"gift", Some(b"tea"), &NONE).unwrap();
-    let (later, _) = lengths(&mut replica);
+    let (later, _) = lengths(&replica);
     assert_eq!(replica.bytes(), Ok(Bytes { rows: later, journal: journal + 17, sessions: 0 }));
     assert_eq!((snapshot.bytes(), later > rows), (Ok(rows), true));
-    let mut renewed = replica.renew(10).unwrap();
-    assert_eq!(lengths(&mut renewed), (later, journal - 1));
+    let renewed = replica.renew(10).unwrap();
+    assert_eq!(lengths(&renewed), (later, journal - 1));
     assert_eq!(renewed.bytes(), Ok(Bytes { rows: later, journal: journal - 1, sessions: 0 }));
 }
 
@@ -240,7 +240,7 @@ fn about() {
     assert_eq!(replica.about(), Ok(about));
     replica.migrate().unwrap();
     assert_eq!(replica.about(), Ok(About { format: 2, ..about }));
-    let mut renewed = filled(3).renew(10).unwrap();
+    let renewed = filled(3).renew(10).unwrap();
     assert_eq!(renewed.about(), Ok(About { format: 2, bits: 0, range: 0, entries: 3 }));
 }
 
@@ -339,7 +339,7 @@ fn journal_full() {
 
 #[test]
 fn rows_are_loaded() {
-    let (mut from, mut to) = (filled(3), replica());
+    let (from, mut to) = (filled(3), replica());
     let row = from.row(b"key 1").unwrap().unwrap();
     assert_eq!(to.load_rows(&row).unwrap().taken, 1);
     assert_eq!(to.load_rows(&row).unwrap().known, 1);

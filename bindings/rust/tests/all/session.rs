@@ -14,7 +14,7 @@ pub const JUNK: [u8; 32] = [
 
 /// Returns a snapshot of 50 keys, with its offer of number 7.
 fn offered() -> (Snapshot, Vec<u8>) {
-    let mut snapshot = filled(50).snapshot().unwrap();
+    let snapshot = filled(50).snapshot().unwrap();
     let offer = snapshot.offer(7).unwrap();
     (snapshot, offer)
 }
@@ -22,7 +22,7 @@ fn offered() -> (Snapshot, Vec<u8>) {
 #[test]
 fn snapshots() {
     let mut replica = filled(50);
-    let mut snapshot = replica.snapshot().unwrap();
+    let snapshot = replica.snapshot().unwrap();
     let root = snapshot.root().unwrap();
     assert_eq!((snapshot.format(), snapshot.bits(), snapshot.range(), snapshot.entries()), (2, 0, 0, 50));
     replica.put(1, b"later", Some(b""), &NONE).unwrap();
@@ -34,7 +34,7 @@ fn snapshots() {
 
 #[test]
 fn rows_of_a_leaf() {
-    let (mut snapshot, _) = offered();
+    let (snapshot, _) = offered();
     let leaf = place(2, 0, b"key 3").unwrap().leaf;
     let rows = snapshot.rows(leaf).unwrap();
     assert!(replica().load_rows(&rows).unwrap().taken >= 1);
@@ -53,7 +53,7 @@ fn dirty() {
 
 #[test]
 fn a_session() {
-    let (mut snapshot, offer) = offered();
+    let (snapshot, offer) = offered();
     let mut replica = replica();
     let id = replica.open(1, &offer).unwrap();
     let mut session = replica.session(id);
@@ -73,7 +73,7 @@ fn a_session() {
 
 #[test]
 fn puts_between_the_calls_of_a_session() {
-    let (mut snapshot, offer) = offered();
+    let (snapshot, offer) = offered();
     let mut replica = replica();
     let id = replica.open(1, &offer).unwrap();
     for n in 0.. {
@@ -97,7 +97,7 @@ fn a_cancelled_session() {
 
 #[test]
 fn dropped_sessions() {
-    let (mut snapshot, offer) = offered();
+    let (snapshot, offer) = offered();
     let mut replica = replica();
     let [ended, open] = [(); 2].map(|()| replica.open(1, &offer).unwrap());
     replica.session(ended).cancel().unwrap();
@@ -121,7 +121,7 @@ fn dropped_sessions() {
 #[test]
 fn sizes_of_sessions() {
     let mut replica = filled(50);
-    let mut before = replica.snapshot().unwrap();
+    let before = replica.snapshot().unwrap();
     let id = replica.open(1, &offered().1).unwrap();
     assert_eq!(replica.bytes().unwrap().sessions, 0);
     replica.put(1, b"key 3", Some(b"a longer value"), &Clock::from([(1, 1)])).unwrap();
@@ -138,7 +138,7 @@ fn sizes_of_sessions() {
 
 #[test]
 fn refused_asks() {
-    let (mut snapshot, offer) = offered();
+    let (snapshot, offer) = offered();
     let mut replica = replica();
     let id = replica.open(1, &offer).unwrap();
     let ask = replica.session(id).ask().unwrap().unwrap();
@@ -148,7 +148,7 @@ fn refused_asks() {
 
 #[test]
 fn refused_answers() {
-    let (mut snapshot, offer) = offered();
+    let (snapshot, offer) = offered();
     let mut replica = replica();
     let id = replica.open(1, &offer).unwrap();
     let ask = replica.session(id).ask().unwrap().unwrap();

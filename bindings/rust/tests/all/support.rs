@@ -45,14 +45,14 @@ pub fn opened(replica: &mut Replica, offer: &[u8]) -> u64 {
 }
 
 /// Returns the answers of a partner that is called directly.
-pub fn serve(snapshot: &mut Snapshot, number: u32, asks: &[Vec<u8>]) -> Vec<Option<Vec<u8>>> {
+pub fn serve(snapshot: &Snapshot, number: u32, asks: &[Vec<u8>]) -> Vec<Option<Vec<u8>>> {
     asks.iter().map(|ask| snapshot.serve(number, ask).ok()).collect()
 }
 
 type Held = (Counts, Vec<Entry>, Vec<Vec<u8>>);
 
 /// Returns all that a replica holds.
-pub fn state(replica: &mut Replica) -> Held {
+pub fn state(replica: &Replica) -> Held {
     let keys: Vec<_> = replica.keys().map(Result::unwrap).collect();
     let rows = keys.iter().map(|key| replica.row(key).unwrap().unwrap()).collect();
     let counts = replica.count().unwrap();

@@ -16,13 +16,13 @@ fn sync_over(
     bounds: Bounds,
     mut change: impl FnMut(Answers) -> Answers,
 ) -> (Result<Synced, Refusal>, Vec<usize>) {
-    let mut snapshot = partner.snapshot().unwrap();
+    let snapshot = partner.snapshot().unwrap();
     let offer = snapshot.offer(1).unwrap();
     let mut rounds = Vec::new();
     let synced = replica.sync_within(bounds, 9, &offer, |asks| {
         rounds.push(asks.len());
         assert!(rounds.len() < 10_000, "the sync doesn't end");
-        change(serve(&mut snapshot, 1, asks))
+        change(serve(&snapshot, 1, asks))
     });
     (synced, rounds)
 }
@@ -37,7 +37,7 @@ fn offer_of(replica: &mut Replica) -> Vec<u8> {
 }
 
 /// Returns the numbers of sessions that are kept, and of open ones.
-fn sessions(replica: &mut Replica) -> (u64, u64) {
+fn sessions(replica: &Replica) -> (u64, u64) {
     let counts = replica.count().unwrap();
     (counts.sessions, counts.open_sessions)
 }
@@ -98,7 +98,7 @@ fn forty_syncs() {
         a.put(1, format!("later {n}").as_bytes(), Some(b""), &NONE).unwrap();
         let synced = sync(&mut b, &mut a).unwrap();
         assert_eq!((synced.accepted, synced.state), (if n == 0 { 301 } else { 1 }, State::Finished));
-        assert_eq!(sessions(&mut b), (1, 1));
+        assert_eq!(sessions(&b), (1, 1));
     }
     assert!(b.entries(0).unwrap().all(|entry| entry.unwrap().source == Source::Copy));
     assert_eq!(b.session(by_hand).state(), Ok(State::Open));
@@ -141,7 +141,7 @@ fn a_partner_that_lies() {
     let (synced, _) = sync_over(&mut b, &mut a, Bounds { in_flight: 256, most_bad: 5 }, lie);
     let synced = synced.unwrap();
     assert_eq!((synced.bad, synced.asks, synced.state), (6, 6, State::Cancelled));
-    assert_eq!((b.count().unwrap().entries, sessions(&mut b)), (0, (0, 0)));
+    assert_eq!((b.count().unwrap().entries, sessions(&b)), (0, (0, 0)));
 }
 
 #[test]
@@ -150,7 +150,7 @@ fn an_answer_that_is_no_node() {
     let answer = [&[3, 0, 0, 0, 7, 0, 0, 0][..], &4u64.to_be_bytes(), b"junk"].concat();
     let mut replica = replica();
     assert_eq!(replica.sync(1, &offer, |_| vec![Some(answer.clone())]), Err(Refusal::NotCanonical));
-    assert_eq!(sessions(&mut replica), (0, 0));
+    assert_eq!(sessions(&replica), (0, 0));
 }
 
 #[test]
@@ -167,7 +167,7 @@ fn a_link_that_panics() {
     let (mut a, mut b) = (filled(30), replica());
     let panicked = catch_unwind(AssertUnwindSafe(|| sync_over(&mut b, &mut a, Bounds::default(), |_| panic!("link"))));
     assert!(panicked.is_err());
-    assert_eq!((sessions(&mut b), opened(&mut b, &offer_of(&mut a))), ((0, 0), 1));
+    assert_eq!((sessions(&b), opened(&mut b, &offer_of(&mut a))), ((0, 0), 1));
 }
 
 #[test]
@@ -177,7 +177,7 @@ fn a_crowded_leaf_is_left() {
     b.accept(b"key", &live([(100, 1)], b"one more")).unwrap();
     let synced = sync(&mut b, &mut a).unwrap();
     assert_eq!((synced.accepted, synced.bad, synced.state), (300, 0, State::Cancelled));
-    assert_eq!(sessions(&mut b), (0, 0));
+    assert_eq!(sessions(&b), (0, 0));
     let leaf = place(2, 0, b"key").unwrap().leaf;
     assert_eq!(synced.crowded.len(), 1);
     assert_eq!((synced.crowded[0][5], &synced.crowded[0][6..]), (3, &leaf.to_be_bytes()[..]));
@@ -187,7 +187,7 @@ fn a_crowded_leaf_is_left() {
 fn a_full_journal() {
     let mut small = with_limit(10);
     assert_eq!(sync(&mut small, &mut filled(300)), Err(Refusal::JournalFull));
-    assert_eq!(sessions(&mut small), (0, 0));
+    assert_eq!(sessions(&small), (0, 0));
 }
 
 #[test]

@@ -1,7 +1,7 @@
 //! Handles that go to other threads.
 
 use std::sync::atomic::{AtomicBool, Ordering};
-use std::sync::{mpsc, Mutex};
+use std::sync::{mpsc, Mutex, RwLock};
 use std::thread;
 
 use antientropy::{merge, place, snapshot_beside, sync_beside};
@@ -9,15 +9,15 @@ use antientropy::{Bounds, Config, Hints, Portion, Refusal, Replica, Slots, Snaps
 
 use crate::support::{filled, replica, serve, NONE};
 
-fn is_send<T: Send>() {}
+fn threads_may_have<T: Send + Sync>() {}
 
 #[test]
-fn handles_are_send() {
-    is_send::<Replica>();
-    is_send::<Snapshot>();
-    is_send::<Portion>();
-    is_send::<Hints>();
-    is_send::<Slots>();
+fn handles_are_send_and_sync() {
+    threads_may_have::<Replica>();
+    threads_may_have::<Snapshot>();
+    threads_may_have::<Portion>();
+    threads_may_have::<Hints>();
+    threads_may_have::<Slots>();
 }
 
 #[test]
@@ -47,10 +47,39 @@ fn a_lock_lets_threads_share_a_replica() {
     assert_eq!(shared.lock().unwrap().count().unwrap().entries, 800);
 }
 
+/// Reads a key by calls that must agree, while other threads read too. Returns true if it has a version.
+fn read(replica: &Replica, key: &[u8]) -> bool {
+    let versions = replica.get(key).unwrap();
+    assert!(versions.iter().all(|version| version.value.as_deref() == Some(key)));
+    assert!(replica.versions(key).map(Result::unwrap).eq(versions.iter().cloned()));
+    assert_eq!(replica.count_versions(key), Ok(versions.len() as u64));
+    assert_eq!(replica.row(key).unwrap().is_some(), !versions.is_empty());
+    !versions.is_empty()
+}
+
+#[test]
+fn threads_read_a_replica_at_once() {
+    let shared = RwLock::new(replica());
+    let keys: Vec<_> = (0..300).map(|n| format!("key {n}").into_bytes()).collect();
+    thread::scope(|scope| {
+        for _ in 0..3 {
+            scope.spawn(|| while !keys.iter().all(|key| read(&shared.read().unwrap(), key)) {});
+        }
+        keys.iter().for_each(|key| {
+            shared.write().unwrap().put(1, key, Some(key), &NONE).unwrap();
+        });
+        snapshot_beside(&shared).unwrap();
+    });
+    let snapshot = shared.into_inner().unwrap().snapshot().unwrap();
+    let read = || rows(&snapshot);
+    let readers = thread::scope(|scope| [(); 3].map(|()| scope.spawn(read)).map(|reader| reader.join().unwrap()));
+    assert!(readers.iter().all(|rows| rows[0].len() == 300 && *rows == readers[0]));
+}
+
 #[test]
 fn one_thread_serves_a_snapshot_while_another_puts() {
     let (mut a, mut b) = (filled(500), replica());
-    let mut snapshot = a.snapshot().unwrap();
+    let snapshot = a.snapshot().unwrap();
     let (offer, root) = (snapshot.offer(1).unwrap(), snapshot.root().unwrap());
     let (asks, asked) = mpsc::channel::<Vec<u8>>();
     let (answers, answered) = mpsc::channel();
@@ -73,7 +102,7 @@ fn one_thread_serves_a_snapshot_while_another_puts() {
 }
 
 /// Returns the keys of a snapshot, and their rows.
-fn rows(snapshot: &mut Snapshot) -> [Vec<Vec<u8>>; 2] {
+fn rows(snapshot: &Snapshot) -> [Vec<Vec<u8>>; 2] {
     let keys: Vec<_> = snapshot.keys().map(Result::unwrap).collect();
     let rows = keys.iter().map(|key| snapshot.row(key).unwrap().unwrap()).collect();
     [keys, rows]
@@ -84,14 +113,14 @@ fn threads_read_the_rows_of_a_snapshot() {
     let mut replica = filled(300);
     let keys: Vec<_> = replica.keys().map(Result::unwrap).collect();
     let held: Vec<_> = keys.iter().map(|key| replica.row(key).unwrap().unwrap()).collect();
-    let mut first = replica.snapshot().unwrap();
+    let first = replica.snapshot().unwrap();
     let (root, leaf) = (first.root().unwrap(), place(2, 0, b"key 7").unwrap().leaf);
-    let [mut second, mut third] = [(); 2].map(|()| first.share().unwrap());
+    let [second, third] = [(); 2].map(|()| first.share().unwrap());
     drop(first);
     replica.put(1, b"later", Some(b""), &NONE).unwrap();
-    let reader = thread::spawn(move || rows(&mut second));
-    assert_eq!(rows(&mut third), [keys, held]);
-    assert_eq!(reader.join().unwrap(), rows(&mut third));
+    let reader = thread::spawn(move || rows(&second));
+    assert_eq!(rows(&third), [keys, held]);
+    assert_eq!(reader.join().unwrap(), rows(&third));
     assert!(third.keys_of(leaf).eq(replica.keys_of(leaf)));
     assert_eq!((third.entries(), third.root(), third.digest(0, 0)), (300, Ok(root), Ok(root)));
     assert_ne!(third.digest(3, leaf).unwrap(), third.digest(3, leaf ^ 1).unwrap());
@@ -119,18 +148,18 @@ fn put_without_pause(replicas: [&Mutex<Replica>; 2], stop: &AtomicBool) {
 
 /// Takes what a partner has. Returns the partner's snapshot.
 fn sync(replica: &Mutex<Replica>, partner: &Mutex<Replica>) -> Snapshot {
-    let mut snapshot = snapshot_beside(partner).unwrap();
+    let snapshot = snapshot_beside(partner).unwrap();
     let offer = snapshot.offer(1).unwrap();
-    let synced = sync_beside(replica, Bounds::default(), 9, &offer, |asks| serve(&mut snapshot, 1, asks));
+    let synced = sync_beside(replica, Bounds::default(), 9, &offer, |asks| serve(&snapshot, 1, asks));
     assert!(synced.unwrap().finished());
     snapshot
 }
 
 /// Each snapshot has the versions of the entries that it counts.
-fn check_snapshots(replica: &mut Replica, snapshots: Vec<Snapshot>) {
+fn check_snapshots(replica: &Replica, snapshots: Vec<Snapshot>) {
     let mut copy = Replica::new(Config::default()).unwrap();
     let mut entries = replica.entries(0).unwrap();
-    for mut snapshot in snapshots {
+    for snapshot in snapshots {
         while copy.count().unwrap().entries < snapshot.entries() {
             let entry = entries.next().unwrap().unwrap();
             assert!(copy.accept(&entry.key, &entry.version).unwrap());
@@ -153,6 +182,6 @@ fn snapshots_and_syncs_while_a_thread_puts() {
     sync(&a, &b);
     let [mut a, mut b] = [a, b].map(|replica| replica.into_inner().unwrap());
     assert_eq!(a.root(), b.root());
-    check_snapshots(&mut a, of_a);
-    check_snapshots(&mut b, of_b);
+    check_snapshots(&a, of_a);
+    check_snapshots(&b, of_b);
 }

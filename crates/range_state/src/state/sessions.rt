@@ -143,8 +143,9 @@ impl RangeState {
         place_in(&self.records, id)
     }
 
-    /// Tests that an offer is of this range, in its format.
-    pub(super) fn check_offer(&self, offer: &Offer) -> Result<(), Refusal>
+    /// Tests that a partner's offer is for this range, in its format. Doesn't allocate. Refused, in order: OtherFormat,
+    /// OtherRange.
+    pub fn check_offer(&self, offer: &Offer) -> Result<(), Refusal>
         ensures { AnswersAtOnce result (foreign_fault self.now.store.config offer.now) (λ _. ⊤) }
     {
         if offer.format != self.store.config().format().number() {

@@ -16,7 +16,7 @@
 -module(cluster_link).
 
 -export([call/5]).
--export([serve/6]).
+-export([serve/7]).
 
 -define(FAULTS, "NEMESIS_LINKS").
 -define(UNSLOTTED, "NEMESIS_UNSLOTTED").
@@ -45,7 +45,7 @@ call(Place, Module, Function, Arguments, LimitMs) ->
     Until = erlang:monotonic_time(millisecond) + LimitMs,
     ok = note_unslotted(Here, Module, Function),
     ok = pass({Here, Place}, Until),
-    Served = [Here, Place, Module, Function, Arguments, LimitMs],
+    Served = [Here, Place, cluster_ring:digest(), Module, Function, Arguments, LimitMs],
     Answer = erpc:call(cluster_ring:node_of(Place), ?MODULE, serve, Served, LimitMs),
     ok = pass({Place, Here}, Until),
     Answer.
@@ -66,9 +66,10 @@ pass(Link, Until) ->
 %% @private
 %% @doc Serves a call of another place. It ends without an answer if the message is dropped: then its caller has given
 %% up, or learns it at once.
--spec serve(cluster_ring:place(), cluster_ring:place(), module(), Function :: atom(), Arguments :: [term()], ms()) ->
-    term().
-serve(From, Here, Module, Function, Arguments, LimitMs) ->
+-spec serve(cluster_ring:place(), cluster_ring:place(), Digest :: binary(), module(), Function, Arguments, ms()) ->
+    term() when
+    Function :: atom(), Arguments :: [term()].
+serve(From, Here, Digest, Module, Function, Arguments, LimitMs) ->
     #{drop := Drops, instant := IsInstant} = Faults = faults(),
     ok = delay({From, Here}, Faults),
     case lists:member({From, Here}, Drops) of
@@ -76,8 +77,8 @@ serve(From, Here, Module, Function, Arguments, LimitMs) ->
             IsInstant orelse timer:sleep(LimitMs),
             exit(dropped);
         false ->
-            ok = repeat([From, Module, Function, Arguments], Faults),
-            Answer = cluster_wire:serve(From, Module, Function, Arguments),
+            ok = repeat([From, Digest, Module, Function, Arguments], Faults),
+            Answer = cluster_wire:serve(From, Digest, Module, Function, Arguments),
             ok = delay({Here, From}, faults()),
             Answer
     end.

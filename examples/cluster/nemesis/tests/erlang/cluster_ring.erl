@@ -1,7 +1,7 @@
 %% @doc A ring whose places are all at this node.
 -module(cluster_ring).
 
--export([here/0, node_of/1]).
+-export([here/0, node_of/1, digest/0]).
 
 -export_type([place/0]).
 
@@ -14,3 +14,7 @@ here() -> 1.
 %% @doc Returns this node.
 -spec node_of(place()) -> node().
 node_of(_) -> node().
+
+%% @doc Returns a digest.
+-spec digest() -> binary().
+digest() -> <<"digest">>.

@@ -1,0 +1,143 @@
+-- The structs of C that hold a share of a value: a function that makes one of a `Lent`, or a `Lent` of one, hands on the pointer and the flag; and they may go to another thread. Assumes `Logic`.
+use Rattle.c_handle.proofs.Steps.{◌≡◌, List, [], ◌∷◌, sym, Ura, ty_ptr, ty_bool, Val, vstruct, of_list, ent, emp, ftrue, Closed, Model, Logic, sem, ‵, raw, ◌⊛◌, ◌$◌, ◌∵◌, !, qed, by, move, keep, split, fsplit, fjoin, use0, use1, rewrite, stop, fld, of_opd, no_more, and_then, returns, enter, alloc_all, pass_all, free_all, look_at, get, get_in, sets, agg, sub, whole, fact, fact_i, Running, tables, yes, under, hidden, owns, layout, Signature, types_at, plain, nothing, Values, intos, Struct, exits_of, Owning, row, shape, Ended, Clauses, closing, Meets, Stays, stay_dropped, walk_of, Goes-dropped, Ptr-Good, proved, leaves, refl, ap, Option, Some, None, ◌∙◌, subst, Bool, true, false, id⊢, never_e, Fml, RattleType, Ptr}
+use Prim.Native.Nat.{ℕ}
+use base.Shift.{Keyless}
+use denote.Param.Send.{IsSend, IsSync, owning_send, sendable}
+use Rattle.std_alloc.proofs.SendSync as any
+use denote.Struct.Field.{Field, RawPtr-field, bool-field, rows}
+use denote.Struct.Laws.{RawPtr-laws, bool-laws, lows}
+use denote.Struct.OwningLaws.{Tells-lowered, lawful, Laws}
+use mir.Syntax.{Fn, local, value_local, assign, place, field, rv_opd, copy, aggregate, seq, return, Callee}
+use Rattle.c_handle.proofs.HandleLaws.{value_or}
+use Rattle.c_handle.specs.Shares.{share_owns}
+use Rattle.c_handle.specs.contracts.lent.Lent as lent
+
+abbrev pub parts : List Field
+parts = RawPtr-field ∷ bool-field ∷ []
+
+-- a struct that owns memory, and whose fields are the two
+abbrev pub of_two : (T : Owning) → (T.D → Values parts) → Owning
+of_two T two = record T { parts = parts; as_values = two; exit = λ k. hidden (under (λ d. intos parts (two d)) (exits_of k (rows parts))) }
+
+-- from A to B by f, which keeps the two, and of which Q holds
+pub record Move : Type 2 where
+  pub A : Owning
+  pub B : Owning
+  pub of_a : A.D → Values parts
+  pub of_b : B.D → Values parts
+  pub f : A.D → B.D
+  pub Q : A.D → B.D → Type 0
+  pub same : (d : A.D) → of_b (f d) ≡ of_a d
+  pub holds : (d : A.D) → Q d (f d)
+  pub hands : {M : Type 1} {𝓤 : Ura M} (𝓛 : Logic 𝓤) (d : A.D) → ent 𝓤 (sem 𝓛 (A.heap d)) (sem 𝓛 (B.heap (f d)))
+
+module _ (m : Move) where
+  abbrev From : Owning
+  From = of_two m.A m.of_a
+
+  abbrev Into : Owning
+  Into = of_two m.B m.of_b
+
+  abbrev pub signature : Signature
+  signature = record { lifetimes = 0; outlives = []; params = plain (λ κs. row From) ∷ []; result = plain (λ κs. row Into) }
+
+  abbrev pub ended : Ended
+  ended = record { signature = signature; kept = (yes, tt) }
+
+  abbrev pub function : Fn
+  function =
+      let locals = local (layout (row Into)) value_local ∷ local (layout (row From)) value_local ∷ local ty_ptr value_local ∷ local ty_bool value_local ∷ local ty_ptr value_local ∷ [] in
+      let body =
+      seq (assign (place 2 []) (rv_opd (copy (place 1 (field 0 ∷ []))))) (seq (assign (place 3 []) (rv_opd (copy (place 1 (field 1 ∷ []))))) (
+      seq (assign (place 4 []) (rv_opd (copy (place 2 [])))) (seq (assign (place 0 []) (aggregate (copy (place 4 []) ∷ copy (place 3 []) ∷ []))) return))) in
+      record { lifetimes = 0; outlives = []; ty_params = []; givens = 0; params = 1; locals = locals; body = body }
+
+  module _ {M : Type 1} (𝓤 : Ura M) (𝓛 : Logic 𝓤) (𝓜 : Model 𝓤 𝓛.H) (𝓡 : Running 𝓤 𝓛.H 𝓜) where
+    abbrev pub clauses : Clauses 𝓤 ended
+    clauses κs a = record { ghost = Unit {0}; requires = λ _. emp 𝓤; ensures = λ _ r _. fact 𝓤 (m.Q a.0 r) }
+
+    pub moved : (k : Callee) → Closed 𝓤 𝓛.H (tables 𝓤 𝓛.H 𝓜 𝓡 𝓡.env).C (tables 𝓤 𝓛.H 𝓜 𝓡 𝓡.env).Λ k function → Meets 𝓛 signature ((tables 𝓤 𝓛.H 𝓜 𝓡 𝓡.env).C k) (closing 𝓛 ended clauses)
+    moved k closed =
+        let stayed : Stays signature.params ended.kept = (stay_dropped (plain (λ κs. row From)) yes, tt) in let laws : Laws From = (RawPtr-laws, (bool-laws, tt)) in
+        let word : Values parts → Val = λ u. vstruct (of_list (lows parts laws u)) in
+        proved 𝓛 ended stayed clauses 𝓜 𝓡 (Goes-dropped 𝓛 0 (plain (λ κs. row From)) yes (λ κs x w. refl), tt) k function closed
+        (λ κs. ((λ d. word (m.of_a d) ∷ []), tt)) (λ κs. (Tells-lowered From laws, tt)) (λ κs qs bounds a g are.
+        let d = a.0 in let e = m.f d in let v = m.of_a d in let w : Val = word v in let good = ((lawful From laws 𝓛).typed d (w ∷ []) are.0).0 in
+        let y : (walk_of 𝓛 ended stayed clauses).Ghost = ((κs, qs, bounds, a, (w ∷ [], tt)), g) in
+        qed 𝓛 ((‵ ftrue ⊛ ‵ (owns (types_at signature.params κs) a y.0.4)) ∷ raw (emp 𝓤) ∷ []) ∵ split ! $ move ! (1 ∷ []) $ fsplit ! $ fsplit ! $
+        -- [the two fields; what is held; nothing; the tokens; the `requires`]
+        enter ! _ _ function (w ∷ []) _ $ alloc_all ! (λ l. pass_all ! refl (good, tt) $
+        sets ! (of_opd ! (get_in ! (fld ! refl (stop !)) (sub ! 0 refl (whole !)))) refl (Ptr-Good v.0) $
+        sets ! (of_opd ! (get_in ! (fld ! refl (stop !)) (sub ! 1 refl (whole !)))) refl (tt, tt) $ sets ! (of_opd ! (get ! refl)) refl (Ptr-Good v.0) $
+        sets ! (agg ! (and_then ! (get ! refl) (and_then ! (get ! refl) (no_more !)))) refl good $
+        rewrite ! 0 (λ (u : Values parts). ‵ ((Struct (shape From)).own_val (intos parts u) (w ∷ []))) (sym (m.same d)) refl $
+        move ! (1 ∷ []) $ use1 𝓛 (‵ (m.B.heap e)) (m.hands 𝓛 d) $ move ! (1 ∷ []) $ fjoin ! $
+        use0 𝓛 (raw (fact 𝓤 (m.Q d e))) (fact_i 𝓤 (m.Q d e) (emp 𝓤) (m.holds d)) $ nothing ! $ nothing ! $ fjoin ! $
+        returns ! (look_at ! 0 refl) $ free_all ! refl $ keep ! (4 ∷ 0 ∷ 2 ∷ 1 ∷ []) $ by ! (leaves 𝓛 ended stayed clauses y w e (tt, tt) (tt, tt))))
+
+-- T is the two fields, a value of the row R and two numbers, and owns what its `Lent` owns
+pub record CShare : Type 2 where
+  pub R : RattleType
+  pub T : Owning
+  pub parts_of : T.D → Values parts × R.Denot × ℕ × ℕ
+  pub make : Values parts × R.Denot × ℕ × ℕ → T.D
+  pub any : R.Denot
+  pub made : (u : Values parts × R.Denot × ℕ × ℕ) → parts_of (make u) ≡ u
+  pub makes : (d : T.D) → make (parts_of d) ≡ d
+  pub owns : (d : T.D) → T.heap d ≡ share_owns R (parts_of d).0.1.0 (parts_of d).0.0 (Some (parts_of d).1) (parts_of d).2 (parts_of d).3
+
+pub owns_some : (R : RattleType) (held : Bool) (p : Ptr) (x : R.Denot) (v : Option R.Denot) (round count : ℕ) {M : Type 1} {𝓤 : Ura M} (𝓛 : Logic 𝓤)
+    → ent 𝓤 (sem 𝓛 (share_owns R held p v round count)) (sem 𝓛 (share_owns R held p (Some (value_or x v)) round count))
+owns_some R true p x (Some y) round count {𝓤 = 𝓤} 𝓛 = id⊢ 𝓤 _
+owns_some R true p x None round count {𝓤 = 𝓤} 𝓛 = never_e 𝓤 _
+owns_some R false p x v round count {𝓤 = 𝓤} 𝓛 = id⊢ 𝓤 _
+
+keyless : (R : RattleType) → IsSync R → (held : Bool) (p : Ptr) (x : R.Denot) (round count : ℕ) → Keyless (share_owns R held p (Some x) round count)
+keyless R s true p x round count = ((λ e c. tt), any.seen R s p x (round ∷ []))
+keyless R s false p x round count = tt
+
+module _ (C : CShare) where
+  abbrev H : Owning
+  H = lent.the_type C.R
+
+  abbrev two : C.T.D → Values parts
+  two d = (C.parts_of d).0
+
+  abbrev kept : H.D → Values parts × C.R.Denot × ℕ × ℕ
+  kept h = ((h.at, (h.held, tt)), value_or C.any h.value, h.round, h.count)
+
+  abbrev back : C.T.D → H.D
+  back d = record { at = (two d).0; held = (two d).1.0; value = Some (C.parts_of d).1; round = (C.parts_of d).2; count = (C.parts_of d).3 }
+
+  abbrev pub of_lent : Move
+  of_lent = record {
+    A = H;
+    B = C.T;
+    of_a = λ h. (kept h).0;
+    of_b = two;
+    f = λ h. C.make (kept h);
+    Q = λ h d. (e : C.T.D) → h ≡ back e → d ≡ e;
+    same = λ h i. (C.made (kept h) i).0;
+    holds = λ h e is. ap (λ (k : H.D). C.make (kept k)) is ∙ C.makes e;
+    hands = λ {𝓤 = 𝓤} 𝓛 h. subst (λ (F : Fml). ent 𝓤 (sem 𝓛 (H.heap h)) (sem 𝓛 F)) (sym (C.owns (C.make (kept h)) ∙ (λ i. let u = C.made (kept h) i in share_owns C.R u.0.1.0 u.0.0 (Some u.1) u.2 u.3)))
+        (owns_some C.R h.held h.at C.any h.value h.round h.count 𝓛);
+  }
+
+  abbrev pub into_lent : Move
+  into_lent = record {
+    A = C.T;
+    B = H;
+    of_a = two;
+    of_b = λ h. (kept h).0;
+    f = back;
+    Q = λ d h. h ≡ back d;
+    same = λ d. refl;
+    holds = λ d. refl;
+    hands = λ {𝓤 = 𝓤} 𝓛 d. subst (λ (F : Fml). ent 𝓤 (sem 𝓛 (C.T.heap d)) (sem 𝓛 F)) (C.owns d) (id⊢ 𝓤 _);
+  }
+
+  abbrev pub Sends : Type 0
+  Sends = IsSend (row (of_two C.T two))
+
+  pub sent : IsSync C.R → Sends
+  sent s = owning_send (of_two C.T two) (search sendable, (search sendable, tt)) (λ d. subst Keyless (sym (C.owns d)) (keyless C.R s (two d).1.0 (two d).0 (C.parts_of d).1 (C.parts_of d).2 (C.parts_of d).3)) (λ k x w. tt)

@@ -1,0 +1,6 @@
+pub mod StandingLaws
+pub mod FairLaws
+pub mod SortLaws
+pub mod StepLaws
+pub mod JudgedLaws
+pub mod DryLaws

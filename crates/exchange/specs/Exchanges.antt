@@ -1,0 +1,135 @@
+-- Exchanges: a session of a range with a partner, as its owner carries it on.
+use Rattle.std.specs.Prelude.{◌≡◌, ◌⊎◌, ℕ, Bool, ◌&&◌, ◌==◌, bytes_eq, length, List, [], Option, Some, None, option_map, Result, Ok, Err, is_none, if◌then◌else◌}
+use Rattle.vclock.specs.Outcome.{Outcome, gives, DoesOrNoMemory, ◌>>=◌, ◌>>◌}
+use Rattle.vclock.specs.declared.refusal.Refusal.{Refusal}
+use Rattle.vclock.specs.declared.refusal.Refusal.TheVariants as refusals
+use Rattle.tree_nodes.specs.Nodes.{Node}
+use Rattle.snapshot.specs.RowMaps.{RowMap, root_of}
+use Rattle.walk_messages.specs.declared.message.Answer.{Answer}
+use Rattle.walk_messages.specs.declared.message.Ask.{Ask}
+use Rattle.walk_messages.specs.declared.message.Offer.{Offer}
+use Rattle.sync_session.specs.Steps.{cancelled_by}
+use Rattle.sync_session.specs.Walks.{TakenText}
+use Rattle.range_state.specs.declared.«record».Record.{Record}
+use Rattle.range_state.specs.declared.event.AnswerTaken.{AnswerTaken}
+use Rattle.range_state.specs.declared.local_rows.LocalRows.TheVariants.{Moment}
+use Rattle.range_state.specs.State.{State}
+use Rattle.range_state.specs.Records.{place_of, record_of}
+use Rattle.range_state.specs.Sessions.{foreign_fault, walked_to, TakesAnswer}
+use Rattle.range_state.specs.Moments.{moment_fault, shown_rows, open_at_moment}
+use Rattle.exchange.specs.declared.bounds.Bounds.{Bounds}
+use Rattle.exchange.specs.declared.report.Report.{Report}
+use Rattle.exchange.specs.declared.verdict.Verdict.{Verdict}
+use Rattle.exchange.specs.declared.verdict.Verdict.TheVariants as verdicts
+use Rattle.exchange.specs.declared.exchange.Exchange.{Exchange}
+use Rattle.exchange.specs.Standings.{left_in}
+use Rattle.exchange.specs.Courses.{Course, begun, level, unasked, report_of, is_over}
+use Rattle.exchange.specs.Asks.{is_leaf, next_in, ask_for, after_ask}
+use Rattle.exchange.specs.Answers.{IsRead, sorted, judged}
+
+-- an exchange with another course
+abbrev pub on : Exchange → Course → Exchange
+on x c = record x { course = c }
+
+-- ---- the session of an exchange
+
+-- a record is that of the exchange's session: of its partner, the offered root and the same local rows
+abbrev pub is_of : Exchange → Record → Bool
+is_of x r = (r.partner == x.partner) && bytes_eq r.session.root x.course.offer.root && bytes_eq (root_of r.session.own) x.local_root
+
+abbrev pub if_of : Exchange → Option Record → Option Record
+if_of x None = None
+if_of x (Some r) = if is_of x r then Some r else None
+
+-- the record of the exchange's session, if the range has it
+abbrev pub record_in : Exchange → State → Option Record
+record_in x s = if_of x (record_of x.session s.records)
+
+-- ---- opening
+
+-- an exchange that has nothing to ask
+abbrev pub level_with : ℕ → Offer → Bounds → Exchange
+level_with partner offer bounds = record { partner = partner; local_root = offer.root; session = 0; course = level offer bounds }
+
+-- an exchange of the session with a number, which compares these rows
+abbrev pub begun_with : ℕ → Offer → Bounds → RowMap → ℕ → Exchange
+begun_with partner offer bounds own id = record { partner = partner; local_root = root_of own; session = id; course = begun offer bounds (unasked own.format) }
+
+-- the exchange of a new session, and the state with it
+abbrev pub beginning : State → ℕ → Offer → Bounds → Outcome Exchange State
+beginning s partner offer bounds = do
+  p ← open_at_moment s partner offer
+  gives (begun_with partner offer bounds (shown_rows Moment s) p.0) p.1
+
+-- an exchange with a partner's offer: finished if the moment has the offered root, and no session is opened; otherwise
+-- it has a session that compares the moment with the offer
+abbrev pub opening : State → ℕ → Offer → Bounds → Outcome Exchange State
+opening s partner offer bounds = do
+  foreign_fault s.store.config offer
+  moment_fault s.moment
+  if bytes_eq offer.root (root_of (shown_rows Moment s)) then gives (level_with partner offer bounds) s else beginning s partner offer bounds
+
+-- a call that tests its first cause without memory: then it has the outcome, in whose place may be NoMemory
+abbrev pub OpensUnless : {T S : Type 0} → Option Refusal → Result T Refusal → S → S → Outcome T S → Type 0
+OpensUnless (Some e) result old new o = (result ≡ Err e) × (new ≡ old)
+OpensUnless None result old new o = DoesOrNoMemory result old new o
+
+-- ---- asking
+
+-- the ask that is sent now, if any, and the exchange after it
+abbrev pub asks_of : Exchange → Option Record → Option Ask × Exchange
+asks_of x None = (None, x)
+asks_of x (Some r) = (ask_for x.course (next_in x.course r.session), on x (after_ask x.course (next_in x.course r.session)))
+
+-- ---- taking
+
+-- a session takes a text, if there is memory for it
+abbrev pub TakesText : State → ℕ → ℕ → TakenText → Result AnswerTaken Refusal → State → Type 0
+TakesText s seat id t said new = ((said ≡ Err refusals.NoMemory) × (new ≡ s)) ⊎ TakesAnswer s seat id t said new
+
+-- an answer that is due is offered to the session, and judged by what it says; any other has its verdict already
+pub record IsJudged (x : Exchange) (c : Course) (s : State) (seat : ℕ) (r : Record) (a : Answer) (v : Verdict) (y : Exchange) (t : State) : Type 0 where
+  pub said : Result AnswerTaken Refusal
+  pub takes : TakesText s seat x.session (record { node = a.node; text = a.text }) said t
+  pub verdict : v ≡ (judged c a.node (is_leaf r.session.own a.node) (length a.text) said).0
+  pub course : y ≡ on x (judged c a.node (is_leaf r.session.own a.node) (length a.text) said).1
+
+abbrev pub TakesSorted : Exchange → State → ℕ → Record → Result Answer Verdict × Course → Verdict → Exchange → State → Type 0
+TakesSorted x s seat r (Ok a, c) v y t = IsJudged x c s seat r a v y t
+TakesSorted x s seat r (Err w, c) v y t = (v ≡ w) × (y ≡ on x c) × (t ≡ s)
+
+-- bytes for a session of the range
+pub record TakesBytes (x : Exchange) (s : State) (seat : ℕ) (bytes : List ℕ) (r : Record) (v : Verdict) (y : Exchange) (t : State) : Type 0 where
+  pub read : Option Answer
+  pub is : IsRead bytes read
+  pub taken : TakesSorted x s seat r (sorted x.course read) v y t
+
+-- the record of the session, if the exchange isn't over and the range has it
+abbrev pub going_in : Exchange → State → Option Record
+going_in x s = if is_over x.course then None else record_in x s
+
+-- bytes are late if there is no such session
+abbrev pub TakesFor : Exchange → State → ℕ → List ℕ → Option Record → Verdict → Exchange → State → Type 0
+TakesFor x s seat bytes None v y t = (v ≡ verdicts.Late) × (y ≡ x) × (t ≡ s)
+TakesFor x s seat bytes (Some r) v y t = TakesBytes x s seat bytes r v y t
+
+abbrev pub Takes : Exchange → State → ℕ → List ℕ → Verdict → Exchange → State → Type 0
+Takes x s seat bytes v y t = TakesFor x s seat bytes (going_in x s) v y t
+
+-- ---- reporting and closing
+
+abbrev pub report_in : Exchange → State → Report
+report_in x s = report_of x.course (option_map (λ r. r.session) (record_in x s))
+
+-- the outstanding nodes of its session that were left
+abbrev pub left_of : Exchange → Option Record → List Node
+left_of x None = []
+left_of x (Some r) = left_in x.course.standings r.session.outstanding
+
+-- the range, in which the session of a record is cancelled if it is in progress
+abbrev pub cancelled_in : State → ℕ → Option Record → State
+cancelled_in s id None = s
+cancelled_in s id (Some r) = walked_to s (place_of id s.records) r (cancelled_by r.session r.session.state)
+
+abbrev pub after_close : Exchange → State → State
+after_close x s = cancelled_in s x.session (if is_none x.course.end then record_in x s else None)

@@ -1,0 +1,251 @@
+//! Exchanges.
+ghost use Rattle.std.specs.Prelude.{◌≡◌, slice_get, option_map};
+ghost use Rattle.range_state.specs.Sessions.{foreign_fault};
+ghost use Rattle.exchange.specs.Standings.{ways, ways_bytes};
+ghost use Rattle.exchange.specs.Courses.{IsFair, after_loss, after_go_on, closed};
+ghost use Rattle.exchange.specs.Exchanges.{on, is_of, record_in, going_in, level_with, opening, OpensUnless, asks_of, TakesText, Takes, report_in, left_of, after_close};
+
+use crate::bounds::Bounds;
+use crate::course::{Course, is_leaf};
+use crate::report::Report;
+use crate::standings::Standings;
+use crate::tally::Tally;
+use crate::verdict::Verdict;
+use range_state::{AnswerTaken, RangeState, Record};
+use std::alloc::Global;
+use tree_nodes::{Digest, NodeAt, Text, hash};
+use vclock::Refusal;
+use walk_messages::{Ask, Offer};
+
+/// A session of a range with a partner, as its owner carries it on: which asks are on their way, which answers were
+/// bad, and when it ends. It starts no thread and sends no message: its owner sends the asks that `next` returns, hands
+/// each answer to `take`, and looks at `report`. It lives as long as its owner wants: between two calls the range may
+/// change in any way. A renewal or a migration of the range ends it.
+///
+/// ```
+/// let exchange = Exchange::open(alloc, &mut state, 2, partner.offer(7), bounds)?;
+/// ```
+pub struct Exchange {
+    partner: u16,
+    local_root: Digest,
+    session: u64,
+    course: Course,
+}
+
+impl Exchange {
+    /// Begins an exchange with a partner's offer: opens a session that compares the rows of the range's moment with it.
+    /// If the moment has the offered root, it is finished at once, and no session is opened.
+    ///
+    /// Refused, in order: OtherFormat, OtherRange, Dirty (there is no moment, or some node of it has no digest),
+    /// SessionsFull (64 sessions are open, or there are 1,024 records), NoMemory, which may replace the two before it.
+    /// On error the range is unchanged.
+    pub fn open(
+        alloc: Global,
+        state: &mut RangeState,
+        partner: u16,
+        offer: Offer,
+        bounds: Bounds,
+    ) -> Result<Exchange, Refusal>
+        ensures { OpensUnless (foreign_fault state.old.store.config offer) result state.old state.new
+            (opening state.old partner offer bounds) }
+    {
+        state.check_offer(&offer)?;
+        let own = state.moment(alloc)?;
+        let local_root = own.root();
+        if local_root == offer.root {
+            return Ok(Exchange::level(alloc, partner, offer, bounds));
+        }
+        let standings = Standings::unasked(alloc, own.format())?;
+        let session = state.open_session_at_moment(alloc, partner, offer)?;
+        Ok(Exchange {
+            partner,
+            local_root,
+            session,
+            course: Course::new(offer, bounds, standings),
+        })
+    }
+
+    /// Makes an exchange with a partner that offers the local root: it has no session, and is finished. Doesn't allocate.
+    pub fn level(alloc: Global, partner: u16, offer: Offer, bounds: Bounds) -> Exchange
+        ensures { result ≡ level_with partner offer bounds }
+    {
+        let local_root = offer.root;
+        Exchange {
+            partner,
+            local_root,
+            session: 0,
+            course: Course::level(alloc, offer, bounds),
+        }
+    }
+
+    /// Returns the number of the partner's offer.
+    pub fn offer_number(&self) -> u32
+        ensures { result ≡ self.now.course.offer.offer }
+    {
+        self.course.offer.offer
+    }
+
+    /// Returns the next ask to send. Returns `None` if each outstanding node is on its way or was left, the bounds
+    /// leave no room, asks have stopped, or the exchange is over. Doesn't allocate.
+    pub fn next(&mut self, state: &RangeState) -> Option<Ask>
+        ensures ask { result ≡ (asks_of self.old (record_in self.old state.now)).0 }
+        ensures sent { self.new ≡ (asks_of self.old (record_in self.old state.now)).1 }
+    {
+        let record = self.find(state)?;
+        self.course.next(record.session())
+    }
+
+    /// Takes a partner's answer, as bytes, and judges it by the node that it names. Answers may arrive in any order.
+    /// The range changes as `take_answer` changes it, or not at all. An answer of an exchange that is over is late.
+    pub fn take(
+        &mut self,
+        alloc: Global,
+        state: &mut RangeState,
+        seat: u16,
+        answer: &[u8],
+    ) -> Verdict
+        ensures { Takes self.old state.old seat answer.now result self.new state.new }
+    {
+        let Some(record) = self.going(state) else {
+            return Verdict::Late;
+        };
+        let (node, text) = match self.course.sort(answer) {
+            Ok(due) => due,
+            Err(verdict) => return verdict,
+        };
+        let is_leaf = is_leaf(record.session().own(), node);
+        let said = take_text(alloc, state, seat, self.session, node, text);
+        self.course.judge(node, is_leaf, text.len(), said)
+    }
+
+    /// Counts the ask for a node as lost, if it is on its way: its link was lost, say, or its time is over. It may be
+    /// sent again then. Doesn't allocate.
+    pub fn lose(&mut self, node: NodeAt)
+        ensures { self.new ≡ on self.old (after_loss self.old.course node) }
+    {
+        self.course.lose(node);
+    }
+
+    /// Lets asks be sent again after there was no room for an answer. Each ask whose answer was refused counts as lost.
+    /// Doesn't allocate.
+    pub fn go_on(&mut self)
+        ensures { self.new ≡ on self.old (after_go_on self.old.course) }
+    {
+        self.course.go_on();
+    }
+
+    /// Returns how far the exchange is. Doesn't allocate.
+    pub fn report(&self, state: &RangeState) -> Report
+        ensures { result ≡ report_in self.now state.now }
+    {
+        if let Some(end) = self.course.end {
+            return Report::of(end);
+        }
+        match self.find(state) {
+            Some(record) => self.course.report(record.session()),
+            None => Report::Gone,
+        }
+    }
+
+    /// Returns a leaf that was left, by its place among them from 0 in the order in which the session asks, or `None`
+    /// if there are fewer. In each of them a key is crowded. Doesn't allocate.
+    pub fn left(&self, state: &RangeState, place: usize) -> Option<NodeAt>
+        ensures { result ≡ slice_get (left_of self.now (record_in self.now state.now)) place }
+    {
+        let nodes = self.find(state)?.session().outstanding();
+        self.course.standings.left_at(nodes, place)
+    }
+
+    /// Closes the exchange: cancels its session, if that is in progress, so that its record may be dropped. Doesn't
+    /// allocate.
+    pub fn close(&mut self, state: &mut RangeState)
+        ensures exchange { self.new ≡ on self.old (closed self.old.course) }
+        ensures state { state.new ≡ after_close self.old state.old }
+    {
+        if self.course.end.is_none() && self.find(state).is_some() {
+            let _done = state.cancel_session(self.session);
+        }
+        self.course.close();
+    }
+
+    /// Returns the counts of the exchange. No more asks are sent than the tree has nodes, and the bounds allow bad
+    /// answers and lost asks.
+    pub fn tally(&self) -> Tally
+        ensures counts { result ≡ self.now.course.tally }
+        ensures fair { IsFair self.now.course }
+    {
+        self.course.tally
+    }
+
+    /// Returns the number of asks on their way.
+    pub fn on_way(&self) -> u64
+        ensures { result ≡ ways self.now.course.standings }
+    {
+        self.course.standings.ways()
+    }
+
+    /// Returns the estimated size of the answers to the asks on their way, in bytes.
+    pub fn bytes_on_way(&self) -> u64
+        ensures { result ≡ ways_bytes self.now.course.standings }
+    {
+        self.course.standings.ways_bytes()
+    }
+
+    /// Returns the record of the session, if the exchange isn't over and the range has it.
+    fn going<'a>(&self, state: &'a RangeState) -> Option<&'a Record>
+        ensures { option_map (λ r. r.now) result ≡ going_in self.now state.now }
+    {
+        if self.course.is_over() {
+            None
+        } else {
+            self.find(state)
+        }
+    }
+
+    /// Returns the record of the session, if the range has it.
+    fn find<'a>(&self, state: &'a RangeState) -> Option<&'a Record>
+        ensures { option_map (λ r. r.now) result ≡ record_in self.now state.now }
+    {
+        match state.record(self.session) {
+            Ok(record) if self.is_of(record) => Some(record),
+            _ => None,
+        }
+    }
+
+    /// Returns true if a record of the session's number is that of the session.
+    fn is_of(&self, kept: &Record) -> bool
+        ensures { result ≡ is_of self.now kept.now }
+    {
+        let session = kept.session();
+        kept.partner() == self.partner
+            && session.root() == self.course.offer.root
+            && session.own().root() == self.local_root
+    }
+}
+
+/// Hands a text to a session.
+fn take_text(
+    alloc: Global,
+    state: &mut RangeState,
+    seat: u16,
+    session: u64,
+    node: NodeAt,
+    text: &[u8],
+) -> Result<AnswerTaken, Refusal>
+    ensures { TakesText state.old seat session (record { node = node; text = text.now }) result state.new }
+{
+    let text = hash(Text::copy_of(alloc, text)?);
+    state.take_answer(alloc, seat, session, node, text)
+}
+
+impl Drop for Exchange {
+    /// Keeps the fields out of the proofs of callers that drop an exchange.
+    fn drop(self) {
+        let Exchange {
+            partner: _partner,
+            local_root: _local_root,
+            session: _session,
+            course: _course,
+        } = self;
+    }
+}

@@ -1,0 +1,53 @@
+//! Laws of exchanges, proved from the definitions.
+ghost use Rattle.std.specs.Prelude.{◌≡◌, ◌+◌, ◌≤◌, ℕ, false, List, Some, None, slice_get};
+ghost use Rattle.vclock.specs.declared.format.Format.{Format};
+ghost use Rattle.vclock.specs.declared.refusal.Refusal.TheVariants as refusals;
+ghost use Rattle.tree_nodes.specs.Nodes.{Node, node_count};
+ghost use Rattle.walk_messages.specs.declared.message.Answer.{Answer};
+ghost use Rattle.walk_messages.specs.declared.message.Offer.{Offer};
+ghost use Rattle.sync_session.specs.Walks.{Walk};
+ghost use Rattle.sync_session.specs.declared.state.SessionState.TheVariants as states;
+ghost use Rattle.range_state.specs.State.{State};
+ghost use Rattle.range_state.specs.Records.{place_of};
+ghost use Rattle.range_state.specs.Sessions.{IsLeafFault};
+ghost use Rattle.range_state.specs.declared.«record».Record.{Record};
+ghost use Rattle.exchange.specs.declared.bounds.Bounds.{Bounds};
+ghost use Rattle.exchange.specs.declared.exchange.Exchange.{Exchange};
+ghost use Rattle.exchange.specs.declared.report.End.TheVariants as ends;
+ghost use Rattle.exchange.specs.declared.verdict.Verdict.{Verdict};
+ghost use Rattle.exchange.specs.declared.verdict.Verdict.TheVariants as verdicts;
+ghost use Rattle.exchange.specs.Standings.{standing_of, is_sent, was_left};
+ghost use Rattle.exchange.specs.Courses.{Course};
+ghost use Rattle.exchange.specs.Asks.{next_in};
+ghost use Rattle.exchange.specs.Exchanges.{IsJudged};
+ghost use Rattle.exchange.specs.Steps.{Step, MayAll, after_all, at_start};
+
+/// Whatever a partner sends, and whatever the owner calls, an exchange sends at most as many asks as the tree has
+/// nodes, and the bounds allow bad answers and lost asks.
+pub fn asks_are_bounded()
+    ensures { (offer : Offer) (bounds : Bounds) (format : Format) (steps : List Step)
+        → MayAll (at_start offer bounds format) steps
+        → (after_all (at_start offer bounds format) steps).tally.asks ≤ node_count format + bounds.bad + bounds.lost }
+{}
+
+/// The node of the next ask isn't on its way, and wasn't left.
+pub fn no_node_is_on_its_way_twice()
+    ensures { (x : Course) (w : Walk) (n : Node) (bytes : ℕ) → next_in x w ≡ Some (n, bytes)
+        → (is_sent (standing_of x.standings n) ≡ false) × (was_left (standing_of x.standings n) ≡ false) }
+{}
+
+/// A leaf is left only for its own true text, in which a key is crowded.
+pub fn a_leaf_is_left_for_its_own_text()
+    ensures { (x y : Exchange) (c : Course) (s t : State) (seat : ℕ) (r : Record) (a : Answer)
+        → slice_get s.records (place_of x.session s.records) ≡ Some r → IsJudged x c s seat r a verdicts.Left y t
+        → IsLeafFault s seat r (record { node = a.node; text = a.text }) refusals.Crowded }
+{}
+
+/// An exchange that an answer finishes has a session that is finished.
+pub fn a_finished_exchange_has_a_finished_session()
+    ensures { (x y : Exchange) (c : Course) (s t : State) (seat : ℕ) (r : Record) (a : Answer) (v : Verdict)
+        → slice_get s.records (place_of x.session s.records) ≡ Some r → IsJudged x c s seat r a v y t → c.end ≡ None
+        → y.course.end ≡ Some ends.Finished
+        → (u : Record) × (slice_get t.records (place_of x.session s.records) ≡ Some u)
+        × (u.session.state ≡ states.Finished) }
+{}

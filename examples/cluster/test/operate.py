@@ -1,0 +1,409 @@
+#!/usr/bin/env python3
+"""Operates a release as its page says: three nodes with TLS between them and for clients, on a folder that make built.
+
+A put, a kill, a damaged disk, settings that differ, a stranger without a certificate, and what nodes say of all that.
+All that it starts ends with it. The last line is 'N passed, M failed'.
+"""
+
+from __future__ import annotations
+
+import json
+import os
+import re
+import secrets
+import signal
+import socket
+import ssl
+import subprocess
+import sys
+import tarfile
+import tempfile
+import time
+import unittest
+import urllib.error
+import urllib.request
+from pathlib import Path
+from typing import Dict, List, Mapping, Optional, Sequence, Tuple
+
+HERE = Path(__file__).resolve().parent
+REL = HERE.parent / "rel"
+
+#: The fronts are at one address. The nodes are at another one each: all of them are this host.
+HOST = "127.0.0.1"
+PLACES = (1, 2, 3)
+HOSTS = {place: f"127.0.0.{place + 1}" for place in PLACES}
+
+#: Seconds that a step may take on a machine that is busy, and between two looks.
+STEP_S, LOOK_S = 180.0, 0.1
+
+SYS_CONFIG = """[{{cluster, [
+    {{places, [
+{places}
+    ]}},
+    {{bits, {bits}}},
+    {{quorums, {{3, 2, 2}}}},
+    {{http_token, "{folder}/token"}},
+    {{https, {{"{folder}/node.pem", "{folder}/node.key"}}}}
+]}}].
+"""
+
+
+class Site:
+    """The configuration and the nodes of a cluster on one host."""
+
+    def __init__(self, out: Path, room: Path) -> None:
+        self.room = room
+        with tarfile.open(next(out.glob("cluster-*.tar.gz"))) as packed:
+            packed.extractall(room / "release")
+        self.program = room / "release/bin/cluster"
+        self.token, cookie = secrets.token_hex(16), secrets.token_hex(16)
+        self.config = self.make_config("config", cookie)
+        self.other_ring = self.make_config("other-ring", cookie, bits=3)
+        self.guest = self.make_config("guest", secrets.token_hex(16))
+        self.stranger = self.make_config("stranger", cookie, authority=self.make_authority("strangers"))
+        self._ports = _free_ports(2 * len(PLACES) + 1)
+        self._environment = {**os.environ, "ERL_EPMD_PORT": str(self._ports.pop())}
+        self._environment["ERL_EPMD_ADDRESS"] = ",".join(HOSTS.values())
+        epmd = next((room / "release").glob("erts-*/bin/epmd"))
+        self._epmd = subprocess.Popen([epmd], env=self._environment, stdin=subprocess.DEVNULL)
+
+    def make_authority(self, name: str) -> Path:
+        """Makes an authority, and returns the path of its files without their endings."""
+        made = self.room / name
+        words = ["-x509", "-keyout", f"{made}.key", "-out", f"{made}.pem", "-subj", f"/CN={name}", "-days", "2"]
+        _openssl("req", *words, *KEY)
+        return made
+
+    def make_config(self, name: str, cookie: str, bits: int = 2, authority: Optional[Path] = None) -> Path:
+        """Makes the folder of a configuration, as an operator does."""
+        folder = self.room / name
+        folder.mkdir(mode=0o700)
+        if authority is None:
+            authority = self.room / "authority"
+            if not authority.with_suffix(".pem").exists():
+                self.make_authority("authority")
+        wanted = ["-keyout", f"{folder}/node.key", "-out", f"{folder}/node.csr", "-subj", "/CN=node"]
+        _openssl("req", "-new", *wanted, *KEY)
+        names = folder / "names"
+        hosts = [f"IP:{host},DNS:{host}" for host in (HOST, *HOSTS.values())]
+        names.write_text(f"subjectAltName={','.join(hosts)}\n")
+        signed = ["-CA", f"{authority}.pem", "-CAkey", f"{authority}.key", "-CAcreateserial", "-days", "2"]
+        files = ["-in", f"{folder}/node.csr", "-out", f"{folder}/node.pem", "-extfile", str(names)]
+        _openssl("x509", "-req", *files, *signed)
+        (folder / "ca.pem").write_bytes(authority.with_suffix(".pem").read_bytes())
+        places = ",\n".join(f'        {{{place}, "{host}"}}' for place, host in HOSTS.items())
+        (folder / "sys.config").write_text(SYS_CONFIG.format(places=places, bits=bits, folder=folder))
+        (folder / "ssl_dist.conf").write_text((REL / "ssl_dist.conf").read_text().replace("/etc/cluster", str(folder)))
+        for secret, text in ((".erlang.cookie", cookie), ("token", self.token)):
+            (folder / secret).write_text(text)
+            (folder / secret).chmod(0o400)
+        return folder
+
+    def disk(self, place: int) -> Path:
+        return self.room / f"disk-{place}"
+
+    def port(self, place: int, is_admin: bool = False) -> int:
+        return self._ports[2 * (place - 1) + is_admin]
+
+    def run(
+        self, place: int, word: str, config: Optional[Path] = None, disk: Optional[Path] = None
+    ) -> subprocess.Popen:
+        """Begins a command of the release."""
+        settings = f"http_port {self.port(place)} admin_port {self.port(place, True)}"
+        environment = {
+            **self._environment,
+            "CLUSTER_PLACE": str(place),
+            "CLUSTER_CONFIG": str(config or self.config),
+            "CLUSTER_FOLDER": str(disk or self.disk(place)),
+            "CLUSTER_LOG": str(self.log_file(place)),
+            "CLUSTER_SETTINGS": settings,
+            "CLUSTER_FLAGS": "+S 2:2 +SDcpu 2:2 +SDio 4",
+        }
+        words = {"stdin": subprocess.DEVNULL, "stdout": subprocess.PIPE, "stderr": subprocess.STDOUT, "text": True}
+        return subprocess.Popen([self.program, word], env=environment, **words)
+
+    def done(self, place: int, word: str, **given: Path) -> Tuple[int, str]:
+        """Runs a command of the release, and returns its status and what it printed."""
+        command = self.run(place, word, **given)
+        printed, _ = command.communicate(timeout=STEP_S)
+        return command.returncode, printed
+
+    def start(self, places: Sequence[int]) -> None:
+        """Starts nodes, and waits until they serve."""
+        commands = [self.run(place, "start") for place in places]
+        for command in commands:
+            printed, _ = command.communicate(timeout=STEP_S)
+            if command.returncode:
+                raise AssertionError(f"a node didn't start: {printed}")
+
+    def log(self, place: int) -> str:
+        return self.log_file(place).read_text()
+
+    def log_file(self, place: int) -> Path:
+        return self.room / f"log-{place}"
+
+    def node_port(self, place: int) -> int:
+        """Returns the port of a node for other nodes, as epmd knows it."""
+        words = [self._epmd.args[0], "-names"]
+        names = subprocess.run(words, env=self._environment, stdout=subprocess.PIPE, text=True, check=True).stdout
+        return int(re.search(rf"name p{place} at port (\d+)", names)[1])
+
+    def pid(self, place: int) -> int:
+        """Returns the process of a node by its disk."""
+        disk = f'"{self.disk(place)}"'.encode()
+        for folder in Path("/proc").glob("[0-9]*"):
+            try:
+                words = (folder / "cmdline").read_bytes().split(b"\0")
+            except OSError:
+                continue
+            if disk in words and words[0].endswith(b"beam.smp"):
+                return int(folder.name)
+        raise AssertionError(f"the node of place {place} doesn't run")
+
+    def ask(
+        self, place: int, method: str, path: str, body: Optional[bytes] = None, is_admin: bool = False, **headers: str
+    ) -> Tuple[int, Mapping[str, str], bytes]:
+        """Sends a request by HTTPS, and trusts the cluster's authority alone."""
+        trust = ssl.create_default_context(cafile=self.config / "ca.pem")
+        named = {name.replace("_", "-"): value for name, value in headers.items()}
+        url = f"https://{HOST}:{self.port(place, is_admin)}{path}"
+        request = urllib.request.Request(url, body, named, method=method)
+        try:
+            with urllib.request.urlopen(request, timeout=STEP_S, context=trust) as answer:
+                return answer.status, dict(answer.headers), answer.read()
+        except urllib.error.HTTPError as answer:
+            return answer.code, dict(answer.headers), answer.read()
+
+    def put(self, place: int, key: str, value: str, **headers: str) -> dict:
+        status, _, body = self.ask(place, "PUT", f"/keys/{key}", value.encode(), **self.bearer(), **headers)
+        if status != 200:
+            raise AssertionError(f"the put was answered by {status}: {body!r}")
+        return json.loads(body)
+
+    def get(self, place: int, key: str) -> Tuple[int, bytes]:
+        status, _, body = self.ask(place, "GET", f"/keys/{key}", **self.bearer())
+        return status, body
+
+    def bearer(self) -> Dict[str, str]:
+        return {"authorization": f"Bearer {self.token}"}
+
+    def metrics(self, place: int) -> Dict[str, float]:
+        """Returns the metrics of a node by name and labels."""
+        text = self.ask(place, "GET", "/metrics", is_admin=True)[2].decode()
+        lines = [line.rsplit(" ", 1) for line in text.splitlines() if not line.startswith("#")]
+        return {name: float(value) for name, value in lines}
+
+    def end(self) -> None:
+        """Ends all that it started."""
+        for place in PLACES:
+            try:
+                os.kill(self.pid(place), signal.SIGKILL)
+            except (AssertionError, ProcessLookupError):
+                pass
+        self._epmd.kill()
+        self._epmd.wait()
+
+
+#: Words for a key without a passphrase.
+KEY = ["-newkey", "ec", "-pkeyopt", "ec_paramgen_curve:prime256v1", "-nodes"]
+
+
+def _openssl(*words: str) -> None:
+    subprocess.run(["openssl", *words], check=True, stdout=subprocess.DEVNULL, stderr=subprocess.DEVNULL)
+
+
+def _free_ports(count: int) -> List[int]:
+    probes = [socket.create_server((HOST, 0)) for _ in range(count)]
+    ports = [probe.getsockname()[1] for probe in probes]
+    for probe in probes:
+        probe.close()
+    return ports
+
+
+def until(condition, what: str) -> None:
+    """Waits until a condition is true."""
+    end = time.monotonic() + STEP_S
+    while not condition():
+        if time.monotonic() > end:
+            raise AssertionError(f"in vain: {what}")
+        time.sleep(LOOK_S)
+
+
+class Operate(unittest.TestCase):
+    """The steps, in their order: the later ones go on with the cluster of the first."""
+
+    site: Site
+
+    def test_1_puts_and_gets(self) -> None:
+        """Any node takes a request by HTTPS with the token, and each is refused without it."""
+        site = self.site
+        site.start(PLACES)
+        put = site.put(1, "cart", "milk")
+        self.assertEqual(len(put["on"]), 2)
+        self.assertEqual(site.get(3, "cart"), (200, b"milk"))
+        self.assertEqual(len(site.put(2, "cart", "eggs", x_context=put["context"], x_w="3")["on"]), 3)
+        self.assertEqual(site.ask(1, "GET", "/keys/cart")[0], 401)
+        self.assertEqual(site.ask(1, "GET", "/health")[0], 200)
+        with self.assertRaises(urllib.error.URLError):
+            urllib.request.urlopen(f"https://{HOST}:{site.port(1)}/health", context=ssl.create_default_context())
+
+    def test_2_secrets(self) -> None:
+        """Nobody else can read disks, nor the cookie, which is in no command line."""
+        site = self.site
+        cookie = (site.config / ".erlang.cookie").read_text()
+        for place in PLACES:
+            words = Path(f"/proc/{site.pid(place)}/cmdline").read_bytes().decode()
+            self.assertNotIn(cookie, words)
+            self.assertNotIn(site.token, words)
+            for path in [site.disk(place), *site.disk(place).rglob("*")]:
+                self.assertEqual(path.stat().st_mode & 0o077, 0, path)
+        (site.config / ".erlang.cookie").chmod(0o444)
+        said = f"others may read {site.config}/.erlang.cookie: give it mode 0400\n"
+        self.assertEqual(site.done(1, "status"), (1, said))
+        (site.config / ".erlang.cookie").chmod(0o400)
+
+    def test_3_kill(self) -> None:
+        """A node that was killed is down for the others, which go on, and it has all again after a start."""
+        site = self.site
+        before = len(site.log(1))
+        os.kill(site.pid(3), signal.SIGKILL)
+        until(lambda: "event down place=3" in site.log(1)[before:], "place 1 says that place 3 is down")
+        self.assertEqual(site.metrics(1)['cluster_place_up{place="3"}'], 0)
+        site.put(1, "cup", "tea")
+        site.start([3])
+        until(lambda: "event up place=3" in site.log(1)[before:], "place 1 says that place 3 is up")
+        until(lambda: site.metrics(1)['cluster_place_up{place="3"}'] == 1, "it is up in the metrics")
+        self.assertEqual(site.get(3, "cup"), (200, b"tea"))
+
+    def test_4_damage(self) -> None:
+        """A damaged disk is kept aside, and a new life takes all from the others."""
+        site = self.site
+        status, printed = site.done(2, "stop")
+        self.assertEqual((status, printed), (0, ""))
+        self.assertNotIn("shutdown_error", site.log(2))
+        for log in site.disk(2).glob("range-*/log.1"):
+            text = bytearray(log.read_bytes())
+            if text:
+                text[len(text) // 2] ^= 4
+                log.write_bytes(text)
+        site.start([2])
+        damage = r"the disk of place 2 is damaged: range-\d: .*; it is kept in .*/aside-1, and a new life begins"
+        self.assertRegex(site.log(2), damage)
+        self.assertIn("event new_life incarnation=2", site.log(2))
+        status, printed = site.done(2, "status")
+        self.assertEqual(status, 0)
+        said = {node["place"]: node for node in json.loads(printed)}
+        self.assertEqual(said[2]["life"], 2 + 32 * 2)
+        self.assertEqual(len(said[2]["aside"]), 1)
+        self.assertEqual(site.get(2, "cup"), (200, b"tea"))
+
+    def test_5_metrics(self) -> None:
+        """What the steps above did is in the metrics."""
+        metrics = self.site.metrics(1)
+        self.assertGreaterEqual(metrics['cluster_requests_total{kind="put",outcome="done",cause="none"}'], 2)
+        self.assertGreaterEqual(metrics['cluster_request_seconds_count{kind="put"}'], 2)
+        self.assertGreater(metrics["cluster_fsync_seconds_count"], 0)
+        self.assertEqual(metrics['cluster_incarnation{place="2"}'], 2)
+        self.assertEqual(metrics["cluster_ready"], 1)
+        others = ["repair_rounds_total", "hints_pending", "slots", 'events_total{event="down"}']
+        for name in others:
+            self.assertIn(f"cluster_{name}", metrics)
+        for range_ in range(4):
+            for name in ("dirty_nodes", "entries", "queue_length"):
+                self.assertIn(f'cluster_{name}{{range="{range_}"}}', metrics)
+
+    def test_6_other_settings(self) -> None:
+        """A node with another ring is refused in one line at both, and serves nobody."""
+        site = self.site
+        site.done(3, "stop")
+        disk = site.room / "other-disk"
+        other = site.run(3, "foreground", site.other_ring, disk)
+        try:
+            until(lambda: "event settings_differ place=3" in site.log(1), "place 1 refuses place 3")
+            time.sleep(1.5)
+        finally:
+            other.kill()
+            printed, _ = other.communicate()
+        self.assertEqual(site.log(1).count("event settings_differ place=3"), 1)
+        self.assertEqual(printed.count("event settings_differ place=1"), 1)
+        self.assertNotIn("ready", printed)
+        self.assertEqual(site.put(1, "plate", "cake")["on"], [1, 2])
+
+    def test_7_stranger(self) -> None:
+        """A node with the cookie and a certificate of another authority reaches nobody."""
+        site = self.site
+        stranger = site.run(3, "foreground", site.stranger, site.room / "strange-disk")
+        try:
+            until(lambda: "Unknown CA" in site.log(1), "place 1 refuses the certificate")
+        finally:
+            stranger.kill()
+            printed, _ = stranger.communicate()
+        self.assertNotIn("ready", printed)
+
+    def test_7_a_guests(self) -> None:
+        """Garbage at the port of a node, and a node with another cookie, reach nothing, and harm nothing."""
+        site = self.site
+        pid = site.pid(1)
+        for text in (b"", b"GET / HTTP/1.1\r\n\r\n", secrets.token_bytes(100_000)):
+            with socket.create_connection((HOSTS[1], site.node_port(1)), STEP_S) as garbage:
+                try:
+                    garbage.sendall(text)
+                except ConnectionError:
+                    pass
+        guest = site.run(3, "foreground", site.guest, site.room / "guest-disk")
+        try:
+            time.sleep(3)
+        finally:
+            guest.kill()
+            printed, _ = guest.communicate()
+        self.assertNotIn("ready", printed)
+        self.assertEqual(site.pid(1), pid)
+        site.put(1, "bowl", "soup")
+
+    def test_8_wrong_settings(self) -> None:
+        """A node that can't start says why in one line."""
+        site = self.site
+        wrong = site.room / "wrong"
+        wrong.mkdir(mode=0o700)
+        for name in (".erlang.cookie", "ssl_dist.conf"):
+            (wrong / name).write_bytes((site.config / name).read_bytes())
+            (wrong / name).chmod(0o400)
+        text = (site.config / "sys.config").read_text()
+        cases = {
+            "the setting quorums is missing or wrong: {3,4,2}\n": ("{3, 2, 2}", "{3, 4, 2}"),
+            "the setting bits is missing or wrong: undefined\n": ("{bits, 2},", ""),
+            f"{wrong}/sys.config has no host of place 3\n": ("{3,", "{7,"),
+        }
+        for said, change in cases.items():
+            (wrong / "sys.config").write_text(text.replace(*change))
+            status, printed = site.done(3, "foreground", config=wrong, disk=site.room / "wrong-disk")
+            self.assertEqual((status, printed), (1, said))
+
+    def test_9_stop(self) -> None:
+        """A node that is stopped ends, and can be stopped again."""
+        site = self.site
+        self.assertEqual(site.done(1, "stop"), (0, ""))
+        with self.assertRaises(AssertionError):
+            site.pid(1)
+        self.assertEqual(site.done(1, "stop"), (0, ""))
+
+
+def main(out: Path) -> int:
+    """Runs the steps, and prints those that failed."""
+    with tempfile.TemporaryDirectory() as room:
+        Operate.site = Site(out, Path(room))
+        try:
+            suite = unittest.defaultTestLoader.loadTestsFromTestCase(Operate)
+            result = unittest.TextTestRunner(stream=sys.stderr, failfast=True).run(suite)
+            if not result.wasSuccessful():
+                for log in sorted(Path(room).glob("log-*")):
+                    print(f"{log}:\n{log.read_text()[-3000:]}", file=sys.stderr)
+        finally:
+            Operate.site.end()
+    failed = len(result.failures) + len(result.errors)
+    print(f"{result.testsRun - failed} passed, {failed} failed")
+    return 1 if failed else 0
+
+
+if __name__ == "__main__":
+    sys.exit(main(Path(sys.argv[1])))

@@ -1,0 +1,202 @@
+/* Exchanges with a partner: the loop of a sync. A replica takes all that a partner has; a partner that answers each ask
+ * for a leaf with the text of the first leaf, which is crowded, leaves that leaf alone (of a leaf that isn't asked for
+ * yet, such an answer would count as bad); and a sync under a deadline goes on later, after a put. The program prints
+ * how far each exchange is, and ends with status 1 if a call returns another number than the one wanted. */
+#include "antientropy.h"
+
+#include <stdio.h>
+#include <stdlib.h>
+#include <string.h>
+
+enum { FORMAT = 2, LIMIT = 10000, PARTNER = 2, OFFER = 7, KEYS = 40, ROOM = 1 << 16, DEPTH_AT = 5, LEAF_DEPTH = 3 };
+
+static const char *const reports[] = {"finished",      "waiting", "left",   "stopped", "too many bad",
+                                      "too many lost", "failed",  "closed", "gone"};
+static const struct antientropy_bounds bounds = {.asks = 8, .bytes = ROOM, .bad = 2, .lost = 4};
+static uint8_t offer[ANTIENTROPY_OFFER_LEN], ask[ANTIENTROPY_ASK_LEN], answer[ROOM];
+
+/* Ends the program if a call was refused. */
+static void ok(const char *call, uint32_t got)
+{
+    if (got != ANTIENTROPY_OK) {
+        printf("%s: %s\n", call, antientropy_strerror(got));
+        exit(1);
+    }
+}
+
+/* Puts a value for a key. */
+static void put(struct antientropy_replica *replica, uint64_t node, const char *key)
+{
+    const struct antientropy_pair none = {1, 1};
+    struct antientropy_receipt receipt;
+    ok("put", antientropy_put_read(replica, node, (const uint8_t *)key, strlen(key), &none, 0, ANTIENTROPY_LIVE,
+                                   (const uint8_t *)"milk", 4, &receipt));
+}
+
+/* Makes a replica that is whole, with values that a node put for some keys. */
+static void fill(struct antientropy_replica *replica, uint64_t node, unsigned keys)
+{
+    char key[16];
+    uint64_t left;
+    ok("new", antientropy_new(replica, FORMAT, 0, 0, LIMIT));
+    for (unsigned n = 0; n < keys; n++) {
+        snprintf(key, sizeof key, "key-%u", n);
+        put(replica, node, key);
+    }
+    ok("hold", antientropy_hold(replica));
+    do
+        ok("hash_moment", antientropy_hash_moment(replica, 1000, &left));
+    while (left > 0);
+}
+
+/* Makes the offer of a partner's moment. */
+static void offer_now(const struct antientropy_replica *partner, struct antientropy_snapshot *offered)
+{
+    uint64_t len;
+    ok("moment", antientropy_moment(partner, offered));
+    ok("offer", antientropy_offer(offered, OFFER, offer, sizeof offer, &len));
+}
+
+/* Prints how far an exchange is. */
+static void show(const char *name, struct antientropy_exchange *exchange, const struct antientropy_replica *replica)
+{
+    struct antientropy_progress progress;
+    ok("exchange_report", antientropy_exchange_report(exchange, replica, &progress));
+    printf("%s: %s, accepted %llu, bad %llu, lost %llu, on their way %llu\n", name, reports[progress.report],
+           (unsigned long long)progress.accepted, (unsigned long long)progress.bad, (unsigned long long)progress.lost,
+           (unsigned long long)progress.on_way);
+}
+
+/* Sends asks and takes the partner's answers, until there is no ask or `most` were sent. */
+static void sync_some(struct antientropy_exchange *exchange, struct antientropy_replica *replica,
+                      const struct antientropy_snapshot *offered, unsigned most)
+{
+    struct antientropy_verdict verdict;
+    uint64_t len;
+    for (unsigned sent = 0; sent < most; sent++) {
+        ok("exchange_next", antientropy_exchange_next(exchange, replica, ask, sizeof ask, &len));
+        if (len == 0)
+            break;
+        ok("serve", antientropy_serve(offered, OFFER, ask, len, answer, sizeof answer, &len));
+        ok("exchange_take", antientropy_exchange_take(exchange, replica, answer, len, &verdict));
+    }
+}
+
+/* Ends an exchange, and drops its session. */
+static void end(struct antientropy_exchange *exchange, struct antientropy_replica *replica)
+{
+    ok("exchange_close", antientropy_exchange_close(exchange, replica));
+    ok("drop_sessions", antientropy_drop_sessions(replica));
+    antientropy_exchange_free(exchange);
+}
+
+/* A sync of a replica with a partner. */
+static void sync_all(const struct antientropy_snapshot *offered)
+{
+    struct antientropy_replica replica = {0};
+    struct antientropy_exchange exchange = {0};
+    fill(&replica, 1, 4);
+    ok("exchange_open", antientropy_exchange_open(&replica, &exchange, PARTNER, offer, sizeof offer, &bounds));
+    sync_some(&exchange, &replica, offered, UINT32_MAX);
+    show("a sync", &exchange, &replica);
+    end(&exchange, &replica);
+    antientropy_free(&replica);
+}
+
+/* Accepts as many versions of a key as a key can have. */
+static void crowd(struct antientropy_replica *replica, const char *key)
+{
+    uint64_t taken, left;
+    for (unsigned node = 1; node <= ANTIENTROPY_VERSIONS_MAX; node++) {
+        struct antientropy_pair clock = {1000 + node, 1};
+        ok("accept", antientropy_accept(replica, (const uint8_t *)key, strlen(key), &clock, 1, ANTIENTROPY_LIVE,
+                                        (const uint8_t *)"milk", 4, &taken));
+    }
+    ok("hold", antientropy_hold(replica));
+    do
+        ok("hash_moment", antientropy_hash_moment(replica, 1000, &left));
+    while (left > 0);
+}
+
+/* Writes the key of the partner whose leaf is asked for first, and returns the leaf. */
+static uint64_t first_leaf(char *first, size_t room)
+{
+    struct antientropy_spot spot;
+    char key[16];
+    uint64_t least = ANTIENTROPY_LEAVES_2;
+    for (unsigned n = 0; n < KEYS; n++) {
+        snprintf(key, sizeof key, "key-%u", n);
+        ok("place", antientropy_place(FORMAT, 0, (const uint8_t *)key, strlen(key), &spot));
+        if (spot.leaf < least) {
+            least = spot.leaf;
+            snprintf(first, room, "%s", key);
+        }
+    }
+    return least;
+}
+
+/* A partner that answers each ask for a leaf with the text of the leaf of a crowded key. The other asks are lost. */
+static void sync_crowded(const struct antientropy_snapshot *offered)
+{
+    static uint8_t crowded[ROOM];
+    struct antientropy_replica replica = {0};
+    struct antientropy_exchange exchange = {0};
+    struct antientropy_verdict verdict;
+    struct antientropy_node node;
+    char key[16];
+    uint64_t len, crowded_len, leaf = first_leaf(key, sizeof key), count = 0;
+    const uint8_t of_leaf[] = {2, 0, 0, 0, OFFER, LEAF_DEPTH, (uint8_t)(leaf >> 8), (uint8_t)leaf};
+    ok("serve", antientropy_serve(offered, OFFER, of_leaf, sizeof of_leaf, crowded, sizeof crowded, &crowded_len));
+    fill(&replica, 1, 0);
+    crowd(&replica, key);
+    ok("exchange_open", antientropy_exchange_open(&replica, &exchange, PARTNER, offer, sizeof offer, &bounds));
+    while (ok("exchange_next", antientropy_exchange_next(&exchange, &replica, ask, sizeof ask, &len)), len > 0) {
+        if (ask[DEPTH_AT] == LEAF_DEPTH) {
+            ok("exchange_take", antientropy_exchange_take(&exchange, &replica, crowded, crowded_len, &verdict));
+        } else {
+            ok("serve", antientropy_serve(offered, OFFER, ask, len, answer, sizeof answer, &len));
+            ok("exchange_take", antientropy_exchange_take(&exchange, &replica, answer, len, &verdict));
+        }
+        if (verdict.verdict == ANTIENTROPY_VERDICT_LATE)
+            ok("exchange_lose", antientropy_exchange_lose(&exchange, ask, sizeof ask));
+    }
+    show("one crowded leaf", &exchange, &replica);
+    while (antientropy_exchange_left(&exchange, &replica, count, &node) == ANTIENTROPY_OK)
+        count += node.depth == LEAF_DEPTH && node.index == leaf;
+    printf("  left %llu: the crowded leaf\n", (unsigned long long)count);
+    end(&exchange, &replica);
+    antientropy_free(&replica);
+}
+
+/* A sync that stops at a deadline, and goes on in the same session after a put. */
+static void sync_later(const struct antientropy_snapshot *offered)
+{
+    struct antientropy_replica replica = {0};
+    struct antientropy_exchange exchange = {0};
+    struct antientropy_counts counts;
+    fill(&replica, 1, 4);
+    ok("exchange_open", antientropy_exchange_open(&replica, &exchange, PARTNER, offer, sizeof offer, &bounds));
+    sync_some(&exchange, &replica, offered, 20);
+    show("at the deadline", &exchange, &replica);
+    put(&replica, 1, "in between");
+    sync_some(&exchange, &replica, offered, UINT32_MAX);
+    show("later", &exchange, &replica);
+    ok("count", antientropy_count(&replica, &counts));
+    printf("  sessions %llu\n", (unsigned long long)counts.sessions);
+    end(&exchange, &replica);
+    antientropy_free(&replica);
+}
+
+int main(void)
+{
+    struct antientropy_replica partner = {0};
+    struct antientropy_snapshot offered = {0};
+    fill(&partner, 100, KEYS);
+    offer_now(&partner, &offered);
+    sync_all(&offered);
+    sync_crowded(&offered);
+    sync_later(&offered);
+    antientropy_snapshot_free(&offered);
+    antientropy_free(&partner);
+    return 0;
+}
