@@ -77,22 +77,29 @@ static void compare(const struct antientropy_replica *replica, const struct anti
     }
 }
 
-/* A replica with 64 open sessions, the maximum; a partner's snapshot; a message of each kind; the rows of a leaf. */
+/* A replica with 64 open sessions, the maximum, one of them that of an exchange that has asked for the root; a partner's
+ * snapshot; a message of each kind; the rows of a leaf. */
 static struct antientropy_replica replica, partner;
+static struct antientropy_exchange exchange;
 static struct antientropy_snapshot offered;
+static const struct antientropy_bounds bounds = {.asks = 8, .bytes = ROOM, .bad = UINT32_MAX, .lost = UINT32_MAX};
 static uint8_t offer[64], ask[64], answer[ROOM], rows[ROOM];
 static uint64_t offer_len, ask_len, answer_len, rows_len;
 
 static void prepare(void)
 {
-    uint64_t session = 0;
+    uint64_t session = 0, left;
     must("new", antientropy_new(&replica, 2, 0, 0, 1000));
     must("new", antientropy_new(&partner, 2, 0, 0, 1000));
     fill(&replica, 1, 2);
     fill(&partner, 2, 1);
     must("snapshot", antientropy_snapshot(&partner, &offered));
     must("offer", antientropy_offer(&offered, NUMBER, offer, sizeof offer, &offer_len));
-    for (unsigned n = 0; n < 64; n++)
+    must("hold", antientropy_hold(&replica));
+    must("hash_moment", antientropy_hash_moment(&replica, 10000, &left));
+    must("exchange_open", antientropy_exchange_open(&replica, &exchange, 2, offer, offer_len, &bounds));
+    must("exchange_next", antientropy_exchange_next(&exchange, &replica, ask, sizeof ask, &ask_len));
+    for (unsigned n = 1; n < 64; n++)
         must("open", antientropy_open(&replica, 2, offer, offer_len, &session));
     must("ask", antientropy_ask(&replica, session, NUMBER, ask, sizeof ask, &ask_len));
     must("serve", antientropy_serve(&offered, NUMBER, ask, ask_len, answer, sizeof answer, &answer_len));
@@ -115,13 +122,35 @@ static void bring_offer(const uint8_t *bytes, size_t len)
         fail("open", got);
 }
 
-/* Passes an ask, which may be a good one, of another node. */
+/* Opens an exchange with an offer, which is refused as `open` refuses it. */
+static void bring_exchange_offer(const uint8_t *bytes, size_t len)
+{
+    struct antientropy_exchange other = {0};
+    uint32_t got = antientropy_exchange_open(&replica, &other, 2, bytes, len, &bounds);
+    if (got != ANTIENTROPY_BAD_MESSAGE && got != ANTIENTROPY_OTHER_FORMAT && got != ANTIENTROPY_OTHER_RANGE
+        && got != ANTIENTROPY_SESSIONS_FULL)
+        fail("exchange_open", got);
+}
+
+/* Passes an ask, which may be a good one, of another node. To the exchange it is that, or of another offer, or none. */
 static void bring_ask(const uint8_t *bytes, size_t len)
 {
     uint64_t need;
     uint32_t got = antientropy_serve(&offered, NUMBER, bytes, len, out, sizeof out, &need);
     if (got != ANTIENTROPY_OK && got != ANTIENTROPY_BAD_MESSAGE && got != ANTIENTROPY_GONE)
         fail("serve", got);
+    uint32_t lost = antientropy_exchange_lose(&exchange, bytes, len);
+    if (lost != (got == ANTIENTROPY_BAD_MESSAGE ? ANTIENTROPY_BAD_MESSAGE : ANTIENTROPY_OK))
+        fail("exchange_lose", lost);
+}
+
+/* Passes an answer to the exchange: it is bad, or of another offer. */
+static void bring_exchange_answer(const uint8_t *bytes, size_t len)
+{
+    struct antientropy_verdict verdict;
+    must("exchange_take", antientropy_exchange_take(&exchange, &replica, bytes, len, &verdict));
+    if (verdict.verdict != ANTIENTROPY_VERDICT_BAD && verdict.verdict != ANTIENTROPY_VERDICT_LATE)
+        fail("the verdict", (uint32_t)verdict.verdict);
 }
 
 /* Passes an answer, which must be refused. */
@@ -164,8 +193,10 @@ static void bring_rows(const uint8_t *bytes, size_t len)
 static void bring(const uint8_t *bytes, size_t len)
 {
     bring_offer(bytes, len);
+    bring_exchange_offer(bytes, len);
     bring_ask(bytes, len);
     bring_answer(bytes, len);
+    bring_exchange_answer(bytes, len);
 }
 
 /* Changes some bytes of a message, and may cut it or add a byte. Returns its new length. */
@@ -226,12 +257,15 @@ int main(int argc, char **argv)
     compare(&replica, &counts);
     printf("16 MiB of hostile bytes: refused, and nothing changed\n");
     mutations(count, offer, offer_len, bring_offer);
+    mutations(count, offer, offer_len, bring_exchange_offer);
     mutations(count, ask, ask_len, bring_ask);
     mutations(count, answer, answer_len, bring_answer);
+    mutations(count, answer, answer_len, bring_exchange_answer);
     mutations(count, rows, rows_len, bring_rows);
     bring_rows(rows, rows_len);
     compare(&replica, &counts);
     printf("mutated messages and rows, %u for each call: refused, and nothing changed\n", count);
+    antientropy_exchange_free(&exchange);
     antientropy_snapshot_free(&offered);
     antientropy_free(&replica);
     antientropy_free(&partner);

@@ -2,5 +2,6 @@ pub mod StandingLaws
 pub mod FairLaws
 pub mod SortLaws
 pub mod StepLaws
+pub mod TrueLaws
 pub mod JudgedLaws
 pub mod DryLaws

@@ -61,6 +61,14 @@ next_is x w p e = by (is_some x.stop || is_over x) refl e
         let parts = or_parts (is_some x.stop) (is_over x) is in
         record { may = first_may x.standings w.outstanding p.0 (fitting_is x w.own (first_askable x.standings w.outstanding) p some); stop = no_stop x.stop parts.0; over = parts.1 }
 
+-- it is the first of the outstanding nodes that may be asked
+pub next_first : (x : Course) (w : Walk) (p : Node × ℕ) → next_in x w ≡ Some p → first_askable x.standings w.outstanding ≡ Some p.0
+next_first x w p e = by (is_some x.stop || is_over x) e
+  where
+    by : (b : Bool) → (if b then None else fitting x w.own (first_askable x.standings w.outstanding)) ≡ Some p → first_askable x.standings w.outstanding ≡ Some p.0
+    by true none = absurd (cc)
+    by false some = fitting_is x w.own (first_askable x.standings w.outstanding) p some
+
 -- a fair course with the bounds and the number of nodes of another one
 pub record Follows (x y : Course) : Type 0 where
   pub fair : IsFair y
@@ -121,7 +129,7 @@ follow_judged x n leaf len (Err refusals.JournalFull) fair over may = record { f
 follow_judged x n leaf len (Err refusals.NoMemory) fair over may = record { fair = fair_refused x n stops.NoMemory fair; bounds = refl; nodes = (losing x.standings n).len }
 follow_judged x n leaf len (Err e) fair over may = same x fair
 
-follow : (x : Course) (step : Step) → IsFair x → May x step → Follows x (after x step)
+pub follow : (x : Course) (step : Step) → IsFair x → May x step → Follows x (after x step)
 follow x (Asks w) fair may = follow_ask x w fair
 follow x (Loses n) fair may = follow_loss x n fair
 follow x GoesOn fair may = follow_on x fair
@@ -137,7 +145,7 @@ follow_all x (step ∷ steps) fair may =
 
 -- ---- the start
 
-none_counted : (p : Standing → Bool) (n : ℕ) → p standings.Unasked ≡ false → count_by p (replicate n standings.Unasked) ≡ 0
+pub none_counted : (p : Standing → Bool) (n : ℕ) → p standings.Unasked ≡ false → count_by p (replicate n standings.Unasked) ≡ 0
 none_counted p zero e = refl
 none_counted p (suc n) e = sum_by-cons {X = Standing} (λ s. one (p s)) standings.Unasked (replicate n standings.Unasked) ∙ omega (arith, none_counted p n e, ap one e)
 
@@ -145,7 +153,7 @@ few_nodes : (f : Format) → node_count f ≤ 4369
 few_nodes One = omega arith
 few_nodes Two = omega arith
 
-at_start_fair : (offer : Offer) (bounds : Bounds) (f : Format) → IsFair (at_start offer bounds f)
+pub at_start_fair : (offer : Offer) (bounds : Bounds) (f : Format) → IsFair (at_start offer bounds f)
 at_start_fair offer bounds f =
     let lost : count_by is_lost (unasked f) ≡ 0 = none_counted is_lost (node_count f) refl in let way : count_by is_on_way (unasked f) ≡ 0 = none_counted is_on_way (node_count f) refl in let len : length (unasked f) ≡ node_count f = length-replicate (node_count f) standings.Unasked in
     record {

@@ -4,4 +4,5 @@ pub mod Asks
 pub mod Answers
 pub mod Exchanges
 pub mod Steps
+pub mod TruePartners
 pub mod Dry

@@ -1,10 +1,12 @@
 //! Laws of exchanges, proved from the definitions.
-ghost use Rattle.std.specs.Prelude.{◌≡◌, ◌+◌, ◌≤◌, ℕ, false, List, Some, None, slice_get};
+ghost use Rattle.std.specs.Prelude.{◌≡◌, ◌+◌, ◌≤◌, ℕ, false, List, length, Some, None, slice_get};
 ghost use Rattle.vclock.specs.declared.format.Format.{Format};
 ghost use Rattle.vclock.specs.declared.refusal.Refusal.TheVariants as refusals;
 ghost use Rattle.tree_nodes.specs.Nodes.{Node, node_count};
 ghost use Rattle.walk_messages.specs.declared.message.Answer.{Answer};
 ghost use Rattle.walk_messages.specs.declared.message.Offer.{Offer};
+ghost use Rattle.snapshot.specs.RowMaps.{RowMap};
+ghost use Rattle.sync_session.specs.Differing.{differ};
 ghost use Rattle.sync_session.specs.Walks.{Walk};
 ghost use Rattle.sync_session.specs.declared.state.SessionState.TheVariants as states;
 ghost use Rattle.range_state.specs.State.{State};
@@ -21,6 +23,7 @@ ghost use Rattle.exchange.specs.Courses.{Course};
 ghost use Rattle.exchange.specs.Asks.{next_in};
 ghost use Rattle.exchange.specs.Exchanges.{IsJudged};
 ghost use Rattle.exchange.specs.Steps.{Step, MayAll, after_all, at_start};
+ghost use Rattle.exchange.specs.TruePartners.{AreTrueSteps, AsksFew};
 
 /// Whatever a partner sends, and whatever the owner calls, an exchange sends at most as many asks as the tree has
 /// nodes, and the bounds allow bad answers and lost asks.
@@ -28,6 +31,14 @@ pub fn asks_are_bounded()
     ensures { (offer : Offer) (bounds : Bounds) (format : Format) (steps : List Step)
         → MayAll (at_start offer bounds format) steps
         → (after_all (at_start offer bounds format) steps).tally.asks ≤ node_count format + bounds.bad + bounds.lost }
+{}
+
+/// With a true partner, an exchange asks only for nodes at which the trees differ: it sends at most as many asks as there
+/// are such nodes, bad answers, lost asks, and answers that there was no room for.
+pub fn asks_of_a_true_partner_are_few()
+    ensures { (offer : Offer) (bounds : Bounds) (own other : RowMap) (steps : List Step)
+        → MayAll (at_start offer bounds own.format) steps → AreTrueSteps own other steps
+        → AsksFew (length (differ own other)) (after_all (at_start offer bounds own.format) steps).tally }
 {}
 
 /// The node of the next ask isn't on its way, and wasn't left.

@@ -2,6 +2,7 @@
 //! of memory in turn. Each call then returns NoMemory, or its result with ample memory. After NoMemory the value that
 //! was to be changed is unchanged; a call of many steps keeps the steps that are done.
 mod events;
+mod exchanges;
 mod hints;
 mod histories;
 mod leaves;
@@ -47,5 +48,6 @@ pub(crate) fn show_all<R: Print + AllocGlobal + Threads + Sync>(rt: &R) -> io::R
     sessions::show_all(rt, &both)?;
     range_sessions::show_all(rt, &both)?;
     moments::show_all(rt, &both)?;
+    exchanges::show_all(rt, &both)?;
     receipts::show_all(rt, &both)
 }

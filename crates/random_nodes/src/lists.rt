@@ -16,7 +16,7 @@ where
 {
     let alloc = rt.alloc();
     let mut random = Random::new(seed);
-    let setup = Setup::draw(&mut random);
+    let setup = Setup::draw(&mut random, seed);
     let result = match setup.draw_steps(alloc, &mut random, count) {
         Ok(steps) => run_steps(rt, alloc, &setup, &steps, tally),
         Err(refusal) => Err(Trouble::from(refusal)),

@@ -1,15 +1,17 @@
 //! Ranges for one thread. Their methods have no clauses, so a function that calls them carries no facts about a range,
 //! and is proved fast.
 
+use exchange::{Bounds, Exchange, Report, Verdict};
 use plain_model::plain::{Part, PlainRange, are_equal, is_entry, key_bytes};
 use plain_model::trouble::{Trouble, expect};
 use plain_model::walks::Walk;
-use range_journal::Journal;
-use range_state::{RangeConfig, RangeState, Reconciled, Record, reconcile};
+use range_journal::{Journal, Source};
+use range_state::{Accepted, RangeConfig, RangeState, Reconciled, Record, reconcile};
 use std::alloc::Global;
 use tree_nodes::{Digest, NodeAt};
 use vclock::{Format, Refusal};
 use version_set::Version;
+use walk_messages::Offer;
 
 /// A range for one thread.
 pub(crate) struct Range {
@@ -74,6 +76,79 @@ impl Range {
     /// Drops the records of ended sessions.
     pub(crate) fn drop_ended_sessions(&mut self) {
         self.state.drop_ended_sessions();
+    }
+
+    /// Accepts a version as a copy.
+    pub(crate) fn copy(
+        &mut self,
+        alloc: Global,
+        seat: u16,
+        key: &[u8],
+        version: Version,
+    ) -> Result<Accepted, Refusal> {
+        self.state.accept(alloc, seat, Source::Copy, key, version)
+    }
+
+    /// Holds the rows now as a moment, and hashes it.
+    pub(crate) fn hold(&mut self, alloc: Global) -> Result<(), Refusal> {
+        let _before = self.state.hold_moment(alloc)?;
+        for _level in 0..4 {
+            self.state.hash_moment(alloc, 10_000)?;
+        }
+        Ok(())
+    }
+
+    /// Begins anew with the versions held.
+    pub(crate) fn renew(&mut self, alloc: Global, seat: u16, limit: u64) -> Result<(), Refusal> {
+        self.state = self.state.renewed(alloc, seat, limit)?;
+        Ok(())
+    }
+
+    /// Migrates to format 2, unless it has that format.
+    pub(crate) fn migrate(&mut self, alloc: Global) -> Result<(), Refusal> {
+        self.state.migrate(alloc)
+    }
+
+    /// Opens an exchange with a partner's offer.
+    pub(crate) fn open_exchange(
+        &mut self,
+        alloc: Global,
+        partner: u16,
+        offer: Offer,
+        bounds: Bounds,
+    ) -> Result<Exchange, Refusal> {
+        Exchange::open(alloc, &mut self.state, partner, offer, bounds)
+    }
+
+    /// Returns the node that an exchange asks next.
+    pub(crate) fn next_ask(&self, exchange: &mut Exchange) -> Option<NodeAt> {
+        Some(exchange.next(&self.state)?.node)
+    }
+
+    /// Hands an answer to an exchange.
+    pub(crate) fn take_answer(
+        &mut self,
+        alloc: Global,
+        exchange: &mut Exchange,
+        seat: u16,
+        bytes: &[u8],
+    ) -> Verdict {
+        exchange.take(alloc, &mut self.state, seat, bytes)
+    }
+
+    /// Returns how far an exchange is.
+    pub(crate) fn report_of(&self, exchange: &Exchange) -> Report {
+        exchange.report(&self.state)
+    }
+
+    /// Returns a leaf that an exchange left, by its place among them.
+    pub(crate) fn left_at(&self, exchange: &Exchange, place: usize) -> Option<NodeAt> {
+        exchange.left(&self.state, place)
+    }
+
+    /// Closes an exchange.
+    pub(crate) fn close_exchange(&mut self, exchange: &mut Exchange) {
+        exchange.close(&mut self.state);
     }
 
     /// Compares each session with its walk, and its number.

@@ -138,11 +138,13 @@ pub(crate) struct Setup {
     pub(crate) crowd: u64,
     /// True if the nodes sync to rest at the end. Otherwise they are reconciled after their close.
     pub(crate) rests: bool,
+    /// The seed of what is drawn for the exchanges after the close.
+    pub(crate) salt: u64,
 }
 
 impl Setup {
-    /// Draws the conditions of a list.
-    pub(crate) fn draw(random: &mut Random) -> Setup {
+    /// Draws the conditions of the list of a seed.
+    pub(crate) fn draw(random: &mut Random, seed: u64) -> Setup {
         let format = if random.once_in(12) {
             Format::Two
         } else {
@@ -163,6 +165,7 @@ impl Setup {
                 _ => 0,
             },
             rests: random.once_in(2),
+            salt: !seed,
         }
     }
 

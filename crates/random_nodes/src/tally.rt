@@ -1,9 +1,10 @@
-//! The counts of the steps and the syncs of lists.
+//! The counts of the steps, the syncs and the exchanges of lists.
 
 use crate::walking::Outcome;
+use exchange::Report;
 use std::fmt;
 
-/// The counts of steps by their depth, and of syncs by their outcome.
+/// The counts of steps by their depth, of syncs by their outcome, and of exchanges by their last report.
 #[derive(Clone, Copy)]
 pub(crate) struct Tally {
     steps: [u64; 4],
@@ -11,6 +12,18 @@ pub(crate) struct Tally {
     failed: u64,
     cancelled: u64,
     refused: u64,
+    exchanges: Exchanges,
+}
+
+/// The counts of exchanges.
+#[derive(Clone, Copy)]
+struct Exchanges {
+    finished: u64,
+    left: u64,
+    stopped: u64,
+    spent: u64,
+    failed: u64,
+    gone: u64,
 }
 
 impl Tally {
@@ -22,6 +35,14 @@ impl Tally {
             failed: 0,
             cancelled: 0,
             refused: 0,
+            exchanges: Exchanges {
+                finished: 0,
+                left: 0,
+                stopped: 0,
+                spent: 0,
+                failed: 0,
+                gone: 0,
+            },
         }
     }
 
@@ -43,6 +64,20 @@ impl Tally {
         *count = count.wrapping_add(1);
     }
 
+    /// Counts an exchange by its report before it was closed.
+    pub(crate) fn count_exchange(&mut self, report: Report) {
+        let exchanges = &mut self.exchanges;
+        let count = match report {
+            Report::Finished => &mut exchanges.finished,
+            Report::Left | Report::Waiting => &mut exchanges.left,
+            Report::Stopped(_) => &mut exchanges.stopped,
+            Report::TooManyBad | Report::TooManyLost => &mut exchanges.spent,
+            Report::Failed => &mut exchanges.failed,
+            Report::Gone | Report::Closed => &mut exchanges.gone,
+        };
+        *count = count.wrapping_add(1);
+    }
+
     /// Returns the number of finished syncs.
     pub(crate) fn finished(&self) -> u64 {
         self.finished
@@ -57,6 +92,13 @@ impl Tally {
         self.failed = self.failed.wrapping_add(other.failed);
         self.cancelled = self.cancelled.wrapping_add(other.cancelled);
         self.refused = self.refused.wrapping_add(other.refused);
+        let (exchanges, more) = (&mut self.exchanges, &other.exchanges);
+        exchanges.finished = exchanges.finished.wrapping_add(more.finished);
+        exchanges.left = exchanges.left.wrapping_add(more.left);
+        exchanges.stopped = exchanges.stopped.wrapping_add(more.stopped);
+        exchanges.spent = exchanges.spent.wrapping_add(more.spent);
+        exchanges.failed = exchanges.failed.wrapping_add(more.failed);
+        exchanges.gone = exchanges.gone.wrapping_add(more.gone);
     }
 }
 
@@ -68,6 +110,17 @@ impl fmt::Display for Tally {
             f,
             "{} syncs finished, {} failed, {} cancelled, {} refused",
             self.finished, self.failed, self.cancelled, self.refused
+        )?;
+        let exchanges = &self.exchanges;
+        write!(
+            f,
+            "; {} exchanges finished, {} with leaves left, {} stopped, {} out of bounds, {} failed, {} gone",
+            exchanges.finished,
+            exchanges.left,
+            exchanges.stopped,
+            exchanges.spent,
+            exchanges.failed,
+            exchanges.gone
         )
     }
 }

@@ -2,6 +2,7 @@
 ghost use Rattle.std.specs.Prelude.{◌≡◌, ◌<◌};
 
 use crate::deliveries::check_pending;
+use crate::exchanges::exchange_with;
 use crate::inner::Inner;
 use crate::node::{Made, Node, Parts, Rest};
 use crate::pairs::{Closed, check_equal, reconcile_both};
@@ -14,6 +15,7 @@ use crate::tally::Tally;
 use crate::world::World;
 use plain_model::draws::{LAST, crowd_version};
 use plain_model::plain::Part;
+use plain_model::random::Random;
 use plain_model::trouble::{Trouble, expect};
 use ring_node::{Gate, OpenGate};
 use std::alloc::Global;
@@ -125,7 +127,7 @@ impl<L: Ledger, M: Ledger, N: Ledger, C: Ledger> World<L, M, N, C> {
         if setup.rests {
             world.come_to_rest(rt, setup)?;
         }
-        world.close(rt, setup.rests)
+        world.close(rt, setup)
     }
 
     /// Does steps up to the next renewal, and returns its node and its kind; or up to the last step.
@@ -312,9 +314,10 @@ impl<L: Ledger, M: Ledger, N: Ledger, C: Ledger> World<L, M, N, C> {
         )
     }
 
-    /// Closes the ranges, and returns the counts. Reconciles them if they aren't at rest.
-    fn close<R: Wait>(self, rt: &R, rests: bool) -> Result<Tally, Trouble> {
-        let tally = self.schedule.tally(rt);
+    /// Closes the ranges, and returns the counts. Each takes from the next one by an exchange. Then reconciles them if
+    /// they weren't at rest.
+    fn close<R: Wait>(self, rt: &R, setup: &Setup) -> Result<Tally, Trouble> {
+        let mut tally = self.schedule.tally(rt);
         for owner in 1..4u16 {
             check_pending(rt, self.alloc, &self.one, owner)?;
             check_pending(rt, self.alloc, &self.two, owner)?;
@@ -334,7 +337,11 @@ impl<L: Ledger, M: Ledger, N: Ledger, C: Ledger> World<L, M, N, C> {
         one.check(alloc)?;
         two.check(alloc)?;
         three.check(alloc)?;
-        if !rests {
+        let mut random = Random::new(setup.salt);
+        exchange_with(alloc, &mut random, &mut one, &mut two, &mut tally)?;
+        exchange_with(alloc, &mut random, &mut two, &mut three, &mut tally)?;
+        exchange_with(alloc, &mut random, &mut three, &mut one, &mut tally)?;
+        if !setup.rests {
             reconcile_both(alloc, &mut one, &mut two)?;
             reconcile_both(alloc, &mut two, &mut three)?;
             reconcile_both(alloc, &mut three, &mut one)?;

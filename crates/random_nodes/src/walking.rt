@@ -184,50 +184,16 @@ impl Progress {
                 return Ok(());
             }
         };
-        let text = text_of(alloc, here, id, answer.node)?;
-        match fault_of(here, id, answer.node, answer.text, &text) {
-            None => self.take_text(alloc, here, id, answer),
-            Some(Fault::NotCanonical) => {
-                end(here, id, SessionState::Failed);
-                Ok(())
+        match take_text(alloc, here, id, self.seat, answer)? {
+            Ok((accepted, known)) => {
+                self.accepted = self.accepted.wrapping_add(accepted);
+                self.known = self.known.wrapping_add(known);
             }
-            Some(_) => {
-                self.bad = self.bad.wrapping_add(1);
-                Ok(())
-            }
+            Err(Fault::NotCanonical) => {}
+            Err(fault @ (Fault::Crowded | Fault::JournalFull)) => self.refuse(fault),
+            Err(_) => self.bad = self.bad.wrapping_add(1),
         }
-    }
-
-    /// Takes the text of a node, with the versions of a leaf.
-    fn take_text(
-        &mut self,
-        alloc: Global,
-        here: &mut Mirror,
-        id: usize,
-        answer: PlainAnswer<'_>,
-    ) -> Result<(), Trouble> {
-        let node = answer.node;
-        if let Some(tree) = leaf_tree(here, id, node)? {
-            match here.plain.take_leaf(alloc, self.seat, &tree, node.index)? {
-                Ok(taken) => {
-                    self.accepted = self.accepted.wrapping_add(taken.news.len() as u64);
-                    self.known = self.known.wrapping_add(taken.known);
-                    here.add_all(&taken.news)?;
-                }
-                Err(fault) => {
-                    self.refuse(fault);
-                    return Ok(());
-                }
-            }
-        }
-        let sent = Sent {
-            node,
-            text: Vec::from_slice(alloc, answer.text)?,
-        };
-        match here.walks.get_mut(id) {
-            Some(walk) => walk.take(sent),
-            None => Err(Trouble::Differs("the number of sessions")),
-        }
+        Ok(())
     }
 
     /// Compares the end of the sync. `gained` is the number of receipts that the pass got.
@@ -279,8 +245,43 @@ impl Progress {
     }
 }
 
+/// Hands a text for a node to a session, with the versions of a leaf, and returns the numbers of new and of known
+/// versions; or the reason why it isn't taken.
+pub(crate) fn take_text(
+    alloc: Global,
+    here: &mut Mirror,
+    id: usize,
+    seat: u16,
+    answer: PlainAnswer<'_>,
+) -> Result<Result<(u64, u64), Fault>, Trouble> {
+    let node = answer.node;
+    let partners = text_of(alloc, here, id, node)?;
+    if let Some(fault) = fault_of(here, id, node, answer.text, &partners) {
+        if matches!(fault, Fault::NotCanonical) {
+            end(here, id, SessionState::Failed);
+        }
+        return Ok(Err(fault));
+    }
+    let (mut accepted, mut known) = (0, 0);
+    if let Some(tree) = leaf_tree(here, id, node)? {
+        match here.plain.take_leaf(alloc, seat, &tree, node.index)? {
+            Ok(taken) => {
+                (accepted, known) = (taken.news.len() as u64, taken.known);
+                here.add_all(&taken.news)?;
+            }
+            Err(fault) => return Ok(Err(fault)),
+        }
+    }
+    let text = Vec::from_slice(alloc, answer.text)?;
+    match here.walks.get_mut(id) {
+        Some(walk) => walk.take(Sent { node, text })?,
+        None => return Err(Trouble::Differs("the number of sessions")),
+    }
+    Ok(Ok((accepted, known)))
+}
+
 /// Returns the reason why an offer is refused, if there is one.
-fn offer_fault(here: &Mirror, offer: &PlainOffer, has_rows: bool) -> Option<Fault> {
+pub(crate) fn offer_fault(here: &Mirror, offer: &PlainOffer, has_rows: bool) -> Option<Fault> {
     if offer.format != format_number(here.plain.format) {
         Some(Fault::OtherFormat)
     } else if offer.range != here.plain.part.number() {

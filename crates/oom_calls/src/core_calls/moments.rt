@@ -35,7 +35,7 @@ pub(crate) fn show_all<R: Print + AllocGlobal + Threads + Sync>(
 }
 
 /// Returns the clean range, which keeps its rows as its moment.
-fn held_range(rt: &(impl Threads + Sync), alloc: Global) -> Result<RangeState, Refusal> {
+pub(crate) fn held_range(rt: &(impl Threads + Sync), alloc: Global) -> Result<RangeState, Refusal> {
     let mut state = clean_range(rt, alloc)?;
     state.hold_moment(alloc)?;
     Ok(state)

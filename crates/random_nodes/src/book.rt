@@ -1,0 +1,339 @@
+//! The asks and the counts of an exchange, by the definitions.
+
+use exchange::{Bounds, Report, Stop, Tally};
+use plain_model::plain::Fault;
+use plain_model::trouble::Trouble;
+use plain_model::walks::Walk;
+use std::alloc::Global;
+use sync_session::SessionState;
+use tree_nodes::NodeAt;
+
+/// The size in bytes of the text of an inner node: a byte and 16 digests.
+const INNER_LEN: u64 = 513;
+
+/// The maximum number of asks on their way with one for a leaf, while no leaf was taken.
+const FIRST_LEAVES: u64 = 16;
+
+/// How far the ask for a node is.
+#[derive(Clone, Copy, PartialEq, Eq)]
+pub(crate) enum Way {
+    /// It is on its way. Its answer is expected to have so many bytes.
+    Open(u64),
+    Lost,
+    Left,
+    Settled,
+}
+
+/// A node that was asked, and how far the last ask for it is.
+#[derive(Clone, Copy)]
+struct Asked {
+    node: NodeAt,
+    way: Way,
+}
+
+/// An answer that a session took: the numbers of its new and of its known versions, and the session's state after it.
+#[derive(Clone, Copy)]
+pub(crate) struct Took {
+    pub(crate) accepted: u64,
+    pub(crate) known: u64,
+    pub(crate) state: SessionState,
+}
+
+/// What became of an answer.
+#[derive(Clone, Copy)]
+pub(crate) enum Ruling {
+    Taken(Took),
+    Left,
+    Bad(Fault),
+    Late,
+    Refused,
+    Failed,
+}
+
+/// The book of an exchange.
+pub(crate) struct Book {
+    bounds: Bounds,
+    asked: Vec<Asked>,
+    pub(crate) tally: Tally,
+    is_stopped: bool,
+    end: Option<Report>,
+}
+
+impl Book {
+    /// Returns the book of an exchange that has asked nothing. `end` is its end, if it has nothing to ask.
+    pub(crate) fn new(alloc: Global, bounds: Bounds, end: Option<Report>) -> Book {
+        Book {
+            bounds,
+            asked: Vec::new(alloc),
+            tally: Tally {
+                asks: 0,
+                bad: 0,
+                lost: 0,
+                refused: 0,
+                accepted: 0,
+                known: 0,
+                leaves: 0,
+                leaf_bytes: 0,
+            },
+            is_stopped: false,
+            end,
+        }
+    }
+
+    /// Returns how far the ask for a node is, or `None` if it was never asked.
+    pub(crate) fn way(&self, node: NodeAt) -> Option<Way> {
+        for asked in &self.asked {
+            if asked.node == node {
+                return Some(asked.way);
+            }
+        }
+        None
+    }
+
+    /// Changes how far the ask for a node is.
+    fn set(&mut self, node: NodeAt, way: Way) -> Result<(), Trouble> {
+        for asked in self.asked.iter_mut() {
+            if asked.node == node {
+                asked.way = way;
+                return Ok(());
+            }
+        }
+        self.asked.push(Asked { node, way })?;
+        Ok(())
+    }
+
+    /// Returns the number of asks on their way, and the number of bytes that their answers are expected to have.
+    pub(crate) fn on_way(&self) -> (u64, u64) {
+        let (mut count, mut bytes) = (0u64, 0u64);
+        for asked in &self.asked {
+            if let Way::Open(size) = asked.way {
+                count = count.wrapping_add(1);
+                bytes = bytes.wrapping_add(size);
+            }
+        }
+        (count, bytes)
+    }
+
+    /// Returns true if it has ended, or there were too many bad answers or lost asks.
+    pub(crate) fn is_over(&self) -> bool {
+        self.end.is_some() || self.has_too_many_bad() || self.has_too_many_lost()
+    }
+
+    /// Returns true if it has ended.
+    pub(crate) fn has_ended(&self) -> bool {
+        self.end.is_some()
+    }
+
+    /// Returns true if too many answers were bad.
+    fn has_too_many_bad(&self) -> bool {
+        self.tally.bad > u64::from(self.bounds.bad)
+    }
+
+    /// Returns true if too many asks were lost.
+    fn has_too_many_lost(&self) -> bool {
+        self.tally.lost > u64::from(self.bounds.lost)
+    }
+
+    /// Returns the node to ask next, if there is one: the first outstanding node whose ask isn't on its way, and that
+    /// wasn't left. It is asked then.
+    pub(crate) fn next(
+        &mut self,
+        alloc: Global,
+        walk: Option<&Walk>,
+    ) -> Result<Option<NodeAt>, Trouble> {
+        let Some(walk) = walk else {
+            return Ok(None);
+        };
+        if self.is_stopped || self.is_over() {
+            return Ok(None);
+        }
+        let Some(node) = self.askable(&walk.outstanding) else {
+            return Ok(None);
+        };
+        let is_leaf = walk.is_leaf(node);
+        let bytes = if is_leaf {
+            self.leaf_size(walk.own.text(alloc, node)?.len() as u64)
+        } else {
+            INNER_LEN
+        };
+        if !self.has_room(is_leaf, bytes) {
+            return Ok(None);
+        }
+        self.set(node, Way::Open(bytes))?;
+        self.tally.asks = self.tally.asks.wrapping_add(1);
+        Ok(Some(node))
+    }
+
+    /// Returns the first of these nodes that may be asked.
+    fn askable(&self, nodes: &[NodeAt]) -> Option<NodeAt> {
+        for node in nodes {
+            if matches!(self.way(*node), None | Some(Way::Lost)) {
+                return Some(*node);
+            }
+        }
+        None
+    }
+
+    /// Returns the expected size of a leaf's text: that of the local rows, which is the local text without its first
+    /// byte, or the mean of the leaves that were taken if that is more.
+    fn leaf_size(&self, local_text: u64) -> u64 {
+        let mean = self
+            .tally
+            .leaf_bytes
+            .checked_div(self.tally.leaves)
+            .unwrap_or(0);
+        local_text.saturating_sub(1).max(mean)
+    }
+
+    /// Returns true if one more ask may be on its way, whose answer has so many bytes.
+    fn has_room(&self, is_leaf: bool, bytes: u64) -> bool {
+        let (count, sum) = self.on_way();
+        let mut most = u64::from(self.bounds.asks);
+        if is_leaf && self.tally.leaves == 0 {
+            most = most.min(FIRST_LEAVES);
+        }
+        count == 0 || (count < most && sum.saturating_add(bytes) <= self.bounds.bytes)
+    }
+
+    /// Takes the ask for a node as lost if it is on its way. Returns true if it was.
+    fn miss(&mut self, node: NodeAt) -> Result<bool, Trouble> {
+        let is_open = matches!(self.way(node), Some(Way::Open(_)));
+        if is_open {
+            self.set(node, Way::Lost)?;
+        }
+        Ok(is_open)
+    }
+
+    /// Counts the ask for a node as lost, if it is on its way.
+    pub(crate) fn lose(&mut self, node: NodeAt) -> Result<(), Trouble> {
+        if !self.is_over() && self.miss(node)? {
+            self.tally.lost = self.tally.lost.wrapping_add(1);
+        }
+        Ok(())
+    }
+
+    /// Goes on after there was no room. The asks whose answers were refused count as lost.
+    pub(crate) fn go_on(&mut self) {
+        if !self.is_over() {
+            self.tally.lost = self.tally.lost.wrapping_add(self.tally.refused);
+            self.tally.refused = 0;
+            self.is_stopped = false;
+        }
+    }
+
+    /// Ends it, if it hasn't ended.
+    pub(crate) fn close(&mut self) {
+        self.end = self.end.or(Some(Report::Closed));
+    }
+
+    /// Counts a bad answer.
+    pub(crate) fn count_bad(&mut self, fault: Fault) -> Ruling {
+        self.tally.bad = self.tally.bad.wrapping_add(1);
+        Ruling::Bad(fault)
+    }
+
+    /// Counts an answer that the session took: the text of a leaf of this length, or of an inner node.
+    pub(crate) fn take(
+        &mut self,
+        node: NodeAt,
+        leaf_len: Option<u64>,
+        took: Took,
+    ) -> Result<Ruling, Trouble> {
+        self.set(node, Way::Settled)?;
+        self.tally.accepted = self.tally.accepted.wrapping_add(took.accepted);
+        self.tally.known = self.tally.known.wrapping_add(took.known);
+        if let Some(len) = leaf_len {
+            self.tally.leaves = self.tally.leaves.wrapping_add(1);
+            self.tally.leaf_bytes = self.tally.leaf_bytes.wrapping_add(len);
+        }
+        if took.state == SessionState::Finished {
+            self.end = Some(Report::Finished);
+        }
+        Ok(Ruling::Taken(took))
+    }
+
+    /// Counts an answer that the session didn't take.
+    pub(crate) fn refuse(&mut self, node: NodeAt, fault: Fault) -> Result<Ruling, Trouble> {
+        match fault {
+            Fault::WrongDigest => {
+                self.miss(node)?;
+                Ok(self.count_bad(fault))
+            }
+            Fault::NotCanonical => {
+                self.end = Some(Report::Failed);
+                Ok(Ruling::Failed)
+            }
+            Fault::Crowded => {
+                self.set(node, Way::Left)?;
+                Ok(Ruling::Left)
+            }
+            Fault::JournalFull => {
+                if self.miss(node)? {
+                    self.tally.refused = self.tally.refused.wrapping_add(1);
+                }
+                self.is_stopped = true;
+                Ok(Ruling::Refused)
+            }
+            _ => {
+                self.set(node, Way::Settled)?;
+                Ok(Ruling::Late)
+            }
+        }
+    }
+
+    /// Returns how far the exchange is.
+    pub(crate) fn report(&self, walk: Option<&Walk>) -> Report {
+        if let Some(end) = self.end {
+            return end;
+        }
+        match walk {
+            Some(walk) if walk.state == SessionState::Open => self.open_report(walk),
+            _ => Report::Gone,
+        }
+    }
+
+    /// Returns how far the exchange of an open session is.
+    fn open_report(&self, walk: &Walk) -> Report {
+        if self.has_too_many_bad() {
+            return Report::TooManyBad;
+        }
+        if self.has_too_many_lost() {
+            return Report::TooManyLost;
+        }
+        if self.is_stopped {
+            return Report::Stopped(Stop::JournalFull);
+        }
+        for node in &walk.outstanding {
+            if self.way(*node) != Some(Way::Left) {
+                return Report::Waiting;
+            }
+        }
+        Report::Left
+    }
+
+    /// Returns the outstanding nodes that were left.
+    pub(crate) fn left(&self, alloc: Global, walk: Option<&Walk>) -> Result<Vec<NodeAt>, Trouble> {
+        let mut left = Vec::new(alloc);
+        if let Some(walk) = walk {
+            for node in &walk.outstanding {
+                if self.way(*node) == Some(Way::Left) {
+                    left.push(*node)?;
+                }
+            }
+        }
+        Ok(left)
+    }
+}
+
+impl Drop for Book {
+    /// Keeps the fields out of the proofs of callers that drop a book.
+    fn drop(self) {
+        let Book {
+            bounds: _bounds,
+            asked: _asked,
+            tally: _tally,
+            is_stopped: _is_stopped,
+            end: _end,
+        } = self;
+    }
+}

@@ -1,0 +1,515 @@
+//! Exchanges of closed nodes with each other, beside the plain program: answers in any order, lost, late, repeated, false
+//! or of another node, with copies, renewals and migrations in between.
+ghost use Rattle.std.specs.Prelude.{◌<◌};
+
+use crate::book::{Book, Ruling, Took, Way};
+use crate::mirror::Mirror;
+use crate::pairs::Closed;
+use crate::tally::Tally;
+use crate::walking::{offer_fault, take_text};
+use exchange::{Bounds, Exchange, Report, Stop, Verdict};
+use plain_model::messages::{PlainAnswer, PlainOffer, answer_bytes, read_answer};
+use plain_model::plain::{Fault, KEYS, PlainEntry, key_bytes};
+use plain_model::random::Random;
+use plain_model::trees::Tree;
+use plain_model::trouble::{Trouble, expect};
+use plain_model::walks::{Offering, Walk};
+use range_journal::Source;
+use std::alloc::Global;
+use std::sync::Arc;
+use sync_session::SessionState;
+use tree_nodes::{Digest, NodeAt, Text, hash};
+use vclock::Refusal;
+use walk_messages::Offer;
+
+/// The seat of all versions that are taken.
+const SEAT: u16 = 5;
+
+/// The number of random events of an exchange.
+const EVENTS: u64 = 60;
+
+/// More asks than an exchange needs to end after them.
+const LAST_ASKS: u64 = 200;
+
+/// The text of each node of a partner that forges.
+const JUNK: &[u8] = b"abc";
+
+/// A partner's offer, and its tree: none if it forges.
+struct Partner {
+    at: u16,
+    offer: Offer,
+    tree: Option<Arc<Tree, Global>>,
+}
+
+/// An exchange, and what it must be.
+struct Dialogue {
+    exchange: Exchange,
+    book: Book,
+    /// The number of its session, if one was opened.
+    session: Option<u64>,
+    /// The nodes that were asked, each as often as it was.
+    sent: Vec<NodeAt>,
+}
+
+/// Has a closed node take from another one what it lacks by an exchange with random events, and compares all that it
+/// shows.
+pub(crate) fn exchange_with(
+    alloc: Global,
+    random: &mut Random,
+    here: &mut Closed,
+    there: &mut Closed,
+    tally: &mut Tally,
+) -> Result<(), Trouble> {
+    let partner = Partner::draw(alloc, random, &there.mirror)?;
+    here.range.hold(alloc)?;
+    if let Some(mut dialogue) = open(alloc, random, here, &partner)? {
+        for _ in 0..EVENTS {
+            dialogue.run_event(alloc, random, here, there, &partner)?;
+            dialogue.check(alloc, here)?;
+        }
+        dialogue.answer_rest(alloc, here, &partner)?;
+        dialogue.check(alloc, here)?;
+        let walk = walk_of(&here.mirror, dialogue.session);
+        tally.count_exchange(dialogue.book.report(walk));
+        dialogue.close(here);
+        dialogue.check(alloc, here)?;
+    }
+    here.check(alloc)
+}
+
+impl Partner {
+    /// Draws a partner with the rows of a node. Rarely it forges, or offers another range.
+    fn draw(alloc: Global, random: &mut Random, mirror: &Mirror) -> Result<Partner, Trouble> {
+        let plain = &mirror.plain;
+        let tree = if random.once_in(20) {
+            None
+        } else {
+            Some(Arc::new(alloc, Tree::new(alloc, plain)?)?)
+        };
+        let root = match &tree {
+            Some(tree) => tree.root(),
+            None => digest_of(alloc, JUNK)?,
+        };
+        let range = plain.part.number();
+        let offer = Offer {
+            offer: random.below(1_000) as u32,
+            format: plain.format.number(),
+            range: if random.once_in(40) { range ^ 1 } else { range },
+            root,
+        };
+        Ok(Partner {
+            at: mirror.number,
+            offer,
+            tree,
+        })
+    }
+
+    /// Returns the text for a node.
+    fn text(&self, alloc: Global, node: NodeAt) -> Result<Vec<u8>, Trouble> {
+        match &self.tree {
+            Some(tree) => tree.text(alloc, node),
+            None => Ok(Vec::from_slice(alloc, JUNK)?),
+        }
+    }
+
+    /// Returns the true answer for a node.
+    fn answer(&self, alloc: Global, node: NodeAt) -> Result<Vec<u8>, Trouble> {
+        self.claim(alloc, self.offer.offer, node, node)
+    }
+
+    /// Returns an answer of an offer for a node that has another node's text.
+    fn claim(
+        &self,
+        alloc: Global,
+        offer: u32,
+        node: NodeAt,
+        of: NodeAt,
+    ) -> Result<Vec<u8>, Trouble> {
+        let text = self.text(alloc, of)?;
+        let text = text.as_slice();
+        answer_bytes(alloc, PlainAnswer { offer, node, text })
+    }
+
+    /// Returns a false answer for a node. `other` is another node that was asked.
+    fn lie(
+        &self,
+        alloc: Global,
+        random: &mut Random,
+        node: NodeAt,
+        other: NodeAt,
+    ) -> Result<Vec<u8>, Trouble> {
+        let offer = self.offer.offer;
+        match random.below(6) {
+            0 => self.answer(alloc, draw_node(random).unwrap_or(node)),
+            1 => self.claim(alloc, offer, node, other),
+            2 => self.claim(alloc, offer.wrapping_add(1), node, node),
+            3 => {
+                let mut bytes = self.answer(alloc, node)?;
+                let count = random.below(1 + bytes.len() as u64);
+                bytes.truncate(count as usize);
+                Ok(bytes)
+            }
+            _ => {
+                let mut bytes = self.answer(alloc, node)?;
+                let place = random.below(1 + bytes.len() as u64);
+                let change = 1 + random.below(255);
+                if let Some(byte) = bytes.get_mut(place as usize) {
+                    *byte ^= change as u8;
+                }
+                Ok(bytes)
+            }
+        }
+    }
+}
+
+/// Opens an exchange of a node with a partner. Returns `None` if that is refused, and must be.
+fn open(
+    alloc: Global,
+    random: &mut Random,
+    here: &mut Closed,
+    partner: &Partner,
+) -> Result<Option<Dialogue>, Trouble> {
+    let bounds = draw_bounds(random);
+    let offer = partner.offer;
+    let own = Tree::new(alloc, &here.mirror.plain)?;
+    let opened = here.range.open_exchange(alloc, partner.at, offer, bounds);
+    let wanted = PlainOffer {
+        number: offer.offer,
+        format: offer.format,
+        range: offer.range,
+        root: offer.root,
+    };
+    match (opened, offer_fault(&here.mirror, &wanted, true)) {
+        (Ok(exchange), None) => {
+            let is_level = own.root() == offer.root;
+            let end = if is_level {
+                Some(Report::Finished)
+            } else {
+                None
+            };
+            let session = if is_level {
+                None
+            } else {
+                Some(add_walk(alloc, &mut here.mirror, own, partner)?)
+            };
+            Ok(Some(Dialogue {
+                exchange,
+                book: Book::new(alloc, bounds, end),
+                session,
+                sent: Vec::new(alloc),
+            }))
+        }
+        (Err(refusal), Some(fault)) => {
+            expect(fault.is(&refusal), "the refusal of an exchange")?;
+            Ok(None)
+        }
+        _ => Err(Trouble::Differs("whether an exchange is opened")),
+    }
+}
+
+/// Adds the session of an exchange to a mirror, and returns its number.
+fn add_walk(
+    alloc: Global,
+    here: &mut Mirror,
+    own: Tree,
+    partner: &Partner,
+) -> Result<u64, Trouble> {
+    let offering = Offering {
+        at: partner.at,
+        root: partner.offer.root,
+        forged: None,
+    };
+    let tree = match &partner.tree {
+        Some(tree) => Some(Arc::try_clone(tree)?),
+        None => None,
+    };
+    let walk = Walk::new(alloc, here.plain.format, own, offering)?;
+    here.add_walk(walk, tree)?;
+    match here.sessions.last() {
+        Some(number) => Ok(*number),
+        None => Err(Trouble::Differs("the number of sessions")),
+    }
+}
+
+impl Dialogue {
+    /// Does a random event, and compares its result.
+    fn run_event(
+        &mut self,
+        alloc: Global,
+        random: &mut Random,
+        here: &mut Closed,
+        there: &mut Closed,
+        partner: &Partner,
+    ) -> Result<(), Trouble> {
+        match random.below(32) {
+            0..=11 => self.ask(alloc, here),
+            12..=19 => match self.draw_sent(random) {
+                Some(node) => self.take(alloc, here, &partner.answer(alloc, node)?),
+                None => Ok(()),
+            },
+            20..=21 => match self.draw_sent(random) {
+                Some(node) => {
+                    let other = self.draw_sent(random).unwrap_or(node);
+                    self.take(alloc, here, &partner.lie(alloc, random, node, other)?)
+                }
+                None => Ok(()),
+            },
+            22..=24 => match self.draw_sent(random).or_else(|| draw_node(random)) {
+                Some(node) => self.lose(node),
+                None => Ok(()),
+            },
+            25 => match self.draw_sent(random) {
+                Some(node) => self.take_elsewhere(alloc, there, &partner.answer(alloc, node)?),
+                None => Ok(()),
+            },
+            26..=27 => {
+                self.exchange.go_on();
+                self.book.go_on();
+                Ok(())
+            }
+            28..=29 => copy(alloc, random, here),
+            30 => {
+                here.range.drop_ended_sessions();
+                here.mirror.drop_ended_sessions(alloc)
+            }
+            _ => turn(alloc, random, here),
+        }
+    }
+
+    /// Sends the next ask, if there is one.
+    fn ask(&mut self, alloc: Global, here: &Closed) -> Result<(), Trouble> {
+        let sent = here.range.next_ask(&mut self.exchange);
+        let walk = walk_of(&here.mirror, self.session);
+        let wanted = self.book.next(alloc, walk)?;
+        expect(sent == wanted, "the next ask of an exchange")?;
+        if let Some(node) = sent {
+            self.sent.push(node)?;
+        }
+        Ok(())
+    }
+
+    /// Takes an answer.
+    fn take(&mut self, alloc: Global, here: &mut Closed, bytes: &[u8]) -> Result<(), Trouble> {
+        let verdict = here
+            .range
+            .take_answer(alloc, &mut self.exchange, SEAT, bytes);
+        let ruling = self.rule(alloc, &mut here.mirror, bytes)?;
+        expect(is_by(&verdict, ruling), "the verdict of an exchange")
+    }
+
+    /// Hands an answer to the exchange with the range of another node: it is late, and that range is unchanged.
+    fn take_elsewhere(
+        &mut self,
+        alloc: Global,
+        there: &mut Closed,
+        bytes: &[u8],
+    ) -> Result<(), Trouble> {
+        let verdict = there
+            .range
+            .take_answer(alloc, &mut self.exchange, SEAT, bytes);
+        expect(
+            is_by(&verdict, Ruling::Late),
+            "the verdict with another range",
+        )
+    }
+
+    /// Counts an ask as lost.
+    fn lose(&mut self, node: NodeAt) -> Result<(), Trouble> {
+        self.exchange.lose(node);
+        self.book.lose(node)
+    }
+
+    /// Takes an answer by the definitions.
+    fn rule(&mut self, alloc: Global, here: &mut Mirror, bytes: &[u8]) -> Result<Ruling, Trouble> {
+        let Some(id) = place_of(here, self.session) else {
+            return Ok(Ruling::Late);
+        };
+        if self.book.is_over() {
+            return Ok(Ruling::Late);
+        }
+        let Some(answer) = read_answer(bytes) else {
+            return Ok(self.book.count_bad(Fault::BadMessage));
+        };
+        if answer.offer != self.exchange.offer_number() {
+            return Ok(Ruling::Late);
+        }
+        let node = answer.node;
+        match self.book.way(node) {
+            None => return Ok(self.book.count_bad(Fault::NotAsked)),
+            Some(Way::Left | Way::Settled) => return Ok(Ruling::Late),
+            Some(Way::Open(_) | Way::Lost) => {}
+        }
+        let len = answer.text.len() as u64;
+        match take_text(alloc, here, id, SEAT, answer)? {
+            Ok((accepted, known)) => {
+                let Some(walk) = here.walks.get(id) else {
+                    return Err(Trouble::Differs("the number of sessions"));
+                };
+                let (state, leaf_len) = (walk.state, walk.is_leaf(node).then_some(len));
+                let took = Took {
+                    accepted,
+                    known,
+                    state,
+                };
+                self.book.take(node, leaf_len, took)
+            }
+            Err(fault) => self.book.refuse(node, fault),
+        }
+    }
+
+    /// Answers each ask truly, those on their way first, until none is sent any more.
+    fn answer_rest(
+        &mut self,
+        alloc: Global,
+        here: &mut Closed,
+        partner: &Partner,
+    ) -> Result<(), Trouble> {
+        for place in 0..self.sent.len() {
+            if let Some(node) = self.sent.get(place).copied() {
+                self.take(alloc, here, &partner.answer(alloc, node)?)?;
+            }
+        }
+        for _ in 0..LAST_ASKS {
+            let before = self.sent.len();
+            self.ask(alloc, here)?;
+            match self.sent.get(before).copied() {
+                Some(node) => self.take(alloc, here, &partner.answer(alloc, node)?)?,
+                None => return Ok(()),
+            }
+        }
+        Err(Trouble::Differs("the end of the asks of an exchange"))
+    }
+
+    /// Closes the exchange.
+    fn close(&mut self, here: &mut Closed) {
+        here.range.close_exchange(&mut self.exchange);
+        if let Some(id) = place_of(&here.mirror, self.session)
+            && !self.book.has_ended()
+            && let Some(walk) = here.mirror.walks.get_mut(id)
+        {
+            walk.end(SessionState::Cancelled);
+        }
+        self.book.close();
+    }
+
+    /// Compares what the exchange shows.
+    fn check(&self, alloc: Global, here: &Closed) -> Result<(), Trouble> {
+        let walk = walk_of(&here.mirror, self.session);
+        let same = self.exchange.tally() == self.book.tally;
+        expect(same, "the counts of an exchange")?;
+        let on_way = (self.exchange.on_way(), self.exchange.bytes_on_way());
+        expect(on_way == self.book.on_way(), "the asks on their way")?;
+        let report = here.range.report_of(&self.exchange);
+        expect(report == self.book.report(walk), "how far an exchange is")?;
+        let left = self.book.left(alloc, walk)?;
+        for place in 0..left.len() + 1 {
+            let node = here.range.left_at(&self.exchange, place);
+            expect(
+                node == left.get(place).copied(),
+                "a leaf that an exchange left",
+            )?;
+        }
+        Ok(())
+    }
+
+    /// Draws a node that was asked, if there is one.
+    fn draw_sent(&self, random: &mut Random) -> Option<NodeAt> {
+        let place = random.below(1 + self.sent.len() as u64);
+        self.sent.get(place as usize).copied()
+    }
+}
+
+/// Has a node accept a random version as a copy.
+fn copy(alloc: Global, random: &mut Random, here: &mut Closed) -> Result<(), Trouble> {
+    let (key, version) = (1 + random.below(KEYS - 1), random.version());
+    let wanted = here.mirror.plain.accept(key, &version);
+    let sent = version.version(alloc)?;
+    let reply = here.range.copy(alloc, SEAT, key_bytes(key), sent);
+    let entry = PlainEntry {
+        seat: SEAT,
+        key,
+        version,
+        source: Source::Copy,
+    };
+    here.mirror.check_sent(entry, &reply, wanted)
+}
+
+/// Renews or migrates the range of a node, rarely.
+fn turn(alloc: Global, random: &mut Random, here: &mut Closed) -> Result<(), Trouble> {
+    match random.below(12) {
+        0 => {
+            let limit = random.limit(4);
+            let wanted = here.mirror.plain.renewal_fault(alloc, limit)?;
+            match (here.range.renew(alloc, SEAT, limit), wanted) {
+                (Ok(()), None) => here.mirror.renew(alloc, SEAT, limit),
+                (Err(refusal), Some(fault)) => {
+                    expect(fault.is(&refusal), "the refusal of a renewal")
+                }
+                _ => Err(Trouble::Differs("whether a range is renewed")),
+            }
+        }
+        1 => {
+            here.range.migrate(alloc)?;
+            here.mirror.migrate();
+            Ok(())
+        }
+        _ => Ok(()),
+    }
+}
+
+/// Draws the bounds of an exchange: small ones half of the time.
+fn draw_bounds(random: &mut Random) -> Bounds {
+    if random.once_in(2) {
+        return Bounds {
+            asks: 64,
+            bytes: 1_000_000,
+            bad: 100,
+            lost: 100,
+        };
+    }
+    Bounds {
+        asks: random.below(24) as u32,
+        bytes: random.below(3_000),
+        bad: random.below(6) as u32,
+        lost: random.below(12) as u32,
+    }
+}
+
+/// Draws a node of a tree of some format.
+fn draw_node(random: &mut Random) -> Option<NodeAt> {
+    let depth = random.below(4) as u8;
+    NodeAt::new(depth, random.below(1 << (4 * u64::from(depth))) as u16)
+}
+
+/// Returns the place of a session among those that a node has, if it has it.
+fn place_of(here: &Mirror, session: Option<u64>) -> Option<usize> {
+    let session = session?;
+    here.sessions.iter().position(|number| *number == session)
+}
+
+/// Returns the walk of a session, if a node has it.
+fn walk_of(here: &Mirror, session: Option<u64>) -> Option<&Walk> {
+    here.walks.get(place_of(here, session)?)
+}
+
+/// Returns true if a verdict is the one of the definitions.
+fn is_by(verdict: &Verdict, ruling: Ruling) -> bool {
+    match (verdict, ruling) {
+        (Verdict::Taken(taken), Ruling::Taken(took)) => {
+            taken.receipts.len() as u64 == took.accepted
+                && taken.known == took.known
+                && taken.state == took.state
+        }
+        (Verdict::Bad(refusal), Ruling::Bad(fault)) => fault.is(refusal),
+        (Verdict::Left, Ruling::Left)
+        | (Verdict::Late, Ruling::Late)
+        | (Verdict::Refused(Stop::JournalFull), Ruling::Refused)
+        | (Verdict::Failed, Ruling::Failed) => true,
+        _ => false,
+    }
+}
+
+/// Returns the digest of a text.
+fn digest_of(alloc: Global, text: &[u8]) -> Result<Digest, Refusal> {
+    Ok(hash(Text::copy_of(alloc, text)?).digest())
+}
