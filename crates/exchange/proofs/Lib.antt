@@ -3,5 +3,6 @@ pub mod FairLaws
 pub mod SortLaws
 pub mod StepLaws
 pub mod TrueLaws
+pub mod EstimateLaws
 pub mod JudgedLaws
 pub mod DryLaws

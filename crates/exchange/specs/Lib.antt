@@ -6,3 +6,4 @@ pub mod Exchanges
 pub mod Steps
 pub mod TruePartners
 pub mod Dry
+pub mod Estimates

@@ -5,9 +5,11 @@ ghost use Rattle.vclock.specs.Answer.{Answers};
 ghost use Rattle.exchange.specs.Courses.{IsFair, after_loss, after_go_on, report_of};
 ghost use Rattle.exchange.specs.Asks.{next_in, ask_for};
 ghost use Rattle.exchange.specs.Dry.{dry_fault, dry, after_dry_ask, TakesNews, Shows};
+ghost use Rattle.exchange.specs.Estimates.{estimate_of};
 
 use crate::bounds::Bounds;
 use crate::course::{Course, is_leaf};
+use crate::estimate::estimate;
 use crate::report::Report;
 use crate::standings::Standings;
 use crate::tally::Tally;
@@ -129,6 +131,15 @@ impl DryExchange {
             Some(end) => Report::of(end),
             None => self.course.report(&self.session),
         }
+    }
+
+    /// Estimates the number of keys that differ, from the first two levels of the trees alone. With so many such keys, as
+    /// many of the 256 nodes at depth 2 differ on average as do here; if all differ, there may be more. Returns `None`
+    /// until the root and the nodes below it that differ were taken, or if the session has failed. Doesn't allocate.
+    pub fn differing_keys(&self) -> Option<u64>
+        ensures { result ≡ estimate_of self.now.session }
+    {
+        estimate(&self.session)
     }
 
     /// Returns the counts of the exchange: `known` are the versions of rows that the local snapshot has, too.

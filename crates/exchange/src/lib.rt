@@ -20,6 +20,7 @@
 pub mod bounds;
 mod course;
 pub mod dry;
+mod estimate;
 pub mod exchange;
 pub mod laws;
 pub mod report;

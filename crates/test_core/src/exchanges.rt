@@ -321,6 +321,10 @@ fn a_dry_exchange_shows_what_a_range_lacks(rt: HostRuntime) -> Result<(), Fail> 
     let partner = moment(alloc, &mut range_of(alloc, 1_000, 2, &[b"b", b"c"])?)?;
     let bounds = WIDE;
     let mut exchange = DryExchange::open(alloc, own, partner.offer(7), bounds)?;
+    expect(
+        exchange.differing_keys() == None,
+        "nothing is known of the first two levels",
+    )?;
     let mut keys = Vec::new(alloc);
     for _ in 0..300 {
         let Some(ask) = exchange.next() else {
@@ -339,5 +343,7 @@ fn a_dry_exchange_shows_what_a_range_lacks(rt: HostRuntime) -> Result<(), Fail> 
     expect(
         keys.contains(&b'b') && keys.contains(&b'c'),
         "they are the partner's",
-    )
+    )?;
+    // 256/256 + 256/255 + 256/254 of 256 nodes
+    expect(exchange.differing_keys() == Some(3), "three keys differ")
 }
