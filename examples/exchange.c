@@ -1,7 +1,8 @@
 /* Exchanges with a partner: the loop of a sync. A replica takes all that a partner has; a partner that answers each ask
  * for a leaf with the text of the first leaf, which is crowded, leaves that leaf alone (of a leaf that isn't asked for
- * yet, such an answer would count as bad); and a sync under a deadline goes on later, after a put. The program prints
- * how far each exchange is, and ends with status 1 if a call returns another number than the one wanted. */
+ * yet, such an answer would count as bad); and a sync under a deadline goes on later, after a put, in one session. The
+ * program prints how far each exchange is, and ends with status 1 if a call returns another number than the one wanted.
+ * */
 #include "antientropy.h"
 
 #include <stdio.h>
@@ -9,6 +10,7 @@
 #include <string.h>
 
 enum { FORMAT = 2, LIMIT = 10000, PARTNER = 2, OFFER = 7, KEYS = 40, ROOM = 1 << 16, DEPTH_AT = 5, LEAF_DEPTH = 3 };
+enum { MANY = 100000, DIFFER = 1100 };
 
 static const char *const reports[] = {"finished",      "waiting", "left",   "stopped", "too many bad",
                                       "too many lost", "failed",  "closed", "gone"};
@@ -67,19 +69,22 @@ static void show(const char *name, struct antientropy_exchange *exchange, const 
            (unsigned long long)progress.on_way);
 }
 
-/* Sends asks and takes the partner's answers, until there is no ask or `most` were sent. */
-static void sync_some(struct antientropy_exchange *exchange, struct antientropy_replica *replica,
-                      const struct antientropy_snapshot *offered, unsigned most)
+/* Sends asks and takes the partner's answers, until there is no ask or `most` were sent. Returns their bytes. */
+static uint64_t sync_some(struct antientropy_exchange *exchange, struct antientropy_replica *replica,
+                          const struct antientropy_snapshot *offered, unsigned most)
 {
     struct antientropy_verdict verdict;
-    uint64_t len;
+    uint64_t len, bytes = 0;
     for (unsigned sent = 0; sent < most; sent++) {
         ok("exchange_next", antientropy_exchange_next(exchange, replica, ask, sizeof ask, &len));
         if (len == 0)
             break;
+        bytes += len;
         ok("serve", antientropy_serve(offered, OFFER, ask, len, answer, sizeof answer, &len));
+        bytes += len;
         ok("exchange_take", antientropy_exchange_take(exchange, replica, answer, len, &verdict));
     }
+    return bytes;
 }
 
 /* Ends an exchange, and drops its session. */
@@ -168,22 +173,52 @@ static void sync_crowded(const struct antientropy_snapshot *offered)
     antientropy_free(&replica);
 }
 
-/* A sync that stops at a deadline, and goes on in the same session after a put. */
-static void sync_later(const struct antientropy_snapshot *offered)
+/* Makes a replica that is whole, with 100,000 keys. Of 1,100 of them it holds this version, and of the others the first
+ * one. */
+static void fill_many(struct antientropy_replica *replica, uint64_t version)
 {
-    struct antientropy_replica replica = {0};
+    static const uint8_t value[100];
+    struct antientropy_pair clock = {100, 1};
+    char key[16];
+    uint64_t taken, left;
+    ok("new", antientropy_new(replica, FORMAT, 0, 0, 2 * MANY));
+    for (unsigned n = 0; n < MANY; n++) {
+        clock.counter = n % 90 == 0 && n / 90 < DIFFER ? version : 1;
+        ok("accept", antientropy_accept(replica, (const uint8_t *)key, (size_t)snprintf(key, sizeof key, "key-%u", n),
+                                        &clock, 1, ANTIENTROPY_LIVE, value, sizeof value, &taken));
+    }
+    ok("hold", antientropy_hold(replica));
+    do
+        ok("hash_moment", antientropy_hash_moment(replica, 1000, &left));
+    while (left > 0);
+}
+
+/* A sync that stops at a deadline after each 100 asks, and goes on in the same session after a put. */
+static void sync_by_ticks(void)
+{
+    struct antientropy_replica replica = {0}, partner = {0};
+    struct antientropy_snapshot offered = {0};
     struct antientropy_exchange exchange = {0};
+    struct antientropy_progress progress;
     struct antientropy_counts counts;
-    fill(&replica, 1, 4);
+    char key[16];
+    uint64_t bytes = sizeof offer, ticks = 0;
+    fill_many(&partner, 2);
+    offer_now(&partner, &offered);
+    fill_many(&replica, 1);
     ok("exchange_open", antientropy_exchange_open(&replica, &exchange, PARTNER, offer, sizeof offer, &bounds));
-    sync_some(&exchange, &replica, offered, 20);
-    show("at the deadline", &exchange, &replica);
-    put(&replica, 1, "in between");
-    sync_some(&exchange, &replica, offered, UINT32_MAX);
-    show("later", &exchange, &replica);
+    do {
+        bytes += sync_some(&exchange, &replica, &offered, 100);
+        snprintf(key, sizeof key, "tick-%u", (unsigned)ticks++);
+        put(&replica, 1, key);
+        ok("exchange_report", antientropy_exchange_report(&exchange, &replica, &progress));
+    } while (progress.report == ANTIENTROPY_REPORT_WAITING);
+    show("by ticks", &exchange, &replica);
     ok("count", antientropy_count(&replica, &counts));
-    printf("  sessions %llu\n", (unsigned long long)counts.sessions);
+    printf("  sessions %llu, %s 4.0 MB\n", (unsigned long long)counts.sessions, bytes <= 4000000 ? "at most" : "over");
     end(&exchange, &replica);
+    antientropy_snapshot_free(&offered);
+    antientropy_free(&partner);
     antientropy_free(&replica);
 }
 
@@ -195,7 +230,7 @@ int main(void)
     offer_now(&partner, &offered);
     sync_all(&offered);
     sync_crowded(&offered);
-    sync_later(&offered);
+    sync_by_ticks();
     antientropy_snapshot_free(&offered);
     antientropy_free(&partner);
     return 0;

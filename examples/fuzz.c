@@ -77,7 +77,7 @@ static void compare(const struct antientropy_replica *replica, const struct anti
     }
 }
 
-/* A replica with 64 open sessions, the maximum, one of them that of an exchange that has asked for the root; a partner's
+/* A replica with 64 open sessions, the maximum, the first one of an exchange that has asked for the root; a partner's
  * snapshot; a message of each kind; the rows of a leaf. */
 static struct antientropy_replica replica, partner;
 static struct antientropy_exchange exchange;

@@ -35,11 +35,26 @@ fn range_of(alloc: Global, limit: u64, node: u16, keys: &[&[u8]]) -> Result<Rang
     Ok(state)
 }
 
+/// Makes a range of format 2 with 100,000 keys and values of 100 bytes. The newer one has newer values of 1,100 of them.
+fn many(alloc: Global, is_newer: bool) -> Result<RangeState, Fail> {
+    let mut state = new_range(alloc, 2, 200_000)?;
+    for number in 0..100_000u32 {
+        let key = number.to_be_bytes();
+        put(alloc, &mut state, 2, &[], &key, &[b'x'; 100])?;
+        if is_newer && number % 90 == 0 && number / 90 < 1_100 {
+            put(alloc, &mut state, 2, &[(2, 1)], &key, &[b'y'; 100])?;
+        }
+    }
+    Ok(state)
+}
+
 /// Returns the rows of a range now, as a whole moment.
 fn moment(alloc: Global, state: &mut RangeState) -> Result<Arc<Snapshot, Global>, Fail> {
     hold_moment(alloc, state)?;
-    for _depth in 0..3 {
-        state.hash_moment(alloc, 1_000)?;
+    for _portion in 0..1_000 {
+        if state.hash_moment(alloc, 1_000)? == 0 {
+            break;
+        }
     }
     Ok(state.moment(alloc)?)
 }
@@ -298,6 +313,30 @@ fn asks_stop_when_the_journal_is_full(rt: HostRuntime) -> Result<(), Fail> {
     expect(
         pair.report() == Report::Closed && pair.state.records().is_empty(),
         "a closed exchange leaves no record",
+    )
+}
+
+#[test]
+fn an_exchange_goes_on_after_each_deadline(rt: HostRuntime) -> Result<(), Fail> {
+    let alloc = rt.alloc();
+    let mut pair = Pair::new(alloc, many(alloc, false)?, many(alloc, true)?, WIDE)?;
+    // (the length of the offer)
+    let mut bytes = 42usize;
+    for tick in 0..200u8 {
+        for node in pair.asks(alloc)? {
+            let answer = pair.claim(alloc, 7, node, node)?;
+            bytes = bytes.saturating_add(8).saturating_add(answer.len());
+            pair.take(alloc, &answer);
+        }
+        put(alloc, &mut pair.state, 1, &[], &[tick], b"in between")?;
+    }
+    expect(
+        pair.report() == Report::Finished && pair.exchange.tally().accepted == 1_100,
+        "each newer value is taken",
+    )?;
+    expect(
+        pair.state.records().len() == 1 && bytes <= 4_000_000,
+        "in one session, and in at most 4.0 MB",
     )
 }
 
