@@ -43,8 +43,9 @@ pub extern "C" fn antientropy_exchange_open(
         OpensIn result (exchange_in exchange.old) (exchange_in exchange.new) s t
         (λ r. BeginsUnless (partner_fault partner) s partner offer.now (bounds_from bounds.now) r t)) }
 {
-    let mut call =
-        |state: &mut RangeState| open_into(alloc, state, exchange, partner, offer, bounds);
+    let mut call = |state: &mut RangeState| open_into(
+        alloc, state, exchange, partner, offer, bounds,
+    );
     with_state(replica, alloc, &mut call)
 }
 
@@ -97,12 +98,7 @@ pub extern "C" fn antientropy_share_exchange_next(
 
 /// Writes the message of the next ask of an exchange with a replica.
 #[tactic(auto, using(crate::proofs::CallLaws::reads_nothing, crate::proofs::CallLaws::reads_held))]
-fn next_of(
-    exchange: &mut Exchange,
-    share: &mut ReplicaShare,
-    out: &mut [u8],
-    need: &mut u64,
-) -> u32
+fn next_of(exchange: &mut Exchange, share: &mut ReplicaShare, out: &mut [u8], need: &mut u64) -> u32
     ensures { ReadsState result share.old share.new
         ((exchange.new ≡ exchange.old) × HandsNothing (need.old, out.old) (need.new, out.new))
         (λ s. WritesNext (nat_le 8 (length out.old)) result (need.old, out.old) (need.new, out.new)

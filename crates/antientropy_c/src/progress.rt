@@ -73,12 +73,7 @@ pub extern "C" fn antientropy_share_exchange_left(
 
 /// Stores a leaf that an exchange with a replica left.
 #[tactic(auto, using(crate::proofs::CallLaws::reads_nothing, crate::proofs::CallLaws::reads_held))]
-fn left_at(
-    exchange: &Exchange,
-    share: &mut ReplicaShare,
-    place: u64,
-    node: &mut LeftNode,
-) -> u32
+fn left_at(exchange: &Exchange, share: &mut ReplicaShare, place: u64, node: &mut LeftNode) -> u32
     ensures { ReadsState result share.old share.new (node.new ≡ node.old)
         (λ s. TellsNode (slice_get (left_of exchange.now (record_in exchange.now s)) place) result node.old node.new) }
 {

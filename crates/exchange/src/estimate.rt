@@ -5,6 +5,7 @@ use sync_session::{Session, SessionState};
 
 /// The depth of the nodes that are counted, and their number.
 const DEPTH: u8 = 2;
+
 const NODES: u64 = 256;
 
 /// Returns the estimate of a session, or `None` if a node above depth 2 is outstanding, or the session has failed.

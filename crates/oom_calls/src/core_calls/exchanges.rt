@@ -88,12 +88,5 @@ fn take_dry(alloc: Global, both: &Snapshots) -> Result<u64, Refusal> {
 fn answer(alloc: Global, partner: &Snapshot, ask: Ask) -> Result<Vec<u8>, Refusal> {
     let (offer, node) = (ask.offer, ask.node);
     let text = Text::from(partner.answer(alloc, ask)?);
-    encode(
-        alloc,
-        &Message::Answer(Answer {
-            offer,
-            node,
-            text,
-        }),
-    )
+    encode(alloc, &Message::Answer(Answer { offer, node, text }))
 }
