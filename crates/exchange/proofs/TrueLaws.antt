@@ -61,21 +61,21 @@ one_less xs n b [] e at has = absurd (omega (arith, has))
 one_less xs n b (m ∷ nodes) e at has =
     let new = sum_by-cons {X = Node} (λ k. one (is_fresh (standing_of (with_standing xs n b) k))) m nodes in
     let old = sum_by-cons {X = Node} (λ k. one (is_fresh (standing_of xs k))) m nodes in
-    let less = by (is_same_node n m) refl has in
+    let less = by (is_same_node n m) refl has (one_less xs n b nodes e at) in
     omega (arith, new, old, less)
   where
-    by : (t : Bool) → is_same_node n m ≡ t → 1 ≤ (if t then 1 else 0) + times n nodes → one (is_fresh (standing_of (with_standing xs n b) m)) + fresh_in (with_standing xs n b) nodes + 1 ≤ one (is_fresh (standing_of xs m)) + fresh_in xs nodes
-    by true same h =
+    by : (t : Bool) → is_same_node n m ≡ t → 1 ≤ (if t then 1 else 0) + times n nodes → (1 ≤ times n nodes → fresh_in (with_standing xs n b) nodes + 1 ≤ fresh_in xs nodes) → one (is_fresh (standing_of (with_standing xs n b) m)) + fresh_in (with_standing xs n b) nodes + 1 ≤ one (is_fresh (standing_of xs m)) + fresh_in xs nodes
+    by true same h rest =
         let was : one (is_fresh (standing_of xs n)) ≡ 1 = ap (λ o. one (is_fresh o)) at in
         let now = set_asked xs (place_of n) standings.Unasked b at e in
         let here : one (is_fresh (standing_of (with_standing xs n b) n)) + fresh_in (with_standing xs n b) nodes + 1 ≤ one (is_fresh (standing_of xs n)) + fresh_in xs nodes = omega (arith, was, now, fewer_in xs (place_of n) b nodes e) in
         subst (λ (k : Node). one (is_fresh (standing_of (with_standing xs n b) k)) + fresh_in (with_standing xs n b) nodes + 1 ≤ one (is_fresh (standing_of xs k)) + fresh_in xs nodes) (is_node-true n m same) here
-    by false other h = omega (arith, one_less xs n b nodes e at h, fewer xs (place_of n) (place_of m) b e)
+    by false other h rest = omega (arith, rest (omega (arith, h)), fewer xs (place_of n) (place_of m) b e)
 
 -- ---- the nodes of a list that were asked, and those that may be
 
 -- as many nodes were asked as the list has, less its fresh ones
-Among : List Standing → List Node → Type 0
+abbrev Among : List Standing → List Node → Type 0
 Among xs nodes = count_by is_asked xs + fresh_in xs nodes ≤ length nodes
 
 among_ask : (xs : List Standing) (n : Node) (bytes : ℕ) (nodes : List Node) → Among xs nodes → may_ask (standing_of xs n) ≡ true → 1 ≤ times n nodes → Among (with_standing xs n (standings.OnWay bytes)) nodes
@@ -114,14 +114,17 @@ among_lost xs n nodes among = by (standing_of xs n) refl
 
 -- ---- each step
 
+counts_itself : (n : Node) → ◌≡◌ {A = ℕ} (if is_same_node n n then 1 else 0) 1
+counts_itself n = ap (λ (b : Bool). if b then 1 else 0) (is_node-same n)
+
 -- the first node of a list that may be asked is one of the list
 first_has : (xs : List Standing) (nodes : List Node) (n : Node) → first_askable xs nodes ≡ Some n → 1 ≤ times n nodes
 first_has xs [] n e = absurd (cc)
-first_has xs (m ∷ nodes) n e = by (may_ask (standing_of xs m)) e
+first_has xs (m ∷ nodes) n e = by (may_ask (standing_of xs m)) (first_has xs nodes n) e
   where
-    by : (b : Bool) → (if b then Some m else first_askable xs nodes) ≡ Some n → 1 ≤ (if is_same_node n m then 1 else 0) + times n nodes
-    by true is = subst (λ (k : Node). 1 ≤ (if is_same_node k m then 1 else 0) + times k nodes) (same_Some m n is) (omega (arith, ap (λ (b : Bool). ◌≡◌ {A = ℕ} (if b then 1 else 0) 1) (sym (is_node-same m))))
-    by false is = omega (arith, first_has xs nodes n is)
+    by : (b : Bool) → (first_askable xs nodes ≡ Some n → 1 ≤ times n nodes) → (if b then Some m else first_askable xs nodes) ≡ Some n → 1 ≤ (if is_same_node n m then 1 else 0) + times n nodes
+    by true rest is = subst (λ (k : Node). 1 ≤ (if is_same_node k m then 1 else 0) + times k nodes) (same_Some m n is) (omega (arith, counts_itself m))
+    by false rest is = omega (arith, rest is)
 
 module _ (own other : RowMap) where
   among_asks : (x : Course) (w : Walk) → IsTrueWalk own other w → Among x.standings (differ own other) → Among (after_ask x (next_in x w)).standings (differ own other)

@@ -7,7 +7,7 @@ use Rattle.sync_session.specs.declared.state.SessionState.TheVariants.{Open, Fin
 
 -- Keys at random are in so many different nodes of 256 when, on average, 256/256 + 256/255 + .. of them were drawn (the
 -- coupon collector). This sum, in parts of 256.
-unfoldable pub drawn : ℕ → ℕ
+abbrev pub drawn : ℕ → ℕ
 drawn zero = 0
 drawn (suc nodes) = drawn nodes + 65536 / (256 - nodes)
 

@@ -35,6 +35,7 @@ const LAST_ASKS: u64 = 200;
 const JUNK: &[u8] = b"abc";
 
 /// A partner's offer, and its tree: none if it forges.
+#[derive(Drop)]
 struct Partner {
     at: u16,
     offer: Offer,
@@ -416,6 +417,18 @@ impl Dialogue {
     fn draw_sent(&self, random: &mut Random) -> Option<NodeAt> {
         let place = random.below(1 + self.sent.len() as u64);
         self.sent.get(place as usize).copied()
+    }
+}
+
+impl Drop for Dialogue {
+    /// Keeps the fields out of the proofs of callers that drop a dialogue.
+    fn drop(self) {
+        let Dialogue {
+            exchange: _exchange,
+            book: _book,
+            session: _session,
+            sent: _sent,
+        } = self;
     }
 }
 
