@@ -136,14 +136,7 @@ impl Book {
 
     /// Returns the node to ask next, if there is one: the first outstanding node whose ask isn't on its way, and that
     /// wasn't left. It is asked then.
-    pub(crate) fn next(
-        &mut self,
-        alloc: Global,
-        walk: Option<&Walk>,
-    ) -> Result<Option<NodeAt>, Trouble> {
-        let Some(walk) = walk else {
-            return Ok(None);
-        };
+    pub(crate) fn next(&mut self, alloc: Global, walk: &Walk) -> Result<Option<NodeAt>, Trouble> {
         if self.is_stopped || self.is_over() {
             return Ok(None);
         }

@@ -280,8 +280,10 @@ impl Dialogue {
     /// Sends the next ask, if there is one.
     fn ask(&mut self, alloc: Global, here: &Closed) -> Result<(), Trouble> {
         let sent = here.range.next_ask(&mut self.exchange);
-        let walk = walk_of(&here.mirror, self.session);
-        let wanted = self.book.next(alloc, walk)?;
+        let wanted = match walk_of(&here.mirror, self.session) {
+            Some(walk) => self.book.next(alloc, walk)?,
+            None => None,
+        };
         expect(sent == wanted, "the next ask of an exchange")?;
         if let Some(node) = sent {
             self.sent.push(node)?;
