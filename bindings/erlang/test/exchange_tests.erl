@@ -18,7 +18,6 @@ exchanges_test_() ->
             fun a_link_that_fails/1,
             fun journal_full/1,
             fun not_canonical/1,
-            fun migration_meanwhile/1,
             fun closed/1,
             fun bytes_of_sessions/1,
             fun syncs_at_once/1
@@ -155,16 +154,6 @@ not_canonical({_, B}) ->
     Reach = fun(_) -> [{ok, <<3, 7:32, 0, 0:16, 4:64, "junk">>}] end,
     ?assertEqual({error, not_canonical}, antientropy:sync(B, 1, <<1, 7:32, 2, 0, Digest/binary>>, Reach)),
     ?assertMatch({ok, #{entries := 0, sessions := 0}}, antientropy:count(B)).
-
-%% A migration cancels the session, and another process drops it.
-migration_meanwhile(_) ->
-    [Partner, First] = [replica(#{format => 1}) || _ <- [partner, first]],
-    Migrate = fun(Answers) ->
-        ok = antientropy:migrate(First),
-        ok = antientropy:drop_sessions(First),
-        Answers
-    end,
-    ?assertMatch({ok, #{report := gone, accepted := 0}}, sync({fill(Partner, 10), First}, Migrate)).
 
 closed({A, B}) ->
     {_, Offer} = offered(A),
