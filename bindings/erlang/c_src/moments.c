@@ -106,20 +106,25 @@ CALL(REPLICA, snapshot_of_moment)
     return handle_result(env, made, call_or_hash(at, holds, most, fill, made));
 }
 
-/* An exchange that is opened with a partner's offer. */
+/* An exchange that is opened with a partner's offer. The moment's snapshot is to be freed without the lock: if no
+ * session is opened, it alone has rows that have changed meanwhile. */
 struct opening {
     struct resource *made;
     uint64_t partner;
     ErlNifBinary offer;
     struct antientropy_bounds bounds;
+    struct antientropy_snapshot moment;
 };
 
 /* Opens the exchange at the moment. */
 static uint32_t open_exchange(struct resource *at, void *of)
 {
     struct opening *opening = of;
-    return antientropy_exchange_open(&at->replica, &opening->made->exchange, opening->partner, opening->offer.data,
-                                     opening->offer.size, &opening->bounds);
+    uint32_t number = antientropy_exchange_open(&at->replica, &opening->made->exchange, opening->partner,
+                                                opening->offer.data, opening->offer.size, &opening->bounds);
+    if (number == ANTIENTROPY_OK)
+        antientropy_moment(&at->replica, &opening->moment);
+    return number;
 }
 
 static bool get_bounds(ErlNifEnv *env, ERL_NIF_TERM map, struct antientropy_bounds *bounds)
@@ -136,7 +141,7 @@ CALL(REPLICA, exchange_of_moment)
 {
     bool holds;
     uint64_t most;
-    struct opening opening;
+    struct opening opening = {0};
     if (!get_u64(env, argv[1], &opening.partner) || !get_bounds(env, argv[3], &opening.bounds)
         || !get_bool(argv[4], &holds) || !get_u64(env, argv[5], &most))
         return enif_make_badarg(env);
@@ -146,5 +151,9 @@ CALL(REPLICA, exchange_of_moment)
     opening.made = make_exchange(at);
     if (opening.made == NULL)
         return refused(env, ANTIENTROPY_NO_MEMORY);
-    return handle_result(env, opening.made, call_or_hash(at, holds, most, open_exchange, &opening));
+    number = call_or_hash(at, holds, most, open_exchange, &opening);
+    enif_rwlock_rwunlock(at->lock);
+    antientropy_snapshot_free(&opening.moment);
+    enif_rwlock_rwlock(at->lock);
+    return handle_result(env, opening.made, number);
 }
