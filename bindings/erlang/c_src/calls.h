@@ -28,8 +28,7 @@
     X(hash_moment, 2, LONG)                                                                                            \
     X(moment, 1, LONG)                                                                                                 \
     X(snapshot_of_moment, 3, LONG)                                                                                     \
-    X(open_at_moment, 3, LONG)                                                                                         \
-    X(open_of_moment, 6, LONG)                                                                                         \
+    X(exchange_of_moment, 6, LONG)                                                                                     \
     X(load_rows, 2, SHORT)                                                                                             \
     X(load_format, 3, SHORT)                                                                                           \
     X(put, 5, SHORT)                                                                                                   \
@@ -57,15 +56,13 @@
     X(offer, 2, SHORT)                                                                                                 \
     X(serve, 3, SHORT)                                                                                                 \
     X(rows, 2, SHORT)                                                                                                  \
-    X(open, 3, LONG)                                                                                                   \
-    X(session, 2, SHORT)                                                                                               \
-    X(outstanding, 2, SHORT)                                                                                           \
-    X(ask, 3, SHORT)                                                                                                   \
-    X(ask_at, 4, SHORT)                                                                                                \
-    X(asks, 3, SHORT)                                                                                                  \
-    X(take, 4, SHORT)                                                                                                  \
-    X(cancel, 2, SHORT)                                                                                                \
-    X(close_session, 2, LONG)                                                                                          \
+    X(exchange_asks, 1, LONG)                                                                                          \
+    X(exchange_take, 2, SHORT)                                                                                         \
+    X(exchange_lose, 2, SHORT)                                                                                         \
+    X(exchange_go_on, 1, SHORT)                                                                                        \
+    X(exchange_progress, 1, SHORT)                                                                                     \
+    X(exchange_left, 1, LONG)                                                                                          \
+    X(exchange_close, 1, LONG)                                                                                         \
     X(drop_sessions, 1, LONG)                                                                                          \
     X(hints_new, 0, SHORT)                                                                                             \
     X(hints_restore, 1, SHORT)                                                                                         \

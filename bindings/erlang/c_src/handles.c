@@ -27,6 +27,13 @@ static void drop_snapshot(UNUSED ErlNifEnv *env, void *dropped)
     drop_lock(at);
 }
 
+static void drop_exchange(UNUSED ErlNifEnv *env, void *dropped)
+{
+    struct resource *at = dropped;
+    antientropy_exchange_free(&at->exchange);
+    enif_release_resource(at->of);
+}
+
 static void drop_hints(UNUSED ErlNifEnv *env, void *dropped)
 {
     struct resource *at = dropped;
@@ -49,6 +56,7 @@ bool open_types(ErlNifEnv *env)
     } kinds[KINDS] = {
         [REPLICA] = {"antientropy_replica", drop_replica},
         [SNAPSHOT] = {"antientropy_snapshot", drop_snapshot},
+        [EXCHANGE] = {"antientropy_exchange", drop_exchange},
         [HINTS] = {"antientropy_hints", drop_hints},
         [SLOTS] = {"antientropy_slots", drop_slots},
     };
@@ -112,12 +120,28 @@ ERL_NIF_TERM with_lock(const struct call *call, ErlNifEnv *env, int argc, const 
     return or_elsewhere(env, result, call->name, call->again, argc, argv);
 }
 
-struct resource *make_resource(enum kind kind)
+static struct resource *make_zero(enum kind kind)
 {
     struct resource *made = enif_alloc_resource(types[kind], sizeof *made);
+    return made == NULL ? NULL : memset(made, 0, sizeof *made);
+}
+
+struct resource *make_exchange(struct resource *replica)
+{
+    struct resource *made = make_zero(EXCHANGE);
     if (made == NULL)
         return NULL;
-    memset(made, 0, sizeof *made);
+    enif_keep_resource(replica);
+    made->of = replica;
+    made->lock = replica->lock;
+    return made;
+}
+
+struct resource *make_resource(enum kind kind)
+{
+    struct resource *made = make_zero(kind);
+    if (made == NULL)
+        return NULL;
     made->lock = enif_rwlock_create("antientropy");
     if (made->lock == NULL) {
         enif_release_resource(made);

@@ -10,13 +10,16 @@
 
 #define UNUSED __attribute__((unused))
 
-enum kind { REPLICA, SNAPSHOT, HINTS, SLOTS, KINDS };
+enum kind { REPLICA, SNAPSHOT, EXCHANGE, HINTS, SLOTS, KINDS };
 
+/* An exchange keeps the resource of its replica, and has its lock. */
 struct resource {
     ErlNifRWLock *lock;
+    struct resource *of;
     union {
         struct antientropy_replica replica;
         struct antientropy_snapshot snapshot;
+        struct antientropy_exchange exchange;
         struct antientropy_hints hints;
         struct antientropy_slots slots;
     };
@@ -98,6 +101,9 @@ ERL_NIF_TERM with_lock(const struct call *call, ErlNifEnv *env, int argc, const 
 
 /* Makes a resource whose handle holds nothing, or returns NULL without memory. */
 struct resource *make_resource(enum kind kind);
+
+/* Makes a resource of a replica's exchange whose handle holds nothing, or returns NULL without memory. */
+struct resource *make_exchange(struct resource *replica);
 
 /* Returns {ok, Handle} or a refusal, and releases the resource. */
 ERL_NIF_TERM handle_result(ErlNifEnv *env, struct resource *made, uint32_t number);

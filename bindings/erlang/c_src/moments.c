@@ -1,6 +1,4 @@
 /* Moments: the rows of a replica at a time, which are hashed in portions while other calls go on. */
-#include <string.h>
-
 #include "handles.h"
 #include "terms.h"
 
@@ -108,94 +106,54 @@ CALL(REPLICA, snapshot_of_moment)
     return handle_result(env, made, call_or_hash(at, holds, most, fill, made));
 }
 
-/* A session that is opened with a partner's offer: if `compares`, only if the rows aren't those of the moment's
- * snapshot, which is to be freed without the lock. */
+/* An exchange that is opened with a partner's offer. The moment's snapshot is to be freed without the lock: if no
+ * session is opened, it alone has rows that have changed meanwhile. */
 struct opening {
-    uint64_t partner, session;
+    struct resource *made;
+    uint64_t partner;
     ErlNifBinary offer;
-    bool compares, is_equal;
+    struct antientropy_bounds bounds;
     struct antientropy_snapshot moment;
 };
 
-/* Reads the second and the third argument. */
-static uint32_t get_opening(ErlNifEnv *env, const ERL_NIF_TERM argv[], struct opening *opening)
+/* Opens the exchange at the moment. */
+static uint32_t open_exchange(struct resource *at, void *of)
 {
-    if (!get_u64(env, argv[1], &opening->partner))
-        return BADARG;
-    return get_bytes(env, argv[2], &opening->offer);
-}
-
-/* Compares the root of the moment with that of an offer. */
-static uint32_t compare_roots(const struct resource *at, const struct antientropy_offer_parts *parts,
-                              struct opening *opening)
-{
-    uint8_t root[ANTIENTROPY_ROOT_LEN];
-    uint64_t len;
-    uint32_t number = antientropy_moment(&at->replica, &opening->moment);
+    struct opening *opening = of;
+    uint32_t number = antientropy_exchange_open(&at->replica, &opening->made->exchange, opening->partner,
+                                                opening->offer.data, opening->offer.size, &opening->bounds);
     if (number == ANTIENTROPY_OK)
-        number = antientropy_root(&opening->moment, root, sizeof root, &len);
-    if (number == ANTIENTROPY_OK)
-        opening->is_equal = memcmp(root, parts->root, sizeof root) == 0;
+        antientropy_moment(&at->replica, &opening->moment);
     return number;
 }
 
-/* Compares the format, the range and the root of the moment with those of an offer. */
-static uint32_t compare(const struct resource *at, struct opening *opening)
+static bool get_bounds(ErlNifEnv *env, ERL_NIF_TERM map, struct antientropy_bounds *bounds)
 {
-    struct antientropy_offer_parts parts;
-    struct antientropy_about about;
-    uint32_t number = antientropy_read_offer(opening->offer.data, opening->offer.size, &parts);
-    if (number == ANTIENTROPY_OK)
-        number = antientropy_about(&at->replica, &about);
-    if (number != ANTIENTROPY_OK)
-        return number;
-    if (parts.format != about.format || parts.range != about.range)
-        return ANTIENTROPY_OK;
-    return compare_roots(at, &parts, opening);
+    ERL_NIF_TERM asks, bytes, bad, lost;
+    return enif_get_map_value(env, map, atoms.asks, &asks) && get_u64(env, asks, &bounds->asks)
+        && enif_get_map_value(env, map, atoms.bytes, &bytes) && get_u64(env, bytes, &bounds->bytes)
+        && enif_get_map_value(env, map, atoms.bad, &bad) && get_u64(env, bad, &bounds->bad)
+        && enif_get_map_value(env, map, atoms.lost, &lost) && get_u64(env, lost, &bounds->lost);
 }
 
-/* Opens a session at the moment, unless the rows are equal. */
-static uint32_t open_session(struct resource *at, void *of)
-{
-    struct opening *opening = of;
-    uint32_t number = opening->compares ? compare(at, opening) : ANTIENTROPY_OK;
-    if (number != ANTIENTROPY_OK || opening->is_equal)
-        return number;
-    return antientropy_open_at_moment(&at->replica, opening->partner, opening->offer.data, opening->offer.size,
-                                      &opening->session);
-}
-
-/* Returns {ok, Session}, `equal`, `more` or a refusal. */
-static ERL_NIF_TERM opening_result(ErlNifEnv *env, uint32_t number, const struct opening *opening)
-{
-    if (number != ANTIENTROPY_OK)
-        return refused(env, number);
-    return opening->is_equal ? atoms.equal : ok(env, enif_make_uint64(env, opening->session));
-}
-
-/* open_at_moment(Replica, Partner, Offer) -> {ok, Session} */
-CALL(REPLICA, open_at_moment)
-{
-    struct opening opening = {0};
-    uint32_t number = get_opening(env, argv, &opening);
-    if (number == ANTIENTROPY_OK)
-        number = open_session(at, &opening);
-    return opening_result(env, number, &opening);
-}
-
-/* open_of_moment(Replica, Partner, Offer, Compares, Holds, Most) -> {ok, Session} | equal | more */
-CALL(REPLICA, open_of_moment)
+/* exchange_of_moment(Replica, Partner, Offer, Bounds, Holds, Most) -> {ok, Exchange} | more */
+CALL(REPLICA, exchange_of_moment)
 {
     bool holds;
     uint64_t most;
     struct opening opening = {0};
-    if (!get_bool(argv[3], &opening.compares) || !get_bool(argv[4], &holds) || !get_u64(env, argv[5], &most))
+    if (!get_u64(env, argv[1], &opening.partner) || !get_bounds(env, argv[3], &opening.bounds)
+        || !get_bool(argv[4], &holds) || !get_u64(env, argv[5], &most))
         return enif_make_badarg(env);
-    uint32_t number = get_opening(env, argv, &opening);
-    if (number == ANTIENTROPY_OK)
-        number = call_or_hash(at, holds, most, open_session, &opening);
+    uint32_t number = get_bytes(env, argv[2], &opening.offer);
+    if (number != ANTIENTROPY_OK)
+        return refused(env, number);
+    opening.made = make_exchange(at);
+    if (opening.made == NULL)
+        return refused(env, ANTIENTROPY_NO_MEMORY);
+    number = call_or_hash(at, holds, most, open_exchange, &opening);
     enif_rwlock_rwunlock(at->lock);
     antientropy_snapshot_free(&opening.moment);
     enif_rwlock_rwlock(at->lock);
-    return opening_result(env, number, &opening);
+    return handle_result(env, opening.made, number);
 }

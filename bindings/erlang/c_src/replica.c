@@ -1,4 +1,4 @@
-/* A replica as a whole: its making, its counts, its tree, and rows that are loaded. */
+/* A replica as a whole: its making, its counts, its tree, its sessions, and rows that are loaded. */
 #include "handles.h"
 #include "terms.h"
 
@@ -110,6 +110,12 @@ CALL(REPLICA, rehash_some)
         return enif_make_badarg(env);
     uint32_t number = antientropy_rehash_some(&at->replica, most, &left);
     return number == ANTIENTROPY_OK ? ok(env, enif_make_uint64(env, left)) : refused(env, number);
+}
+
+/* drop_sessions(Replica) -> ok */
+CALL(REPLICA, drop_sessions)
+{
+    return done(env, antientropy_drop_sessions(&at->replica));
 }
 
 /* Returns {ok, Loaded} or a refusal, with the offset of a broken row. */

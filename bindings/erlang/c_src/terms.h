@@ -13,16 +13,19 @@
     X(accepted, "accepted")                                                                                            \
     X(after, "after")                                                                                                  \
     X(apart, "apart")                                                                                                  \
+    X(asks, "asks")                                                                                                    \
+    X(bad, "bad")                                                                                                      \
     X(before, "before")                                                                                                \
     X(bits, "bits")                                                                                                    \
     X(bytes, "bytes")                                                                                                  \
-    X(cancelled, "cancelled")                                                                                          \
+    X(bytes_on_way, "bytes_on_way")                                                                                    \
+    X(cause, "cause")                                                                                                  \
     X(clock, "clock")                                                                                                  \
+    X(closed, "closed")                                                                                                \
     X(copy, "copy")                                                                                                    \
     X(counter, "counter")                                                                                              \
     X(delivered, "delivered")                                                                                          \
     X(dirty, "dirty")                                                                                                  \
-    X(done, "done")                                                                                                    \
     X(entries, "entries")                                                                                              \
     X(equal, "equal")                                                                                                  \
     X(error, "error")                                                                                                  \
@@ -33,13 +36,18 @@
     X(free, "free")                                                                                                    \
     X(from, "from")                                                                                                    \
     X(front, "front")                                                                                                  \
+    X(gone, "gone")                                                                                                    \
     X(hint, "hint")                                                                                                    \
     X(journal, "journal")                                                                                              \
     X(key, "key")                                                                                                      \
     X(known, "known")                                                                                                  \
+    X(late, "late")                                                                                                    \
     X(leaf, "leaf")                                                                                                    \
+    X(leaves, "leaves")                                                                                                \
+    X(left, "left")                                                                                                    \
     X(lent, "lent")                                                                                                    \
     X(limit, "limit")                                                                                                  \
+    X(lost, "lost")                                                                                                    \
     X(more, "more")                                                                                                    \
     X(new, "new")                                                                                                      \
     X(next, "next")                                                                                                    \
@@ -47,23 +55,29 @@
     X(none, "none")                                                                                                    \
     X(number, "number")                                                                                                \
     X(ok, "ok")                                                                                                        \
-    X(open, "open")                                                                                                    \
+    X(on_way, "on_way")                                                                                                \
     X(open_sessions, "open_sessions")                                                                                  \
     X(owner, "owner")                                                                                                  \
     X(partner, "partner")                                                                                              \
     X(pending, "pending")                                                                                              \
     X(put, "put")                                                                                                      \
     X(range, "range")                                                                                                  \
+    X(refused, "refused")                                                                                              \
+    X(report, "report")                                                                                                \
     X(root, "root")                                                                                                    \
-    X(row_broken, "row_broken")                                                                                        \
     X(rows, "rows")                                                                                                    \
     X(sessions, "sessions")                                                                                            \
     X(source, "source")                                                                                                \
-    X(state, "state")                                                                                                  \
+    X(stopped, "stopped")                                                                                              \
+    X(taken, "taken")                                                                                                  \
     X(target, "target")                                                                                                \
     X(tombstone, "tombstone")                                                                                          \
+    X(too_many_bad, "too_many_bad")                                                                                    \
+    X(too_many_lost, "too_many_lost")                                                                                  \
     X(undefined, "undefined")                                                                                          \
     X(value, "value")                                                                                                  \
+    X(verdict, "verdict")                                                                                              \
+    X(waiting, "waiting")                                                                                              \
     X(yes, "true")
 
 #define ATOM_FIELD(field, text) ERL_NIF_TERM field;

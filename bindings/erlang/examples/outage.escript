@@ -36,7 +36,7 @@ sync(Replica, Partner, Node) ->
     {ok, Snapshot} = antientropy:snapshot(Partner),
     {ok, Offer} = antientropy_snapshot:offer(Snapshot, 1),
     Reach = fun(Asks) -> [antientropy_snapshot:serve(Snapshot, 1, Ask) || Ask <- Asks] end,
-    {ok, #{state := finished, accepted := Accepted}} = antientropy:sync(Replica, Node, Offer, Reach),
+    {ok, #{report := finished, accepted := Accepted}} = antientropy:sync(Replica, Node, Offer, Reach),
     ok = antientropy_snapshot:close(Snapshot),
     Accepted.
 

@@ -4,10 +4,11 @@
 %% carries. {@link antientropy_hints} and {@link antientropy_slots} are apart.
 %%
 %% A call returns `{error, Name}' if it is refused: Name is the library's name of the cause, and docs/FORMATS.md says
-%% what to do. A refused call changes nothing, except as `antientropy.h' says, and that a snapshot, an opening or a sync
-%% may have held a moment ({@link hold/1}). An argument of a wrong type raises `badarg', and so does a number of over 64
-%% bits (of an offer and of slots: over 32 bits). A value or a clock that is too long is refused without a look at all
-%% of it. A source, a state or an order that only a newer library knows is its number.
+%% what to do. A refused call changes nothing, except as `antientropy.h' says, that an exchange or a snapshot may have
+%% held a moment ({@link hold/1}), and that a sync keeps what it took. An argument of a wrong type raises `badarg', and
+%% so does a number of over 64 bits (of an offer and of slots: over 32 bits). A value or a clock that is too long is
+%% refused without a look at all of it. A source, a verdict, a report or an order that only a newer library knows is its
+%% number.
 %%
 %% Processes may share a handle, which has a lock, and read a replica or a snapshot at once. It is of its node: send
 %% messages to other nodes, not handles.
@@ -20,13 +21,14 @@
 -export([packed_entries/2, unpack_entries/1]).
 -export([root/1, snapshot/1, snapshot/2, load_rows/2, load_format/3, save/2, load/1, load/2]).
 -export([hold/1, hash_moment/2, moment/1, drop_moment/1, rehash/1, rehash_some/2]).
--export([open/3, open/4, open_at_moment/3, drop_sessions/1, sync/4, sync/5]).
+-export([exchange/4, drop_sessions/1, sync/4, sync/5]).
 
 -export_type([replica/0, options/0, clock/0, clock_like/0, value/0, value_like/0, version/0, version_like/0]).
 -export_type([entry/0, packed/0, order/0, refused/0]).
 
 -define(OPTIONS, #{format => 2, bits => 0, range => 0, limit => 1000000}).
 -define(LIMIT, 1000000).
+-define(BOUNDS, #{asks => 256, bytes => 1 bsl 20, bad => 8, lost => 256}).
 %% No journal has more entries.
 -define(ALL, 16#ffffffffffffffff).
 
@@ -454,12 +456,12 @@ load(File, Limit) ->
 %% @doc Keeps the rows now as the replica's moment, in the place of another one. Copies no row.
 %%
 %% A moment never changes, so it is hashed while the replica goes on: repeat {@link hash_moment/2} until no node is
-%% left. Then {@link moment/1} and {@link open_at_moment/3} use it. While the moment is kept, the first change of each
-%% block of some rows copies the block. The next hold frees the blocks that only this moment has, and other calls wait
-%% meanwhile: so call {@link drop_moment/1} before the snapshot is closed.
+%% left. Then {@link moment/1} makes its snapshot. While the moment is kept, the first change of each block of some rows
+%% copies the block. The next hold frees the blocks that only this moment has, and other calls wait meanwhile: so call
+%% {@link drop_moment/1} before the snapshot is closed.
 %%
-%% {@link snapshot/1}, {@link root/1}, {@link save/2}, {@link open/3} and {@link sync/4} make all these calls. Each
-%% holds a moment in the place of another one, and drops it before it returns.
+%% {@link snapshot/1}, {@link root/1}, {@link save/2}, {@link exchange/4} and {@link sync/4} make all these calls. Each
+%% holds a moment in the place of another one, and drops it before it returns or syncs.
 -spec hold(replica()) -> ok | refused().
 hold(Replica) ->
     antientropy_nif:hold(Replica).
@@ -482,7 +484,7 @@ drop_moment(Replica) ->
 
 %% @doc Hashes all nodes of the tree that have no digest. All other calls of the replica wait for it.
 %%
-%% No other call needs it, except a snapshot or a session that is to hash nothing.
+%% No other call needs it, except a snapshot that is to hash nothing.
 -spec rehash(replica()) -> ok | refused().
 rehash(Replica) ->
     antientropy_nif:rehash(Replica).
@@ -494,64 +496,42 @@ rehash(Replica) ->
 rehash_some(Replica, Most) ->
     antientropy_nif:rehash_some(Replica, Most).
 
-%% ---- sessions
+%% ---- syncs
 
-%% @doc Opens a session with a partner's offer: see {@link antientropy_session}.
+%% @doc Opens an exchange with a partner's offer: see {@link antientropy_exchange}.
 %%
 %% It compares the rows of a moment, which it holds and hashes as {@link snapshot/1} does. So it may ask for leaves that
-%% differ only because the replica has gone on. A session is kept until {@link drop_sessions/1}, so compare roots first.
-%% Refused: `bad_clock' (the partner is over 65,535), `bad_message', `other_format', `other_range', `sessions_full' (64
-%% sessions are open, or 1,024 are kept).
--spec open(replica(), Partner :: non_neg_integer(), Offer :: iodata()) ->
-    {ok, antientropy_session:session()} | refused().
-open(Replica, Partner, Offer) ->
-    opened(antientropy_moment:open(Replica, Partner, Offer), Replica, Offer).
-
-%% @doc Opens a session as {@link open/3} does. If `rehash' is false, compares the rows now, and hashes nothing.
-%%
-%% Refused then also: `dirty' (a node of the tree has no digest).
--spec open(replica(), Partner :: non_neg_integer(), Offer :: iodata(), #{rehash => boolean()}) ->
-    {ok, antientropy_session:session()} | refused().
-open(Replica, Partner, Offer, Options) ->
-    case is_to_hash(Options) of
-        true -> open(Replica, Partner, Offer);
-        false -> opened(antientropy_nif:open(Replica, Partner, Offer), Replica, Offer)
-    end.
-
-%% @doc Opens a session as {@link open/3} does, but with the moment that the replica keeps.
-%%
-%% Refused also: `dirty' (there is no moment, or it isn't whole).
--spec open_at_moment(replica(), Partner :: non_neg_integer(), Offer :: iodata()) ->
-    {ok, antientropy_session:session()} | refused().
-open_at_moment(Replica, Partner, Offer) ->
-    opened(antientropy_nif:open_at_moment(Replica, Partner, Offer), Replica, Offer).
-
-opened({ok, Number}, Replica, Offer) -> {ok, antientropy_session:of_number(Replica, Offer, Number)};
-opened(Refused, _, _) -> Refused.
+%% differ only because the replica has gone on. If the roots are equal it is finished, and has no session. Of the bounds
+%% those that aren't there are 256 asks, 1 MiB of bytes, and 8 bad answers and 256 lost asks. Refused: `bad_clock' (the
+%% partner is over 65,535), `bad_message', `other_format', `other_range', `sessions_full' (64 sessions are open, or
+%% 1,024 are kept).
+-spec exchange(replica(), Partner :: non_neg_integer(), Offer :: iodata(), antientropy_exchange:bounds()) ->
+    {ok, antientropy_exchange:exchange()} | refused().
+exchange(Replica, Partner, Offer, Bounds) ->
+    antientropy_moment:exchange(Replica, Partner, Offer, with_defaults(Bounds, ?BOUNDS)).
 
 %% @doc Drops the sessions that have ended, and all that they keep: rows that later puts have changed, and texts.
 %%
-%% {@link sync/4} does so at its end: call it after a session of {@link open/3}. Open sessions are unchanged. Calls of
-%% one that was dropped are refused as `unknown_session'. Entries of the source `partner' have the source `copy' then.
+%% {@link antientropy_exchange:close/1} does so. Open sessions are unchanged. Entries of the source `partner' have the
+%% source `copy' then.
 -spec drop_sessions(replica()) -> ok | refused().
 drop_sessions(Replica) ->
     antientropy_nif:drop_sessions(Replica).
 
-%% @doc Syncs with 256 asks at once and at most 8 bad answers: see {@link sync/5}.
+%% @doc Syncs within the default bounds: see {@link sync/5}.
 -spec sync(replica(), Partner :: non_neg_integer(), Offer :: iodata(), antientropy_sync:reach()) ->
     {ok, antientropy_sync:synced()} | refused().
 sync(Replica, Partner, Offer, Reach) ->
     sync(Replica, Partner, Offer, Reach, #{}).
 
-%% @doc Takes the versions of a partner's offer that a replica lacks. If the roots are equal it opens no session.
+%% @doc Takes the versions of a partner's offer that a replica lacks, by an exchange, which it closes at its end.
 %%
-%% It compares a moment with the offer, as {@link open/3} does, so other processes may put meanwhile. `Reach' sends at
-%% most `in_flight' asks to the partner, and returns the answers in their order. After more than `most_bad' bad or
-%% missing answers the sync ends unfinished. A leaf with a crowded key is left. At its end, also if it is refused or
-%% `Reach' raises an exception, it cancels its session and calls {@link drop_sessions/1}. (A process that is killed in a
-%% sync leaves its session open.) Refused: what {@link open/3} refuses, `not_canonical', `journal_full'.
+%% Other processes may put meanwhile. `Reach' sends asks to the partner, as many as the bounds allow, and returns the
+%% answers, in any order; those that are missing count as lost. If it raises an exception, the exchange is closed, too.
+%% (A process that is killed in a sync leaves its session open.) What was taken stays. Refused: what {@link exchange/4}
+%% refuses, `not_canonical', `journal_full'.
 -spec sync(replica(), Partner :: non_neg_integer(), Offer :: iodata(), antientropy_sync:reach(), Bounds) ->
     {ok, antientropy_sync:synced()} | refused() when
-    Bounds :: #{in_flight => pos_integer(), most_bad => non_neg_integer()}.
+    Bounds :: antientropy_exchange:bounds().
 sync(Replica, Partner, Offer, Reach, Bounds) ->
-    antientropy_sync:sync(Replica, Partner, Offer, Reach, with_defaults(Bounds, #{in_flight => 256, most_bad => 8})).
+    antientropy_sync:sync(Replica, Partner, Offer, Reach, Bounds).

@@ -6,13 +6,14 @@
 -export([
     version/0, name/1, place/3, compare/2, merge/2, read_offer/1, new/4, new_seeded/6, close/1, renew/2, migrate/1,
     about/1, count/1, bytes/1, rehash/1, rehash_some/2, hold/1, drop_moment/1, hash_moment/2, moment/1,
-    snapshot_of_moment/3, open_at_moment/3, open_of_moment/6, load_rows/2, load_format/3, put/5, put_unread/5, accept/3,
-    get/2, read/3, count_versions/2, value/3, clock/3, row/2, key_after/3, entry/2, packed_entries/2, top_counter/4,
+    snapshot_of_moment/3, exchange_of_moment/6, load_rows/2, load_format/3, put/5, put_unread/5, accept/3, get/2,
+    read/3, count_versions/2, value/3, clock/3, row/2, key_after/3, entry/2, packed_entries/2, top_counter/4,
     snapshot/1, snapshot_share/1, snapshot_close/1, snapshot_info/1, snapshot_bytes/1, snapshot_row/2,
-    snapshot_key_after/3, root/1, digest/3, offer/2, serve/3, rows/2, open/3, session/2, outstanding/2, ask/3, ask_at/4,
-    asks/3, take/4, cancel/2, close_session/2, drop_sessions/1, hints_new/0, hints_restore/1, hints_close/1,
-    hint_keep/4, hint_next/3, hint/2, hint_confirm/3, hints_renew/1, hints_count/1, hints_bytes/1, slots_new/3,
-    slots_close/1, slot_lend/1, slot_give_back/1, slots_sample/3, slots_adjust/2, slots_set_target/2, slots_count/1
+    snapshot_key_after/3, root/1, digest/3, offer/2, serve/3, rows/2, exchange_asks/1, exchange_take/2, exchange_lose/2,
+    exchange_go_on/1, exchange_progress/1, exchange_left/1, exchange_close/1, drop_sessions/1, hints_new/0,
+    hints_restore/1, hints_close/1, hint_keep/4, hint_next/3, hint/2, hint_confirm/3, hints_renew/1, hints_count/1,
+    hints_bytes/1, slots_new/3, slots_close/1, slot_lend/1, slot_give_back/1, slots_sample/3, slots_adjust/2,
+    slots_set_target/2, slots_count/1
 ]).
 
 -define(NOT_LOADED, erlang:nif_error(not_loaded)).
@@ -44,8 +45,7 @@ drop_moment(_Replica) -> ?NOT_LOADED.
 hash_moment(_Replica, _Most) -> ?NOT_LOADED.
 moment(_Replica) -> ?NOT_LOADED.
 snapshot_of_moment(_Replica, _Holds, _Most) -> ?NOT_LOADED.
-open_at_moment(_Replica, _Partner, _Offer) -> ?NOT_LOADED.
-open_of_moment(_Replica, _Partner, _Offer, _Compares, _Holds, _Most) -> ?NOT_LOADED.
+exchange_of_moment(_Replica, _Partner, _Offer, _Bounds, _Holds, _Most) -> ?NOT_LOADED.
 load_rows(_Replica, _Rows) -> ?NOT_LOADED.
 load_format(_Replica, _Format, _Rows) -> ?NOT_LOADED.
 put(_Replica, _Node, _Key, _Value, _Context) -> ?NOT_LOADED.
@@ -73,15 +73,13 @@ digest(_Snapshot, _Depth, _Index) -> ?NOT_LOADED.
 offer(_Snapshot, _Number) -> ?NOT_LOADED.
 serve(_Snapshot, _Number, _Ask) -> ?NOT_LOADED.
 rows(_Snapshot, _Leaf) -> ?NOT_LOADED.
-open(_Replica, _Partner, _Offer) -> ?NOT_LOADED.
-session(_Replica, _Session) -> ?NOT_LOADED.
-outstanding(_Replica, _Session) -> ?NOT_LOADED.
-ask(_Replica, _Session, _Number) -> ?NOT_LOADED.
-ask_at(_Replica, _Session, _Place, _Number) -> ?NOT_LOADED.
-asks(_Replica, _Session, _Number) -> ?NOT_LOADED.
-take(_Replica, _Session, _Number, _Answer) -> ?NOT_LOADED.
-cancel(_Replica, _Session) -> ?NOT_LOADED.
-close_session(_Replica, _Session) -> ?NOT_LOADED.
+exchange_asks(_Exchange) -> ?NOT_LOADED.
+exchange_take(_Exchange, _Answer) -> ?NOT_LOADED.
+exchange_lose(_Exchange, _Ask) -> ?NOT_LOADED.
+exchange_go_on(_Exchange) -> ?NOT_LOADED.
+exchange_progress(_Exchange) -> ?NOT_LOADED.
+exchange_left(_Exchange) -> ?NOT_LOADED.
+exchange_close(_Exchange) -> ?NOT_LOADED.
 drop_sessions(_Replica) -> ?NOT_LOADED.
 hints_new() -> ?NOT_LOADED.
 hints_restore(_First) -> ?NOT_LOADED.

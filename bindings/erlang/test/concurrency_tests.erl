@@ -37,7 +37,7 @@ write(Replica, Node) ->
 sync_while([], _, _) ->
     ok;
 sync_while([{Writer, Monitor} | Writers], Copy, Replica) ->
-    ?assertMatch(#{state := finished}, support:sync(Copy, Replica)),
+    ?assertMatch(#{report := finished}, support:sync(Copy, Replica)),
     receive
         {'DOWN', Monitor, process, Writer, Reason} ->
             ?assertEqual(normal, Reason),
@@ -53,7 +53,7 @@ a_process_serves_a_snapshot_test() ->
     {ok, Offer} = antientropy_snapshot:offer(Snapshot, 1),
     Syncing = async(fun() -> antientropy:sync(Copy, 1, Offer, reach(Snapshot, 1)) end),
     write(Replica, 2),
-    ?assertMatch({ok, #{state := finished, accepted := ?PUTS}}, await(Syncing)),
+    ?assertMatch({ok, #{report := finished, accepted := ?PUTS}}, await(Syncing)),
     ?assertEqual(antientropy_snapshot:root(Snapshot), antientropy:root(Copy)).
 
 %% Processes read a replica at once while another one puts.
@@ -169,15 +169,15 @@ long_texts_go_elsewhere() ->
     {ok, #{leaf := Leaf}} = antientropy:place(2, 0, <<"great">>),
     {ok, Snapshot} = antientropy:snapshot(Replica),
     {ok, Offer} = antientropy_snapshot:offer(Snapshot, 1),
-    {ok, Session} = antientropy:open(Copy, 1, Offer),
-    Answer = last_answer(Session, Snapshot),
+    {ok, Exchange} = antientropy:exchange(Copy, 1, Offer, #{}),
+    Answer = last_answer(Exchange, Snapshot),
     {ok, _} = elsewhere(fun() -> antientropy:get(Replica, <<"great">>) end),
     {ok, Row} = elsewhere(fun() -> antientropy:row(Replica, <<"great">>) end),
     {ok, #{next := 15}} = elsewhere(fun() -> antientropy:packed_entries(Replica, 0) end),
     {ok, Row} = elsewhere(fun() -> antientropy_snapshot:rows(Snapshot, Leaf) end),
     {ok, Row} = elsewhere(fun() -> antientropy_snapshot:row(Snapshot, <<"great">>) end),
     {ok, Answer} = elsewhere(fun() -> antientropy_snapshot:serve(Snapshot, 1, <<2, 1:32, 3, Leaf:16>>) end),
-    {ok, #{accepted := 64}} = elsewhere(fun() -> antientropy_session:take(Session, Answer) end),
+    {ok, #{accepted := 64}} = elsewhere(fun() -> antientropy_exchange:take(Exchange, Answer) end),
     {ok, #{known := 64}} = elsewhere(fun() -> antientropy:load_rows(Copy, Row) end).
 
 %% Arguments that are too long for any call are refused before all of them is read, which takes some tenths of a second.
@@ -207,15 +207,15 @@ elsewhere(Call) ->
     Result.
 
 %% Takes all answers but the last, that of the leaf, which it returns.
-last_answer(Session, Snapshot) ->
-    {ok, <<_:5/binary, Depth, _/binary>> = Ask} = antientropy_session:ask(Session),
+last_answer(Exchange, Snapshot) ->
+    {ok, [<<_:5/binary, Depth, _/binary>> = Ask]} = antientropy_exchange:asks(Exchange),
     {ok, Answer} = antientropy_snapshot:serve(Snapshot, 1, Ask),
     case Depth of
         3 ->
             Answer;
         _ ->
-            {ok, _} = antientropy_session:take(Session, Answer),
-            last_answer(Session, Snapshot)
+            {ok, #{verdict := taken}} = antientropy_exchange:take(Exchange, Answer),
+            last_answer(Exchange, Snapshot)
     end.
 
 %% Makes a call, and returns how often another process ran meanwhile, with the result.

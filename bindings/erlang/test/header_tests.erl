@@ -5,6 +5,9 @@
 
 -define(HEADER, "../../include/antientropy.h").
 
+%% C's own loop of a sync, which has no functions here: an exchange is that loop.
+-define(LOOP, ["open", "open_at_moment", "outstanding", "ask", "ask_at", "take", "session", "cancel"]).
+
 %% The function for each call of the header.
 -define(FUNCTIONS, #{
     "version" => {antientropy, version, 0},
@@ -59,15 +62,16 @@
     "rows" => {antientropy_snapshot, rows, 2},
     "load" => {antientropy, load_rows, 2},
     "load_format" => {antientropy, load_format, 3},
-    "open" => {antientropy, open, 4},
-    "open_at_moment" => {antientropy, open_at_moment, 3},
-    "outstanding" => {antientropy_session, outstanding, 1},
-    "ask_at" => {antientropy_session, ask_at, 2},
-    "ask" => {antientropy_session, ask, 1},
-    "take" => {antientropy_session, take, 2},
-    "cancel" => {antientropy_session, cancel, 1},
+    "exchange_open" => {antientropy, exchange, 4},
+    "exchange_next" => {antientropy_exchange, asks, 1},
+    "exchange_take" => {antientropy_exchange, take, 2},
+    "exchange_lose" => {antientropy_exchange, lose, 2},
+    "exchange_go_on" => {antientropy_exchange, go_on, 1},
+    "exchange_report" => {antientropy_exchange, progress, 1},
+    "exchange_left" => {antientropy_exchange, left, 1},
+    "exchange_close" => {antientropy_exchange, close, 1},
+    "exchange_free" => {antientropy_exchange, close, 1},
     "drop_sessions" => {antientropy, drop_sessions, 1},
-    "session" => {antientropy_session, state, 1},
     "hints_new" => {antientropy_hints, new, 0},
     "hints_restore" => {antientropy_hints, restore, 1},
     "hints_free" => {antientropy_hints, close, 1},
@@ -155,12 +159,14 @@ is_exported({Module, Function, Arity}) ->
     {module, Module} = code:ensure_loaded(Module),
     erlang:function_exported(Module, Function, Arity).
 
-%% The names of the calls in the header, but for those by shares, which its inline functions make, and for key_next and
-%% hash_moment. key_next is key_after with the key's memory for the result. hash_moment is the calls of a portion in
-%% one: the replica would be locked meanwhile. Those of exchanges are left out: they have no functions yet.
+%% The names of the calls in the header, but for those by shares, which its inline functions make, those of C's own
+%% loop, key_next and hash_moment. key_next is key_after with the key's memory for the result. hash_moment is the calls
+%% of a portion in one: the replica would be locked meanwhile.
 declared() ->
-    Declared = "(?m)^(?:static inline )?(?:uint32_t|void) antientropy_(?!share_|exchange_)(\\w+)\\(",
-    found([text(?HEADER)], Declared) -- ["key_next", "hash_moment"].
+    Declared = "(?m)^(?:static inline )?(?:uint32_t|void) antientropy_(?!share_)(\\w+)\\(",
+    All = found([text(?HEADER)], Declared),
+    ?assertEqual([], ?LOOP -- All),
+    All -- ["key_next", "hash_moment" | ?LOOP].
 
 %% The first group of each match, sorted.
 found(Texts, Pattern) ->

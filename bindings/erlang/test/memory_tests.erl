@@ -17,6 +17,17 @@ replicas_and_snapshots_test_() ->
         {ok, _} = antientropy_snapshot:root(Shared)
     end).
 
+%% An exchange keeps its replica: both are freed.
+exchanges_test_() ->
+    {ok, Snapshot} = antientropy:snapshot(support:fill(replica(), 1)),
+    {ok, Offer} = antientropy_snapshot:offer(Snapshot, 1),
+    freed(4 * ?MIB, fun() ->
+        Replica = replica(),
+        [{ok, _} = antientropy:put(Replica, 1, <<Key>>, ?VALUE) || Key <- lists:seq(1, 64)],
+        {ok, Exchange} = antientropy:exchange(Replica, 1, Offer, #{}),
+        {ok, [_]} = antientropy_exchange:asks(Exchange)
+    end).
+
 closed_replicas_test_() ->
     freed(4 * ?MIB, fun() ->
         Replica = replica(),

@@ -46,32 +46,15 @@ no_moment_is_left_test() ->
     {ok, #{asks := 0}} = antientropy:sync(Replica, 2, Offer, fun(_) -> [] end),
     no_moment(10, Replica),
     {ok, _} = antientropy:put(Replica, 1, <<"later">>, <<>>),
-    {error, bad_message} = antientropy:open(Replica, 2, <<>>),
+    {error, bad_message} = antientropy:exchange(Replica, 2, <<>>, #{}),
     no_moment(10, Replica),
-    {ok, _} = antientropy:open(Replica, 2, Offer),
+    {ok, _} = antientropy:exchange(Replica, 2, Offer, #{}),
     no_moment(11, Replica).
 
 no_moment(Front, Replica) ->
     ?assertEqual({error, dirty}, antientropy:moment(Replica)),
     ?assertEqual({ok, 0}, antientropy:hash_moment(Replica, 0)),
     ?assertMatch({ok, #{front := Front}}, antientropy:count(Replica)).
-
-open_at_moment_test() ->
-    Replica = fill(replica(), 10),
-    Copy = replica(),
-    {ok, Snapshot} = antientropy:snapshot(Replica),
-    {ok, Offer} = antientropy_snapshot:offer(Snapshot, 1),
-    Open = fun() -> antientropy:open_at_moment(Copy, 1, Offer) end,
-    support:refused(dirty, Copy, Open),
-    ok = antientropy:hold(Copy),
-    support:refused(dirty, Copy, Open),
-    ok = hash_all(Copy),
-    {ok, _} = antientropy:put(Copy, 2, <<"later">>, <<>>),
-    support:refused(bad_message, Copy, fun() -> antientropy:open_at_moment(Copy, 1, <<>>) end),
-    {ok, Session} = Open(),
-    {ok, [Ask]} = antientropy_session:asks(Session),
-    {ok, Answer} = antientropy_snapshot:serve(Snapshot, 1, Ask),
-    ?assertMatch({ok, #{state := open}}, antientropy_session:take(Session, Answer)).
 
 %% Moments that another process holds and drops don't keep a call from its end.
 beside_moments_test_() ->
@@ -149,8 +132,8 @@ save_and_sync(Replica, Partner) ->
     sync_both_ways(Replica, Partner).
 
 sync_both_ways(Replica, Partner) ->
-    ?assertMatch(#{state := finished}, support:sync(Replica, Partner)),
-    ?assertMatch(#{state := finished}, support:sync(Partner, Replica)),
+    ?assertMatch(#{report := finished}, support:sync(Replica, Partner)),
+    ?assertMatch(#{report := finished}, support:sync(Partner, Replica)),
     ok.
 
 %% Hashes the moment, some nodes at a time.

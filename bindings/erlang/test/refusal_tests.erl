@@ -107,12 +107,7 @@ other_range(Replica) ->
 
 dirty(Replica) ->
     refused(dirty, Replica, snapshot, [Replica, #{rehash => false}]),
-    {ok, Snapshot} = antientropy:snapshot(Replica),
-    {ok, Offer} = antientropy_snapshot:offer(Snapshot, 1),
-    {ok, _} = antientropy:put(Replica, 1, <<"other">>, <<>>),
-    refused(dirty, Replica, open, [Replica, 2, Offer, #{rehash => false}]),
-    refused(dirty, Replica, moment, [Replica]),
-    refused(dirty, Replica, open_at_moment, [Replica, 2, Offer]).
+    refused(dirty, Replica, moment, [Replica]).
 
 bad_ring(Replica) ->
     [
@@ -142,8 +137,8 @@ bad_message(Replica) ->
     refused(bad_message, Replica, read_offer, [<<>>]),
     [refused(bad_message, Replica, keys, [Replica, Leaf]) || Leaf <- [4096, 65_536, 1 bsl 32]],
     {ok, _} = antientropy:root(Replica),
-    refused(bad_clock, Replica, open, [Replica, 65_537, <<>>]),
-    refused(bad_message, Replica, open, [Replica, 2, <<>>]),
+    refused(bad_clock, Replica, exchange, [Replica, 65_537, <<>>, #{}]),
+    refused(bad_message, Replica, exchange, [Replica, 2, <<>>, #{}]),
     refused(bad_message, Replica, sync, [Replica, 2, <<>>, fun(_) -> [] end]).
 
 no_version(Replica) ->
@@ -209,9 +204,7 @@ empty(Replica) ->
             {load_rows, [<<>>]},
             {load_format, [2, <<>>]},
             {save, [standard_io]},
-            {open, [1, <<>>]},
-            {open, [1, <<>>, #{rehash => false}]},
-            {open_at_moment, [1, <<>>]},
+            {exchange, [1, <<>>, #{}]},
             {drop_sessions, []},
             {sync, [1, <<>>, fun(_) -> [] end]}
         ]
@@ -245,8 +238,9 @@ wrong_types(Replica) ->
             {new, [#{limit => none}]},
             {snapshot, [Replica, #{rehash => none}]},
             {snapshot, [Replica, [rehash]]},
-            {open, [Replica, 1, <<>>, #{rehash => none}]},
-            {open_at_moment, [Replica, 1, none]},
+            {exchange, [Replica, 1, none, #{}]},
+            {exchange, [Replica, 1, <<>>, #{most => 1}]},
+            {exchange, [Replica, 1, <<>>, #{lost => -1}]},
             {hash_moment, [Replica, none]},
             {sync, [Replica, 1, <<>>, none]},
             {entries, [Replica, none]},
@@ -349,8 +343,8 @@ numbers_that_c_cannot_hold(Replica) ->
             {read, [Replica, <<"k">>, -1]},
             {entry, [Replica, 1 bsl 64]},
             {keys, [Replica, 1 bsl 64]},
-            {open, [Replica, -1, <<>>]},
-            {open_at_moment, [Replica, -1, <<>>]},
+            {exchange, [Replica, -1, <<>>, #{}]},
+            {exchange, [Replica, 1, <<>>, #{bytes => 1 bsl 64}]},
             {hash_moment, [Replica, -1]},
             {new, [#{limit => 1 bsl 64}]},
             {new, [#{bits => -1}]},
@@ -364,6 +358,7 @@ other_handles(Replica) ->
     {ok, Slots} = antientropy_slots:new(1, 1, 1),
     badarg(fun() -> antientropy:count(Snapshot) end),
     badarg(fun() -> antientropy_snapshot:root(Replica) end),
+    badarg(fun() -> antientropy_exchange:asks(Replica) end),
     badarg(fun() -> antientropy_hints:count(Slots) end),
     badarg(fun() -> antientropy_slots:count(Hints) end),
     badarg(fun() -> antientropy:bytes(Hints) end),

@@ -136,14 +136,28 @@ is_joined(Range) ->
 offer(Range, Partner) ->
     with_snapshot(Range, fun(Replica, Snapshot) -> {offer, Partner, Replica, Snapshot} end).
 
-%% @doc Returns the answers to a partner's asks for its last offer. The caller's process makes them.
+%% @doc Returns the answers to the first of a partner's asks for its last offer: as many as a message may have, or one.
+%% There is none if it has another offer now. The caller's process makes them.
 -spec serve(cluster_ring:range(), Partner :: cluster_ring:place(), Number :: pos_integer(), Asks :: [binary()]) ->
     [{ok, Answer :: binary()} | antientropy:refused()].
 serve(Range, Partner, Number, Asks) ->
     case call(Range, {offered, Partner}) of
-        {Number, Snapshot} -> [antientropy_snapshot:serve(Snapshot, Number, Ask) || Ask <- Asks];
+        {Number, Snapshot} -> answers(Asks, fun(Ask) -> antientropy_snapshot:serve(Snapshot, Number, Ask) end, 0);
         _ -> []
     end.
+
+answers([], _, _) ->
+    [];
+answers([Ask | Asks], Serve, Before) ->
+    Answer = Serve(Ask),
+    Bytes = Before + answer_bytes(Answer),
+    case Before =:= 0 orelse Bytes =< cluster_wire:message_bytes() of
+        true -> [Answer | answers(Asks, Serve, Bytes)];
+        false -> []
+    end.
+
+answer_bytes({ok, Answer}) -> byte_size(Answer);
+answer_bytes({error, _}) -> 0.
 
 %% @doc Returns the replica, into which this process may sync until it gives it back or ends. Refused: `disk_full',
 %% `busy' (a renewal waits for others that borrowed it).

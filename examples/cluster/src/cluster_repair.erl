@@ -8,18 +8,28 @@
 
 -export_type([counts/0]).
 
--define(ASKS_AT_ONCE, 64).
+%% A reply lacks answers if leaves are larger than estimated: these asks are lost, and sent again.
+-define(MOST_LOST, 4096).
+%% Bytes that a reply may have over their estimate, at most: a row alone may have 4 MB.
+-define(MOST_EXCESS, 8_000_000).
 
 -type counts() :: #{rounds := non_neg_integer(), keys := non_neg_integer(), bytes := non_neg_integer()}.
 %% Numbers of rounds, of versions that were taken, and of bytes of answers.
 
 -type cause() :: atom().
--type failed() :: #{{cluster_ring:range(), cluster_ring:place()} => cause()}.
+-type pull() :: {cluster_ring:range(), cluster_ring:place()}.
+-type failed() :: #{pull() => cause()}.
+-type excess() :: #{pull() => pos_integer()}.
+%% Bytes that the replies of a partner that was silent in the last round may have over their estimate: it has more time
+%% from round to round, so that a sync over a slow link comes to its end.
+-type pulled() :: {all | cause(), Keys :: non_neg_integer(), Bytes :: non_neg_integer()}.
+%% `all', or the cause for which that wasn't all, and the numbers of versions and of bytes.
 
 -record(state, {
     counts = #{rounds => 0, keys => 0, bytes => 0} :: counts(),
     %% What wasn't taken to the end in the last round.
     failed = #{} :: failed(),
+    excess = #{} :: excess(),
     timer :: reference() | undefined,
     %% The round in progress, and those who wait for its end, or for that of the next one.
     running :: reference() | undefined,
@@ -82,23 +92,28 @@ is_unchecked() ->
 begin_if_asked(#state{running = undefined, next = [_ | _]} = State) -> begin_round(State);
 begin_if_asked(State) -> State.
 
-begin_round(#state{next = Next} = State) ->
-    {_, Running} = cluster_task:start_link(fun pull_all/0),
+begin_round(#state{next = Next, excess = Excess} = State) ->
+    {_, Running} = cluster_task:start_link(fun() -> pull_all(Excess) end),
     State#state{timer = undefined, running = Running, waiting = Next, next = []}.
 
 begin_later(State) ->
     State#state{timer = erlang:start_timer(cluster_settings:round_ms(), self(), round)}.
 
-ended({ok, {pulled, MoreKeys, MoreBytes, Failed}}, #state{counts = Counts, failed = Before} = State) ->
+ended({ok, {pulled, MoreKeys, MoreBytes, Failed}}, State) ->
+    #state{counts = Counts, failed = Before, excess = Excess} = State,
     #{rounds := Rounds, keys := Keys, bytes := Bytes} = Counts,
     ok = cluster_metrics:count(repair_rounds, []),
     ok = cluster_metrics:add(repair_keys, [], MoreKeys),
     ok = cluster_metrics:add(repair_bytes, [], MoreBytes),
     ok = lists:foreach(fun note_failure/1, maps:to_list(Failed) -- maps:to_list(Before)),
     Next = #{rounds => Rounds + 1, keys => Keys + MoreKeys, bytes => Bytes + MoreBytes},
-    {maps:keys(Failed), State#state{counts = Next, failed = Failed}};
+    {maps:keys(Failed), State#state{counts = Next, failed = Failed, excess = grown(Failed, Excess)}};
 ended(crashed, State) ->
     {pulls(), State}.
+
+grown(Failed, Excess) ->
+    Grow = fun(Pull) -> min(?MOST_EXCESS, max(cluster_wire:message_bytes(), 2 * maps:get(Pull, Excess, 0))) end,
+    maps:from_list([{Pull, Grow(Pull)} || {Pull, silent} <- maps:to_list(Failed)]).
 
 %% A sync that fails is said once, until it fails for another cause. (That a place is down has a line of its own.)
 note_failure({_, Why}) when Why =:= down; Why =:= busy; Why =:= disk_full ->
@@ -114,12 +129,13 @@ pulls() ->
 
 %% Pulls each range from each other holder, as many at once as slots are lent. Returns the sums of keys and bytes, and
 %% the causes for which not all was taken.
--spec pull_all() -> {pulled, Keys :: non_neg_integer(), Bytes :: non_neg_integer(), failed()}.
-pull_all() ->
-    lists:foldl(fun add_pulled/2, {pulled, 0, 0, #{}}, lists:map(fun begin_pull/1, pulls())).
+-spec pull_all(excess()) -> {pulled, Keys :: non_neg_integer(), Bytes :: non_neg_integer(), failed()}.
+pull_all(Excess) ->
+    Begun = [begin_pull(Pull, maps:get(Pull, Excess, 0)) || Pull <- pulls()],
+    lists:foldl(fun add_pulled/2, {pulled, 0, 0, #{}}, Begun).
 
-begin_pull({Range, Partner} = Pull) ->
-    {Pull, cluster_task:start_link(fun() -> pull_admitted(Range, Partner) end)}.
+begin_pull(Pull, Excess) ->
+    {Pull, cluster_task:start_link(fun() -> pull_admitted(Pull, Excess) end)}.
 
 add_pulled({Pull, {_, Monitor}}, {pulled, Keys, Bytes, Failed}) ->
     {Outcome, MoreKeys, MoreBytes} = pulled(Monitor),
@@ -139,50 +155,67 @@ pulled(Monitor) ->
     end.
 
 %% (The slot is free again at the end of this process.)
-pull_admitted(Range, Partner) ->
+pull_admitted(Pull, Excess) ->
     ok = cluster_slots:lend(),
-    pull(Range, Partner).
+    pull(Pull, Excess).
 
-%% Takes what a partner has. Returns `all', or the cause for which that wasn't all, and the numbers of versions and of
-%% bytes.
--spec pull(cluster_ring:range(), cluster_ring:place()) ->
-    {all | cause(), Keys :: non_neg_integer(), Bytes :: non_neg_integer()}.
-pull(Range, Partner) ->
+%% Takes what a partner has.
+-spec pull(pull(), Excess :: non_neg_integer()) -> pulled().
+pull({Range, Partner} = Pull, Excess) ->
     case cluster_wire:call(Partner, cluster_range, offer, [Range, cluster_ring:here()]) of
-        {ok, {ok, Offer}} -> pull_offered(Range, Partner, Offer, cluster_range:borrow(Range));
+        {ok, {ok, Offer}} -> pull_offered(Pull, Excess, Offer, cluster_range:borrow(Range));
         down -> {down, 0, 0}
     end.
 
-pull_offered(Range, Partner, Offer, {ok, Replica}) ->
-    Bytes = counters:new(1, []),
+pull_offered({Range, Partner}, Excess, Offer, {ok, Replica}) ->
     {ok, #{number := Number}} = antientropy:read_offer(Offer),
-    Reach = fun(Asks) -> reach(Range, Partner, Number, Asks, Bytes) end,
-    %% It compares the roots, and opens a session if they differ, while others put. It passes leaves with a crowded key.
-    %% At its end it drops the session.
-    case antientropy:sync(Replica, Partner, Offer, Reach, #{in_flight => ?ASKS_AT_ONCE, most_bad => 0}) of
-        {ok, #{accepted := Keys, state := finished, crowded := []}} ->
-            ok = cluster_range:give_back(Range, Replica, {all_of, Partner}),
-            {all, Keys, counters:get(Bytes, 1)};
-        {ok, #{accepted := Keys, state := State}} ->
-            ok = cluster_range:give_back(Range, Replica, some),
-            {cause(State), Keys, counters:get(Bytes, 1)};
-        {error, Reason} ->
-            ok = cluster_range:give_back(Range, Replica, some),
-            {cause(Reason), 0, counters:get(Bytes, 1)}
-    end;
+    Serve = fun(Asks, Bytes) ->
+        Arguments = [Range, cluster_ring:here(), Number, Asks],
+        cluster_wire:call(Partner, cluster_range, serve, Arguments, cluster_wire:limit_ms(Bytes + Excess))
+    end,
+    Bounds = #{bytes => cluster_wire:message_bytes(), bad => 0, lost => ?MOST_LOST},
+    Pulled = sync(antientropy:exchange(Replica, Partner, Offer, Bounds), Serve),
+    ok = cluster_range:give_back(Range, Replica, taken(Pulled, Partner)),
+    Pulled;
 pull_offered(_, _, _, {error, Name}) ->
     {Name, 0, 0}.
 
-%% A sync that is finished has passed a leaf with a crowded key.
-cause(finished) -> crowded;
-cause(Name) -> Name.
+taken({all, _, _}, Partner) -> {all_of, Partner};
+taken(_, _) -> some.
 
-%% Brings asks to a partner, and counts the bytes of its answers.
-reach(Range, Partner, Number, Asks, Bytes) ->
-    case cluster_wire:call(Partner, cluster_range, serve, [Range, cluster_ring:here(), Number, Asks]) of
-        {ok, Answers} ->
-            counters:add(Bytes, 1, lists:sum([byte_size(Answer) || {ok, Answer} <- Answers])),
-            Answers;
-        down ->
-            []
+%% Others put meanwhile. If the roots are equal there is no session.
+sync({ok, Exchange}, Serve) ->
+    try
+        exchange(Exchange, Serve, 0)
+    after
+        antientropy_exchange:close(Exchange)
+    end;
+sync({error, Name}, _) ->
+    {Name, 0, 0}.
+
+%% Asks until nothing is left to ask, or the partner has no answers.
+exchange(Exchange, Serve, Bytes) ->
+    case {antientropy_exchange:asks(Exchange), antientropy_exchange:progress(Exchange)} of
+        {{ok, []}, {ok, #{accepted := Keys} = Progress}} ->
+            {outcome(Progress), Keys, Bytes};
+        {{ok, Asks}, {ok, #{accepted := Keys, bytes_on_way := OnWay}}} ->
+            case Serve(Asks, OnWay) of
+                {ok, [_ | _] = Answers} -> exchange(Exchange, Serve, Bytes + take(Exchange, Asks, Answers));
+                {ok, []} -> {gone, Keys, Bytes};
+                down -> {silent, Keys, Bytes}
+            end;
+        {_, {error, Name}} ->
+            {Name, 0, Bytes}
     end.
+
+%% Takes answers, and returns their bytes.
+take(Exchange, Asks, Answers) ->
+    Taken = [Answer || {ok, Answer} <- Answers],
+    lists:foreach(fun(Answer) -> antientropy_exchange:take(Exchange, Answer) end, Taken),
+    lists:foreach(fun(Ask) -> antientropy_exchange:lose(Exchange, Ask) end, Asks),
+    iolist_size(Taken).
+
+outcome(#{report := finished}) -> all;
+outcome(#{report := left}) -> crowded;
+outcome(#{report := stopped, cause := Cause}) -> Cause;
+outcome(#{report := Report}) -> Report.

@@ -1,15 +1,19 @@
 %% @doc All messages between nodes: calls of a function at another place, over Erlang's distribution.
 %%
 %% A call has an answer in 500 milliseconds, or its place counts as down. So does that of a paused node, of which the
-%% distribution says nothing yet.
+%% distribution says nothing yet. A call for many bytes has more time ({@link limit_ms/1}).
 -module(cluster_wire).
 -behaviour(gen_server).
 
--export([begin_table/0, start_link/0, call/4, call/5, limit_ms/0, down/0, is_up/1, up_first/1]).
+-export([begin_table/0, start_link/0, call/4, call/5, limit_ms/0, limit_ms/1, message_bytes/0]).
+-export([down/0, is_up/1, up_first/1]).
 -export([serve/5]).
 -export([init/1, handle_call/3, handle_cast/2, handle_info/2]).
 
 -define(LIMIT_MS, 500).
+%% The pace of a link that counts as up: 100 KB in a second.
+-define(BYTES_PER_MS, 100).
+-define(MESSAGE_BYTES, 1_000_000).
 -define(AGAIN_MS, 1000).
 
 %% @doc Makes the table of the places that are down, which this process owns.
@@ -27,6 +31,16 @@ start_link() ->
 -spec limit_ms() -> pos_integer().
 limit_ms() ->
     ?LIMIT_MS.
+
+%% @doc Returns the time of a call whose result has some bytes, in milliseconds.
+-spec limit_ms(Bytes :: non_neg_integer()) -> pos_integer().
+limit_ms(Bytes) ->
+    ?LIMIT_MS + Bytes div ?BYTES_PER_MS.
+
+%% @doc Returns the bytes that the parts of a result may have together. One part alone may have more.
+-spec message_bytes() -> pos_integer().
+message_bytes() ->
+    ?MESSAGE_BYTES.
 
 %% @doc Calls a function at another place.
 -spec call(cluster_ring:place(), module(), Function :: atom(), Arguments :: [term()]) -> {ok, Result :: term()} | down.

@@ -2,13 +2,15 @@
 -module(links).
 
 -export([with/2]).
+-export([call/5]).
 
 -define(LINK,
     "-module(cluster_link). -export([call/5]). "
-    "call(Place, Module, Function, Arguments, _) -> (persistent_term:get(links))(Place, Module, Function, Arguments). "
+    "call(Place, Module, Function, Arguments, LimitMs) -> links:call(Place, Module, Function, Arguments, LimitMs). "
 ).
 
-%% @doc Runs a test, in which other places do with a call what the function does. It returns or raises.
+%% @doc Runs a test, in which other places do with a call what the function does. It returns or raises. It gets the
+%% limit, too, if it has an argument for it.
 with(Call, Test) ->
     ok = persistent_term:put(?MODULE, Call),
     {ok, cluster_link, Code} = compile:forms(forms(?LINK)),
@@ -18,6 +20,13 @@ with(Call, Test) ->
     after
         _ = code:purge(cluster_link),
         {module, cluster_link} = code:load_file(cluster_link)
+    end.
+
+%% @private
+call(Place, Module, Function, Arguments, LimitMs) ->
+    case persistent_term:get(?MODULE) of
+        Call when is_function(Call, 4) -> Call(Place, Module, Function, Arguments);
+        Call -> Call(Place, Module, Function, Arguments, LimitMs)
     end.
 
 forms(Text) ->

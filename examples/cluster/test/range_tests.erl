@@ -146,7 +146,7 @@ sessions_test_() ->
         {ok, Snapshot} = antientropy:snapshot(Partner),
         {ok, Offer} = antientropy_snapshot:offer(Snapshot, 1),
         {ok, Replica} = cluster_range:borrow(?RANGE),
-        [{ok, #{state := cancelled}} = sync(Replica, Offer) || _ <- lists:seq(1, 1100)],
+        [{ok, #{report := too_many_lost}} = sync(Replica, Offer) || _ <- lists:seq(1, 1100)],
         ok = cluster_range:give_back(?RANGE, Replica, some),
         #{sessions := 0, bytes := Bytes} = cluster_range:counts(?RANGE),
         ?assertMatch({ok, #{sessions := 0, first := 0}}, antientropy:count(Replica)),
@@ -158,7 +158,26 @@ sessions_test_() ->
 
 %% Begins a sync with a partner that doesn't answer.
 sync(Replica, Offer) ->
-    antientropy:sync(Replica, 2, Offer, fun(_) -> [] end, #{most_bad => 0}).
+    antientropy:sync(Replica, 2, Offer, fun(_) -> [] end, #{lost => 0}).
+
+%% A reply has answers of 1 MB, or one. Those that it lacks are asked for again.
+replies_test_() ->
+    room:test([], fun(_) ->
+        start(),
+        Put = fun(Number) -> cluster_range:put(?RANGE, key(Number), binary:copy(<<"v">>, 65000), #{}) end,
+        [{ok, _} = Answer || Answer <- room:all_at_once(Put, lists:seq(1, 40))],
+        {ok, Offer} = cluster_range:offer(?RANGE, 2),
+        {ok, #{number := Number}} = antientropy:read_offer(Offer),
+        Reach = fun(Asks) ->
+            Answers = cluster_range:serve(?RANGE, 2, Number, Asks),
+            ?assert(length(Answers) =:= 1 orelse iolist_size([Answer || {ok, Answer} <- Answers]) =< 1000000),
+            Answers
+        end,
+        {ok, Copy} = antientropy:new(cluster_ring:replica_options(?RANGE)),
+        {ok, #{report := finished, accepted := 40, lost := Lost}} = antientropy:sync(Copy, 1, Offer, Reach),
+        ?assert(Lost > 0),
+        ?assertEqual([], cluster_range:serve(?RANGE, 2, Number + 1, [<<2, (Number + 1):32, 0, 0:16>>]))
+    end).
 
 %% The range of a new life doesn't count in reads until each other holder's versions are in it, also after a restart.
 joining_test_() ->

@@ -35,5 +35,5 @@ main() ->
 key(Number) ->
     <<"key ", (integer_to_binary(Number))/binary>>.
 
-report(Text, {ok, #{state := finished, accepted := Accepted}}) ->
+report(Text, {ok, #{report := finished, accepted := Accepted}}) ->
     io:format("~s ~b~n", [Text, Accepted]).
