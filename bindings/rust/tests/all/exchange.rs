@@ -143,18 +143,9 @@ fn a_full_journal() {
     exchange.go_on().unwrap();
     let Progress { report, lost, .. } = exchange.progress(&small).unwrap();
     assert_eq!((report, lost), (Report::Waiting, refused));
-    exchange.close(&mut small).unwrap();
+    let mut renewed = small.renew(100).unwrap();
+    assert_eq!(exchange.progress(&renewed).unwrap().report, Report::Gone);
     let taken = small.count().unwrap().entries;
     assert!(0 < taken && taken <= 10);
-    let mut renewed = small.renew(100).unwrap();
     assert_eq!(sync(&mut renewed).unwrap().accepted, 50 - taken);
-}
-
-#[test]
-fn a_renewal_ends_an_exchange() {
-    let mut replica = replica();
-    let mut exchange = replica.exchange(1, &offered().1, Bounds::default()).unwrap();
-    let renewed = replica.renew(100).unwrap();
-    assert_eq!(exchange.progress(&renewed).unwrap().report, Report::Gone);
-    assert_eq!(exchange.progress(&replica).unwrap().report, Report::Waiting);
 }
