@@ -58,36 +58,33 @@ void no_moment_is_left() {
     CHECK(sure(replica.sync(2, offer, reach(snapshot))).asks == 0);
     check_no_moment(replica, 50);
     sure(replica.put(1, "later", ""));
-    REFUSED(BadMessage, replica.open(2, ""));
+    REFUSED(BadMessage, replica.exchange(2, ""));
     check_no_moment(replica, 51);
     sure(replica.put(1, "last", ""));
-    sure(replica.open(2, offer));
+    sure(sure(replica.exchange(2, offer)).close(replica));
     check_no_moment(replica, 52);
 }
 
-void session_at_the_moment() {
-    Replica partner = filled(50), replica = sure(Replica::make());
-    Snapshot snapshot = sure(partner.snapshot());
-    const std::string offer = sure(snapshot.offer(1));
+void exchange_at_the_moment() {
+    Replica partner = filled(50), replica = filled(50);
+    const std::string offer = sure(sure(partner.snapshot()).offer(1));
     sure(replica.hold());
     sure(replica.put(2, "later", ""));
     while (sure(replica.hash_moment(10)) > 0) {
     }
-    REFUSED(Dirty, replica.open(1, offer, false));
-    Session session = sure(replica.open_at_moment(1, offer));
-    while (const auto ask = sure(session.ask())) sure(session.take(sure(snapshot.serve(1, *ask))));
-    CHECK(sure(session.state()) == State::Finished && sure(replica.count()).entries == 51);
+    Exchange exchange = sure(replica.exchange_at_moment(1, offer));
+    CHECK(sure(exchange.progress(replica)).report == Report::Finished);
 }
 
 void no_whole_moment() {
     Replica partner = filled(50), replica = filled(1);
     const std::string offer = sure(sure(partner.snapshot()).offer(1));
     REFUSED(Dirty, replica.moment());
-    REFUSED(Dirty, replica.open_at_moment(1, offer));
+    REFUSED(Dirty, replica.exchange_at_moment(1, offer));
     sure(replica.hold());
     REFUSED(Dirty, replica.moment());
-    REFUSED(Dirty, replica.open_at_moment(1, offer));
-    REFUSED(BadMessage, replica.open_at_moment(1, ""));
+    REFUSED(Dirty, replica.exchange_at_moment(1, offer));
+    REFUSED(BadMessage, replica.exchange_at_moment(1, ""));
 }
 
 void portion_outlives_its_replica() {
@@ -257,7 +254,7 @@ void reach_that_throws() {
 
 int main() {
     return run({{"moment", moment},
-                {"session at the moment", session_at_the_moment},
+                {"exchange at the moment", exchange_at_the_moment},
                 {"no whole moment", no_whole_moment},
                 {"no moment is left", no_moment_is_left},
                 {"portion outlives its replica", portion_outlives_its_replica},
