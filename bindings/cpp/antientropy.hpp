@@ -425,9 +425,9 @@ struct Verdict {
     std::uint64_t known;
 };
 
-/// How far an exchange is: the `cause` if it is Stopped, and numbers of `asks` that were sent, of those on their way and
-/// of bytes of the answers to them, as far as can be estimated, of `bad` answers and `lost` asks, and of new versions,
-/// known versions and leaves in the answers that were taken.
+/// How far an exchange is: the `cause` if it is Stopped, and numbers of `asks` that were sent, of those on their way
+/// and of bytes of the answers to them, as far as can be estimated, of `bad` answers and `lost` asks, and of new
+/// versions, known versions and leaves in the answers that were taken.
 struct Progress {
     Report report;
     std::optional<Refusal> cause;
@@ -1257,7 +1257,8 @@ public:
         return detail::result(number, Verdict{kind, detail::cause(of.cause), of.accepted, of.known});
     }
 
-    /// Counts an ask as lost if it is on its way, so that it may be sent again. Refused: BadMessage (it isn't an ask).
+    /// Counts an ask as lost if it is on its way, so that it may be sent again. Refused: BadMessage (the
+    /// bytes aren't an ask).
     Result<void> lose(std::string_view ask) {
         return detail::done(c::antientropy_exchange_lose(at(), detail::data(ask), ask.size()));
     }

@@ -10,15 +10,6 @@ namespace {
 /// The root of a replica with keys.
 std::string root_of(int keys) { return sure(filled(keys).root()); }
 
-/// A partner that is called directly.
-Reach reach(const Snapshot &snapshot) {
-    return [&](const std::vector<std::string> &asks) {
-        std::vector<std::optional<std::string>> answers;
-        for (const auto &ask : asks) answers.push_back(sure(snapshot.serve(1, ask)));
-        return answers;
-    };
-}
-
 void moment() {
     Replica replica = filled(50);
     const std::uint64_t dirty = sure(replica.count()).dirty;
@@ -232,12 +223,12 @@ void threads_read_at_once() {
     CHECK(rows[0].size() == keys && rows[1] == rows[0] && rows[2] == rows[0]);
 }
 
-/// A sync that ends early cancels and drops its session under the lock.
+/// A sync that ends early closes its exchange under the lock.
 void reach_that_throws() {
     Store store;
     Replica partner = filled(50);
     const std::string offer = sure(sure(partner.snapshot()).offer(1));
-    const Reach fails = [&](const std::vector<std::string> &) -> std::vector<std::optional<std::string>> {
+    const Reach fails = [&](const Asks &) -> Answers {
         store.put(1, "meanwhile");
         throw 1;
     };

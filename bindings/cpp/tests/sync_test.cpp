@@ -5,20 +5,6 @@
 
 namespace {
 
-using Asks = std::vector<std::string>;
-using Answers = std::vector<std::optional<std::string>>;
-
-/// A partner that is called directly.
-Answers serve(const Snapshot &snapshot, const Asks &asks) {
-    Answers answers;
-    for (const auto &ask : asks) answers.push_back(sure(snapshot.serve(1, ask)));
-    return answers;
-}
-
-Reach reach(const Snapshot &snapshot) {
-    return [&](const Asks &asks) { return serve(snapshot, asks); };
-}
-
 /// The number of sessions that are kept. None of them is open.
 std::uint64_t kept(const Replica &replica) {
     const Counts counts = sure(replica.count());

@@ -1,11 +1,13 @@
 //! An exchange with a partner.
 
+use std::iter;
+
 use crate::handle::{fill, written, Owned};
 use crate::moment::{at_moment, Access};
 use crate::refusal::{check, found, Refusal};
 use crate::replica::Replica;
 use crate::sys;
-use crate::values::{Bounds, Progress, Verdict};
+use crate::values::{cause_of, Bounds, Progress, Verdict};
 
 /// Bytes of an ask.
 const ASK_LEN: usize = 8;
@@ -38,14 +40,10 @@ const ASK_LEN: usize = 8;
 #[derive(Debug)]
 #[must_use = "its session stays open until it is closed"]
 pub struct Exchange {
-    handle: Owned,
+    pub(crate) handle: Owned,
 }
 
 impl Exchange {
-    pub(crate) fn of(handle: Owned) -> Exchange {
-        Exchange { handle }
-    }
-
     /// Opens an exchange at a moment of its own.
     pub(crate) fn open<A: Access>(
         access: &mut A,
@@ -61,14 +59,8 @@ impl Exchange {
 
     /// Returns the asks to send now: none if all are on their way, if the bounds leave no room, or if it is over.
     pub fn asks(&mut self, replica: &Replica) -> Result<Vec<Vec<u8>>, Refusal> {
-        let mut asks = Vec::new();
-        loop {
-            let ask = self.next(replica)?;
-            if ask.is_empty() {
-                return Ok(asks);
-            }
-            asks.push(ask);
-        }
+        let next = || self.next(replica).map(|ask| Some(ask).filter(|ask| !ask.is_empty())).transpose();
+        iter::from_fn(next).collect()
     }
 
     /// Returns the next ask to send, or no bytes if there is none now.
@@ -84,16 +76,17 @@ impl Exchange {
 
     /// Takes a partner's answer, which isn't trusted. Answers may arrive in any order, late or twice.
     pub fn take(&mut self, replica: &mut Replica, answer: &[u8]) -> Result<Verdict, Refusal> {
-        let verdict: sys::Verdict = written(|verdict| {
+        let sys::Verdict { verdict, cause, accepted, known } = written(|verdict| {
             let (exchange, replica) = (self.handle.raw(), replica.handle.raw());
             // SAFETY: as in `sys`, for both handles.
             unsafe { sys::antientropy_exchange_take(exchange, replica, answer.as_ptr(), answer.len(), verdict) }
         })?;
-        Ok(verdict.into())
+        Ok(Verdict { kind: verdict.into(), cause: cause_of(cause), accepted, known })
     }
 
-    /// Counts an ask as lost if it is on its way, so that it may be sent again. Refused as `BadMessage` if it
-    /// isn't an ask.
+    /// Counts an ask as lost if it is on its way, so that it may be sent again.
+    ///
+    /// Refused as `BadMessage` if the bytes aren't an ask.
     pub fn lose(&mut self, ask: &[u8]) -> Result<(), Refusal> {
         // SAFETY: as in `sys`.
         check(unsafe { sys::antientropy_exchange_lose(self.handle.raw(), ask.as_ptr(), ask.len()) })
@@ -118,11 +111,8 @@ impl Exchange {
 
     /// Returns the leaves that were left, since a key in them is crowded.
     pub fn left(&mut self, replica: &Replica) -> Result<Vec<u16>, Refusal> {
-        let mut leaves = Vec::new();
-        while let Some(leaf) = found(self.left_at(replica, leaves.len() as u64))? {
-            leaves.push(leaf);
-        }
-        Ok(leaves)
+        let mut places = 0..;
+        iter::from_fn(|| found(self.left_at(replica, places.next()?)).transpose()).collect()
     }
 
     /// Returns a leaf that was left, by its place from 0.

@@ -647,7 +647,7 @@ impl Replica {
             // SAFETY: as in `sys`; `into` is empty and a local one.
             unsafe { sys::antientropy_exchange_open(replica, into, partner.into(), at, len, &bounds) }
         })?;
-        Ok(Exchange::of(handle))
+        Ok(Exchange { handle })
     }
 
     /// Drops the sessions that have ended, and all that they keep: rows that later puts have changed, and texts.

@@ -4,7 +4,7 @@ use crate::exchange::Exchange;
 use crate::moment::Access;
 use crate::refusal::Refusal;
 use crate::replica::Replica;
-use crate::values::{Bounds, Report};
+use crate::values::{Bounds, Progress, Report};
 
 /// The result of a sync.
 #[derive(Clone, Debug, PartialEq, Eq)]
@@ -33,21 +33,12 @@ impl Synced {
 
     /// Returns the result of an exchange that sends no more asks.
     fn of(exchange: &mut Exchange, replica: &Replica) -> Result<Synced, Refusal> {
-        let progress = exchange.progress(replica)?;
-        match (progress.report, progress.cause) {
-            (Report::Stopped, Some(cause)) => return Err(cause),
-            (Report::Failed, _) => return Err(Refusal::NotCanonical),
-            _ => {}
+        let Progress { report, cause, accepted, known, asks, bad, lost, .. } = exchange.progress(replica)?;
+        match (report, cause) {
+            (Report::Failed, _) => Err(Refusal::NotCanonical),
+            (_, Some(cause)) => Err(cause),
+            _ => Ok(Synced { report, accepted, known, asks, bad, lost, left: exchange.left(replica)? }),
         }
-        Ok(Synced {
-            report: progress.report,
-            accepted: progress.accepted,
-            known: progress.known,
-            asks: progress.asks,
-            bad: progress.bad,
-            lost: progress.lost,
-            left: exchange.left(replica)?,
-        })
     }
 }
 

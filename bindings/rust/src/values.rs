@@ -315,13 +315,6 @@ pub struct Verdict {
     pub known: u64,
 }
 
-impl From<sys::Verdict> for Verdict {
-    fn from(verdict: sys::Verdict) -> Verdict {
-        let sys::Verdict { verdict: kind, cause, accepted, known } = verdict;
-        Verdict { kind: kind.into(), cause: cause_of(cause), accepted, known }
-    }
-}
-
 /// How far an exchange is.
 #[derive(Clone, Copy, Debug, PartialEq, Eq, Hash)]
 pub struct Progress {
@@ -356,7 +349,7 @@ impl From<sys::Progress> for Progress {
 }
 
 /// Returns the cause of a number that a verdict or a report has: 0 is none.
-fn cause_of(number: u64) -> Option<Refusal> {
+pub(crate) fn cause_of(number: u64) -> Option<Refusal> {
     check(number as u32).err()
 }
 
