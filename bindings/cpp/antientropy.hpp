@@ -18,12 +18,12 @@
 /// std::string_view, and come out as std::string.
 ///
 /// THREADS. No class has a lock. **Threads may call const methods of an object at once; a call that isn't const has the
-/// object alone**, without a const one meanwhile: a std::shared_mutex does that. A `Session` counts as its replica: its
-/// const methods read it, and its other calls and its destructor change it. A step of a `Sequence` reads its replica or
-/// snapshot; the `Sequence` itself is for one thread. Hints and slots have no const methods, and a `Loan` counts as its
-/// slots. A replica, its snapshots and its portions are apart, and may be used at once; so may snapshots that share
-/// rows. `snapshot_beside` and `sync_beside` take the program's lock of a replica, and free it while they hash. Call
-/// nothing in a signal handler, or in the forked child of a process with threads.
+/// object alone**, without a const one meanwhile: a std::shared_mutex does that. A call of an `Exchange` has it alone,
+/// and reads or changes the replica that it gets. A step of a `Sequence` reads its replica or snapshot; the `Sequence`
+/// itself is for one thread. Hints and slots have no const methods, and a `Loan` counts as its slots. A replica, its
+/// snapshots and its portions are apart, and may be used at once; so may snapshots that share rows.
+/// `snapshot_beside`, `exchange_beside` and `sync_beside` take the program's lock of a replica, and free it while they
+/// hash. Call nothing in a signal handler, or in the forked child of a process with threads.
 #ifndef ANTIENTROPY_HPP
 #define ANTIENTROPY_HPP
 
@@ -268,12 +268,27 @@ enum class Source : std::uint64_t {
     Partner = c::ANTIENTROPY_PARTNER
 };
 
-/// States of a session.
-enum class State : std::uint64_t {
-    Open = c::ANTIENTROPY_OPEN,
-    Finished = c::ANTIENTROPY_FINISHED,
-    Failed = c::ANTIENTROPY_FAILED,
-    Cancelled = c::ANTIENTROPY_CANCELLED
+/// Kinds of verdicts of an exchange on an answer.
+enum class VerdictKind : std::uint64_t {
+    Taken = c::ANTIENTROPY_VERDICT_TAKEN,
+    Left = c::ANTIENTROPY_VERDICT_LEFT,
+    Bad = c::ANTIENTROPY_VERDICT_BAD,
+    Late = c::ANTIENTROPY_VERDICT_LATE,
+    Refused = c::ANTIENTROPY_VERDICT_REFUSED,
+    Failed = c::ANTIENTROPY_VERDICT_FAILED,
+};
+
+/// Reports of an exchange, which sends asks while it is Waiting. The header says what each means.
+enum class Report : std::uint64_t {
+    Finished = c::ANTIENTROPY_REPORT_FINISHED,
+    Waiting = c::ANTIENTROPY_REPORT_WAITING,
+    Left = c::ANTIENTROPY_REPORT_LEFT,
+    Stopped = c::ANTIENTROPY_REPORT_STOPPED,
+    TooManyBad = c::ANTIENTROPY_REPORT_TOO_MANY_BAD,
+    TooManyLost = c::ANTIENTROPY_REPORT_TOO_MANY_LOST,
+    Failed = c::ANTIENTROPY_REPORT_FAILED,
+    Closed = c::ANTIENTROPY_REPORT_CLOSED,
+    Gone = c::ANTIENTROPY_REPORT_GONE,
 };
 
 /// Orders of two clocks. Versions under clocks that are apart are concurrent.
@@ -393,11 +408,30 @@ struct OfferParts {
     std::string root;
 };
 
-/// The result of taking an answer: numbers of new and of known versions, and the state of the session.
-struct Taken {
+/// The bounds of an exchange or a sync: maxima of `asks` on their way, of `bytes` of the answers to them, as far as can
+/// be estimated, and of `bad` answers and `lost` asks. One ask may always be on its way.
+struct Bounds {
+    std::uint64_t asks = 256;
+    std::uint64_t bytes = 1 << 20;
+    std::uint64_t bad = 8;
+    std::uint64_t lost = 256;
+};
+
+/// The verdict on an answer: the `cause` of a Bad or a Refused one, and numbers of new and of known versions.
+struct Verdict {
+    VerdictKind kind;
+    std::optional<Refusal> cause;
     std::uint64_t accepted;
     std::uint64_t known;
-    State state;
+};
+
+/// How far an exchange is: the `cause` if it is Stopped, and numbers of `asks` that were sent, of those on their way
+/// and of bytes of the answers to them, as far as can be estimated, of `bad` answers and `lost` asks, and of new
+/// versions, known versions and leaves in the answers that were taken.
+struct Progress {
+    Report report;
+    std::optional<Refusal> cause;
+    std::uint64_t asks, on_way, bytes_on_way, bad, lost, accepted, known, leaves;
 };
 
 /// The result of loading rows: numbers of new and of known versions.
@@ -406,20 +440,17 @@ struct Loaded {
     std::uint64_t known;
 };
 
-/// The result of a sync. `crowded` has the asks for the leaves that were left, since a key in them is crowded.
+/// The result of a sync. `left` has the leaves that were left, since a key in them is crowded.
 struct Synced {
-    std::uint64_t accepted = 0;
-    std::uint64_t known = 0;
-    std::uint64_t asks = 0;
-    std::uint64_t bad = 0;
-    std::vector<std::string> crowded;
-    State state = State::Finished;
+    Report report;
+    std::uint64_t accepted, known, asks, bad, lost;
+    std::vector<std::uint64_t> left;
 
     /// True if each version of the offer was taken.
-    bool finished() const noexcept { return state == State::Finished; }
+    bool finished() const noexcept { return report == Report::Finished; }
 };
 
-/// Carries asks to a partner, and returns the answers in their order: none for one that is missing.
+/// Carries asks to a partner, and returns the answers in any order. One that is missing has no value, or is left out.
 using Reach = std::function<std::vector<std::optional<std::string>>(const std::vector<std::string> &)>;
 
 /// What a range-for goes through, once. The loop ends after the last value, or at a refusal, which `refusal` returns
@@ -513,6 +544,12 @@ template <class T>
 Result<T> result(std::uint32_t number, T value) {
     if (number != c::ANTIENTROPY_OK) return static_cast<Refusal>(number);
     return value;
+}
+
+/// The cause of a number that a verdict or a report has, if any.
+inline std::optional<Refusal> cause(std::uint64_t number) {
+    if (number == c::ANTIENTROPY_OK) return std::nullopt;
+    return static_cast<Refusal>(number);
 }
 
 /// The result of a call of which NoVersion is no refusal.
@@ -1175,109 +1212,14 @@ private:
     detail::Owner<c::antientropy_portion, c::antientropy_portion_free> handle_;
 };
 
-// ---- sessions
+// ---- exchanges
 
-/// A session of a replica with a partner's offer. Its calls are calls of the replica. It stays valid if the replica is
-/// moved; once the replica is freed they are refused as Empty. Once the session is dropped, by `Replica::drop_sessions`
-/// or at the end of a sync, they are refused as UnknownSession. The destructor cancels the session if it is open.
-/// `Replica::open` and `open_at_moment` make it.
-class Session {
-public:
-    Session(Session &&) noexcept = default;
-    Session &operator=(Session &&other) noexcept {
-        if (this == &other) return *this;
-        end();
-        replica_ = std::move(other.replica_);
-        number_ = other.number_;
-        offer_ = other.offer_;
-        return *this;
-    }
-    ~Session() { end(); }
-
-    /// Number of the session, from 0. No other one of the replica has it, over renewals too.
-    std::uint64_t number() const noexcept { return number_; }
-
-    /// Number that the partner gave its offer.
-    std::uint32_t offer_number() const noexcept { return offer_; }
-
-    /// Returns the state of the session.
-    Result<State> state() const {
-        std::uint64_t state = 0;
-        const auto number = c::antientropy_session(at(), number_, &state);
-        return detail::result(number, static_cast<State>(state));
-    }
-
-    /// Returns the number of nodes that are outstanding: 0 if the session has ended.
-    Result<std::uint64_t> outstanding() const {
-        std::uint64_t count = 0;
-        const auto number = c::antientropy_outstanding(at(), number_, &count);
-        return detail::result(number, count);
-    }
-
-    /// Returns the ask for the first outstanding node, or none.
-    Result<std::optional<std::string>> ask() const {
-        return or_none(detail::bytes([&](auto... out) { return c::antientropy_ask(at(), number_, offer_, out...); }));
-    }
-
-    /// Returns the ask for an outstanding node by its place from 0, or none if there are no more. Each answer that is
-    /// taken changes the places.
-    Result<std::optional<std::string>> ask_at(std::uint64_t place) const {
-        return or_none(
-            detail::bytes([&](auto... out) { return c::antientropy_ask_at(at(), number_, place, offer_, out...); }));
-    }
-
-    /// Returns the asks for all outstanding nodes. They may be sent at once.
-    Result<std::vector<std::string>> asks() const {
-        const auto count = outstanding();
-        if (!count) return count.refusal();
-        std::vector<std::string> asks;
-        asks.reserve(*count);
-        while (asks.size() < *count) {
-            auto ask = ask_at(asks.size());
-            if (!ask) return ask.refusal();
-            asks.push_back(std::move(**ask));
-        }
-        return asks;
-    }
-
-    /// Takes a partner's answer, which isn't trusted. Answers may arrive in any order.
-    /// Refused, in order: BadMessage, NotAsked, WrongDigest (ask again after these, with a bound), NotCanonical (the
-    /// session has failed), Crowded, JournalFull (the node remains outstanding after these).
-    Result<Taken> take(std::string_view answer) {
-        c::antientropy_taken taken = {};
-        const auto number =
-            c::antientropy_take(at(), number_, offer_, detail::data(answer), answer.size(), &taken);
-        return detail::result(number, Taken{taken.accepted, taken.known, static_cast<State>(taken.state)});
-    }
-
-    /// Cancels the session if it is open.
-    Result<void> cancel() { return detail::done(c::antientropy_cancel(at(), number_)); }
-
-private:
-    friend class Replica;
-
-    Session(detail::Shared<detail::ReplicaHandle> replica, std::uint64_t number, std::uint32_t offer)
-        : replica_(std::move(replica)), number_(number), offer_(offer) {}
-
-    detail::ReplicaHandle *at() { return replica_.get(); }
-    const detail::ReplicaHandle *at() const { return replica_.get(); }
-
-    static Result<std::optional<std::string>> or_none(Result<std::string> ask) {
-        if (!ask) return ask.refusal();
-        if (ask->empty()) return std::optional<std::string>();
-        return std::optional<std::string>(std::move(*ask));
-    }
-
-    void end() noexcept {
-        if (!replica_.moved()) c::antientropy_cancel(replica_.get(), number_);
-    }
-
-    detail::Shared<detail::ReplicaHandle> replica_;
-    std::uint64_t number_;
-    std::uint32_t offer_;
-};
+class Replica;
 
 namespace detail {
+
+inline ReplicaHandle *handle_of(Replica &replica);
+inline const ReplicaHandle *handle_of(const Replica &replica);
 
 /// The lock of a replica that one thread uses.
 struct NoLock {
@@ -1285,147 +1227,83 @@ struct NoLock {
     void unlock() {}
 };
 
-/// A sync in progress: a replica, the session, the lock of the replica, the partner, and the counts. Another sync of
-/// the replica may drop the session once it has ended. So only its cancel follows the last answer.
-template <class Lock>
-class Run {
+} // namespace detail
+
+/// The loop of a sync with a partner, which the program polls: it returns the asks to send, judges the answers, and
+/// reports how far it is. It lasts as long as the program wants: between its calls the replica may change in any way,
+/// but a renewal or a migration ends it. Its calls get the replica that opened it; with another one it is Gone. The
+/// destructor frees the memory alone, and the session stays open: `close` it first. `Replica::exchange`,
+/// `exchange_beside` and `exchange_at_moment` make it.
+class Exchange {
 public:
-    Run(Shared<ReplicaHandle> replica, Session session, Lock &lock, const Reach &reach, std::size_t in_flight,
-        std::uint64_t most_bad)
-        : replica_(std::move(replica)), session_(std::move(session)), lock_(lock), reach_(reach),
-          in_flight_(std::max<std::size_t>(in_flight, 1)), most_bad_(most_bad) {
-        synced_.state = State::Open;
-    }
-    /// Cancels the session, unless it has ended, and drops it.
-    ~Run() {
-        const std::lock_guard<Lock> guard(lock_);
-        { const Session ended = std::move(session_); }
-        c::antientropy_drop_sessions(replica_.get());
+    /// Returns the asks to send now: none if all are on their way, if the bounds leave no room, or if it is over.
+    Result<std::vector<std::string>> asks(const Replica &replica) {
+        std::vector<std::string> asks;
+        while (true) {
+            auto ask = detail::bytes(
+                [&](auto... out) { return c::antientropy_exchange_next(at(), detail::handle_of(replica), out...); });
+            if (!ask) return ask.refusal();
+            if (ask->empty()) return asks;
+            asks.push_back(*std::move(ask));
+        }
     }
 
-    Result<Synced> finish() {
+    /// Takes a partner's answer, which isn't trusted. Answers may arrive in any order, late or twice.
+    Result<Verdict> take(Replica &replica, std::string_view answer) {
+        c::antientropy_verdict of = {};
+        const auto number = c::antientropy_exchange_take(at(), detail::handle_of(replica), detail::data(answer),
+                                                         answer.size(), &of);
+        const auto kind = static_cast<VerdictKind>(of.verdict);
+        return detail::result(number, Verdict{kind, detail::cause(of.cause), of.accepted, of.known});
+    }
+
+    /// Counts an ask as lost if it is on its way, so that it may be sent again. Refused: BadMessage (the
+    /// bytes aren't an ask).
+    Result<void> lose(std::string_view ask) {
+        return detail::done(c::antientropy_exchange_lose(at(), detail::data(ask), ask.size()));
+    }
+
+    /// Lets asks be sent again after it was Stopped. Those whose answers were refused count as lost.
+    Result<void> go_on() { return detail::done(c::antientropy_exchange_go_on(at())); }
+
+    /// Returns how far it is.
+    Result<Progress> progress(const Replica &replica) {
+        c::antientropy_progress of = {};
+        const auto number = c::antientropy_exchange_report(at(), detail::handle_of(replica), &of);
+        return detail::result(number, Progress{static_cast<Report>(of.report), detail::cause(of.cause), of.asks,
+                                               of.on_way, of.bytes_on_way, of.bad, of.lost, of.accepted, of.known,
+                                               of.leaves});
+    }
+
+    /// Returns the leaves that were left, since a key in them is crowded.
+    Result<std::vector<std::uint64_t>> left(const Replica &replica) {
+        std::vector<std::uint64_t> leaves;
         while (true) {
-            const auto asks = open_asks();
-            if (!asks) return asks.refusal();
-            if (asks->empty()) return end();
-            const auto sent = exchange_all(*asks);
-            if (!sent) return sent.refusal();
+            c::antientropy_node node = {};
+            const auto number =
+                c::antientropy_exchange_left(at(), detail::handle_of(replica), leaves.size(), &node);
+            if (number == c::ANTIENTROPY_NO_VERSION) return leaves;
+            if (number != c::ANTIENTROPY_OK) return static_cast<Refusal>(number);
+            leaves.push_back(node.index);
         }
+    }
+
+    /// Closes it, and drops the sessions of the replica that have ended, its own among them. It may be closed again.
+    Result<void> close(Replica &replica) {
+        c::antientropy_exchange_close(at(), detail::handle_of(replica));
+        handle_.close();
+        return detail::done(c::antientropy_drop_sessions(detail::handle_of(replica)));
     }
 
 private:
-    bool is_over() const { return synced_.state != State::Open || synced_.bad > most_bad_; }
+    friend class Replica;
 
-    bool is_crowded(const std::string &ask) const {
-        return std::find(synced_.crowded.begin(), synced_.crowded.end(), ask) != synced_.crowded.end();
-    }
+    Exchange() = default;
 
-    /// The asks for the nodes that may still be taken: none after the last answer, or too many bad ones.
-    Result<std::vector<std::string>> open_asks() {
-        if (is_over()) return std::vector<std::string>();
-        auto asks = all_asks();
-        if (!asks) return asks;
-        const auto crowded = [&](const std::string &ask) { return is_crowded(ask); };
-        asks->erase(std::remove_if(asks->begin(), asks->end(), crowded), asks->end());
-        return asks;
-    }
+    c::antientropy_exchange *at() { return handle_.get(); }
 
-    Result<std::vector<std::string>> all_asks() {
-        const std::lock_guard<Lock> guard(lock_);
-        return session_.asks();
-    }
-
-    /// Exchanges all asks, `in_flight_` of them at a time.
-    Result<void> exchange_all(const std::vector<std::string> &asks) {
-        for (std::size_t first = 0; first < asks.size() && !is_over(); first += in_flight_) {
-            const auto from = asks.begin() + static_cast<std::ptrdiff_t>(first);
-            const auto count = std::min(in_flight_, asks.size() - first);
-            const auto sent = exchange({from, from + static_cast<std::ptrdiff_t>(count)});
-            if (!sent) return sent;
-        }
-        return {};
-    }
-
-    /// Sends some asks, and takes their answers.
-    Result<void> exchange(const std::vector<std::string> &asks) {
-        auto answers = reach_(asks);
-        answers.resize(asks.size());
-        synced_.asks += asks.size();
-        for (const auto &answer : answers) {
-            const auto taken = take(answer);
-            if (!taken) return taken;
-        }
-        return {};
-    }
-
-    Result<void> take(const std::optional<std::string> &answer) {
-        if (!answer) {
-            synced_.bad++;
-            return {};
-        }
-        const auto taken = take_locked(*answer);
-        if (!taken) return pass(*answer, taken.refusal());
-        synced_.accepted += taken->accepted;
-        synced_.known += taken->known;
-        synced_.state = taken->state;
-        return {};
-    }
-
-    Result<Taken> take_locked(const std::string &answer) {
-        const std::lock_guard<Lock> guard(lock_);
-        return session_.take(answer);
-    }
-
-    /// Goes on after a crowded leaf and after a bad answer. Other refusals end the sync.
-    Result<void> pass(const std::string &answer, Refusal refusal) {
-        switch (refusal) {
-        case Refusal::Crowded: leave(answer); return {};
-        case Refusal::BadMessage:
-        case Refusal::NotAsked:
-        case Refusal::WrongDigest: synced_.bad++; return {};
-        default: return refusal;
-        }
-    }
-
-    /// Leaves the node of a crowded answer. The answer names it as its ask does, in all bytes of an ask but the first:
-    /// the partner may have sent it for another ask, or twice.
-    void leave(const std::string &answer) {
-        std::string ask = ask_kind + answer.substr(1, ANTIENTROPY_ASK_LEN - 1);
-        if (is_crowded(ask)) {
-            synced_.bad++;
-        } else {
-            synced_.crowded.push_back(std::move(ask));
-        }
-    }
-
-    Result<Synced> end() {
-        if (synced_.state == State::Open) {
-            const auto state = cancel();
-            if (!state) return state.refusal();
-            synced_.state = *state;
-        }
-        return std::move(synced_);
-    }
-
-    Result<State> cancel() {
-        const std::lock_guard<Lock> guard(lock_);
-        const auto cancelled = session_.cancel();
-        if (!cancelled) return cancelled.refusal();
-        return session_.state();
-    }
-
-    static constexpr char ask_kind = 2;
-
-    Shared<ReplicaHandle> replica_;
-    Session session_;
-    Lock &lock_;
-    const Reach &reach_;
-    std::size_t in_flight_;
-    std::uint64_t most_bad_;
-    Synced synced_;
+    detail::Owner<c::antientropy_exchange, c::antientropy_exchange_free> handle_;
 };
-
-} // namespace detail
 
 // ---- replicas
 
@@ -1646,7 +1524,7 @@ public:
 
     // ---- the tree, offers and checkpoints
 
-    /// Hashes all nodes of the tree that have no digest. Only `snapshot` and `open` without `hash` need it.
+    /// Hashes all nodes of the tree that have no digest. Only `snapshot` without `hash` needs it.
     Result<void> rehash() { return detail::done(c::antientropy_rehash(at())); }
 
     /// Hashes at most `most` of the nodes that have no digest though all their children have one. Returns the number of
@@ -1717,7 +1595,7 @@ public:
     /// row, and keeps the digests that the nodes have. While the moment is kept, the first change of each block of some
     /// rows copies the block. The next hold frees the blocks that only this moment has: if threads share the replica,
     /// call `drop_moment` before its snapshot is closed, and they don't wait for that. `snapshot`, `root`, `save`,
-    /// `open` and `sync` hold, hash and drop a moment in one call, in the place of another one.
+    /// `exchange` and `sync` hold, hash and drop a moment in one call, in the place of another one.
     Result<void> hold() { return detail::done(c::antientropy_hold(at())); }
 
     /// Lets go of the moment, if there is one. Snapshots of it stay.
@@ -1754,56 +1632,85 @@ public:
         return Snapshot::made_by([&](auto *into) { return c::antientropy_moment(at(), into); });
     }
 
-    // ---- sessions
+    // ---- syncs
 
-    /// Opens a session with a partner's offer. Hashes the nodes that have no digest, and drops the moment, unless
-    /// `hash` is false. The partner's number is recorded. A session is kept until `drop_sessions`, so compare roots
-    /// first.
-    /// Refused, in order: BadMessage, BadClock (the partner is over 65,535), OtherFormat, OtherRange, SessionsFull,
-    /// Dirty (`hash` is false).
-    Result<Session> open(std::uint64_t partner, std::string_view offer, bool hash = true) {
+    /// Opens an exchange with a partner by its offer. Hashes the nodes that have no digest, and drops the moment. It is
+    /// Finished, and has no session, if the roots are equal. The partner's number is recorded.
+    /// Refused, in order: BadClock (the partner is over 65,535), BadMessage, OtherFormat, OtherRange, SessionsFull.
+    Result<Exchange> exchange(std::uint64_t partner, std::string_view offer, const Bounds &bounds = {}) {
         detail::NoLock none;
-        if (hash) return at_moment(none, [&] { return open_at_moment(partner, offer); });
-        return open_by([&](auto... in) { return c::antientropy_open(at(), partner, in...); }, offer);
+        return exchange_beside(none, partner, offer, bounds);
     }
 
-    /// Opens a session with a partner's offer, and compares the rows of the moment with it. It may ask for leaves that
-    /// differ only because the replica has gone on. Refused as `open`; Dirty (there is no moment, or it isn't whole).
-    Result<Session> open_at_moment(std::uint64_t partner, std::string_view offer) {
-        return open_by([&](auto... in) { return c::antientropy_open_at_moment(at(), partner, in...); }, offer);
+    /// Opens an exchange as `exchange` does, of a replica that threads share by a lock: a std::shared_mutex, say. The
+    /// caller doesn't hold it. It is free while nodes are hashed, so other threads put.
+    template <class Lock>
+    Result<Exchange> exchange_beside(Lock &lock, std::uint64_t partner, std::string_view offer,
+                                     const Bounds &bounds = {}) {
+        std::optional<Snapshot> here; // keeps the moment's rows until the lock is free
+        return at_moment(lock, [&]() -> Result<Exchange> {
+            auto made = moment();
+            if (!made) return made.refusal();
+            here = *std::move(made);
+            return exchange_at_moment(partner, offer, bounds);
+        });
+    }
+
+    /// Opens an exchange at the moment. Refused as `exchange`; before SessionsFull, Dirty (there is no moment, or it
+    /// isn't whole).
+    Result<Exchange> exchange_at_moment(std::uint64_t partner, std::string_view offer, const Bounds &bounds = {}) {
+        const c::antientropy_bounds most = {bounds.asks, bounds.bytes, bounds.bad, bounds.lost};
+        Exchange opened;
+        const auto number =
+            c::antientropy_exchange_open(at(), opened.at(), partner, detail::data(offer), offer.size(), &most);
+        return detail::result(number, std::move(opened));
     }
 
     /// Drops the sessions that have ended, and all that they keep: rows that later puts have changed, and texts. Open
-    /// ones are unchanged. Calls of a dropped one are refused as UnknownSession, and no later one has its number.
-    /// Entries of the source Partner have the source Copy then. `sync` and `sync_beside` drop sessions, too.
+    /// ones are unchanged. Entries of the source Partner have the source Copy then. An exchange that is closed and a
+    /// sync drop them, too.
     Result<void> drop_sessions() { return detail::done(c::antientropy_drop_sessions(at())); }
 
-    /// Takes the versions of a partner's offer that this replica lacks. If the roots are equal it opens no session.
-    /// Otherwise it drops all sessions that have ended, at its end, also if it is refused or `reach` throws. `reach`
-    /// gets at most `in_flight` asks at once, and at least one. After more than `most_bad` bad or missing answers the
-    /// sync ends unfinished. A leaf with a crowded key is left. At a refusal the versions taken before it stay.
-    /// Refused, in order: BadMessage, BadClock (the partner is over 65,535), OtherFormat, OtherRange, SessionsFull;
-    /// later NotCanonical or JournalFull.
-    Result<Synced> sync(std::uint64_t partner, std::string_view offer, const Reach &reach, std::size_t in_flight = 256,
-                        std::uint64_t most_bad = 8) {
+    /// Takes the versions of a partner's offer that this replica lacks, by an exchange that it closes, also if it is
+    /// refused or `reach` throws. An ask without an answer is lost. At a refusal the versions taken before it stay.
+    /// Refused as `exchange`; later NotCanonical, JournalFull.
+    Result<Synced> sync(std::uint64_t partner, std::string_view offer, const Reach &reach, const Bounds &bounds = {}) {
         detail::NoLock none;
-        return sync_beside(none, partner, offer, reach, in_flight, most_bad);
+        return sync_beside(none, partner, offer, reach, bounds);
     }
 
     /// Takes versions as `sync` does, of a replica that threads share by a lock: a std::shared_mutex, say. The caller
-    /// doesn't hold it. It is free while nodes are hashed and while `reach` waits, so other threads put. Don't migrate
-    /// the replica meanwhile: that ends the session. Refused as `sync`.
+    /// doesn't hold it. It is free while nodes are hashed and while `reach` waits, so other threads put. A migration
+    /// ends the sync as Gone.
     template <class Lock>
     Result<Synced> sync_beside(Lock &lock, std::uint64_t partner, std::string_view offer, const Reach &reach,
-                               std::size_t in_flight = 256, std::uint64_t most_bad = 8) {
-        std::optional<Snapshot> here; // freed without the lock
-        auto session = at_moment(lock, [&] { return open_unless_equal(partner, offer, here); });
-        if (!session) return session.refusal();
-        if (!*session) return Synced{};
-        return detail::Run<Lock>(handle_.share(), std::move(**session), lock, reach, in_flight, most_bad).finish();
+                               const Bounds &bounds = {}) {
+        auto opened = exchange_beside(lock, partner, offer, bounds);
+        if (!opened) return opened.refusal();
+        const auto locked = [&](auto calls) {
+            const std::lock_guard<Lock> guard(lock);
+            return calls();
+        };
+        const auto close = [&](Exchange *at) { (void)locked([&] { return at->close(*this); }); };
+        const std::unique_ptr<Exchange, decltype(close)> closing(&*opened, close);
+        while (true) {
+            const auto asks = locked([&] { return opened->asks(*this); });
+            if (!asks) return asks.refusal();
+            if (asks->empty()) return locked([&] { return synced(*opened); });
+            for (const auto &answer : reach(*asks)) {
+                if (!answer) continue;
+                const auto taken = locked([&] { return opened->take(*this, *answer); });
+                if (!taken) return taken.refusal();
+            }
+            // An ask whose answer was judged isn't on its way any more.
+            for (const auto &ask : *asks) (void)opened->lose(ask);
+        }
     }
 
 private:
+    friend detail::ReplicaHandle *detail::handle_of(Replica &replica);
+    friend const detail::ReplicaHandle *detail::handle_of(const Replica &replica);
+
     /// Maximum number of nodes in a portion.
     static constexpr std::uint64_t portion_max = 64;
 
@@ -1852,32 +1759,16 @@ private:
         return take_portion(portion_max);
     }
 
-    template <class Call>
-    Result<Session> open_by(Call call, std::string_view offer) {
-        const auto parts = read_offer(offer);
-        if (!parts) return parts.refusal();
-        std::uint64_t session = 0;
-        const auto number = call(detail::data(offer), offer.size(), &session);
-        if (number != c::ANTIENTROPY_OK) return static_cast<Refusal>(number);
-        return Session(handle_.share(), session, static_cast<std::uint32_t>(parts->number));
-    }
-
-    /// Opens a session at the moment, unless its root is that of the offer. `here` gets the moment's snapshot.
-    Result<std::optional<Session>> open_unless_equal(std::uint64_t partner, std::string_view offer,
-                                                     std::optional<Snapshot> &here) {
-        auto made = moment();
-        if (!made) return made.refusal();
-        here = *std::move(made);
-        const auto root = here->root();
-        if (!root) return root.refusal();
-        const auto there = read_offer(offer);
-        if (!there) return there.refusal();
-        const auto &about = here->about_;
-        const bool equal = there->format == about.format && there->range == about.range && there->root == *root;
-        if (equal) return std::optional<Session>();
-        auto session = open_at_moment(partner, offer);
-        if (!session) return session.refusal();
-        return std::optional<Session>(std::move(*session));
+    /// The result of an exchange that sends no more asks.
+    Result<Synced> synced(Exchange &exchange) const {
+        const auto progress = exchange.progress(*this);
+        if (!progress) return progress.refusal();
+        if (progress->cause) return *progress->cause;
+        if (progress->report == Report::Failed) return Refusal::NotCanonical;
+        auto left = exchange.left(*this);
+        if (!left) return left.refusal();
+        return Synced{progress->report, progress->accepted, progress->known, progress->asks,
+                      progress->bad,    progress->lost,     *std::move(left)};
     }
 
     template <class Call>
@@ -1934,6 +1825,9 @@ private:
 
     detail::Owner<detail::ReplicaHandle, c::antientropy_free> handle_;
 };
+
+inline detail::ReplicaHandle *detail::handle_of(Replica &replica) { return replica.at(); }
+inline const detail::ReplicaHandle *detail::handle_of(const Replica &replica) { return replica.at(); }
 
 // ---- hints
 

@@ -10,15 +10,6 @@ namespace {
 /// The root of a replica with keys.
 std::string root_of(int keys) { return sure(filled(keys).root()); }
 
-/// A partner that is called directly.
-Reach reach(const Snapshot &snapshot) {
-    return [&](const std::vector<std::string> &asks) {
-        std::vector<std::optional<std::string>> answers;
-        for (const auto &ask : asks) answers.push_back(sure(snapshot.serve(1, ask)));
-        return answers;
-    };
-}
-
 void moment() {
     Replica replica = filled(50);
     const std::uint64_t dirty = sure(replica.count()).dirty;
@@ -58,36 +49,33 @@ void no_moment_is_left() {
     CHECK(sure(replica.sync(2, offer, reach(snapshot))).asks == 0);
     check_no_moment(replica, 50);
     sure(replica.put(1, "later", ""));
-    REFUSED(BadMessage, replica.open(2, ""));
+    REFUSED(BadMessage, replica.exchange(2, ""));
     check_no_moment(replica, 51);
     sure(replica.put(1, "last", ""));
-    sure(replica.open(2, offer));
+    sure(sure(replica.exchange(2, offer)).close(replica));
     check_no_moment(replica, 52);
 }
 
-void session_at_the_moment() {
-    Replica partner = filled(50), replica = sure(Replica::make());
-    Snapshot snapshot = sure(partner.snapshot());
-    const std::string offer = sure(snapshot.offer(1));
+void exchange_at_the_moment() {
+    Replica partner = filled(50), replica = filled(50);
+    const std::string offer = sure(sure(partner.snapshot()).offer(1));
     sure(replica.hold());
     sure(replica.put(2, "later", ""));
     while (sure(replica.hash_moment(10)) > 0) {
     }
-    REFUSED(Dirty, replica.open(1, offer, false));
-    Session session = sure(replica.open_at_moment(1, offer));
-    while (const auto ask = sure(session.ask())) sure(session.take(sure(snapshot.serve(1, *ask))));
-    CHECK(sure(session.state()) == State::Finished && sure(replica.count()).entries == 51);
+    Exchange exchange = sure(replica.exchange_at_moment(1, offer));
+    CHECK(sure(exchange.progress(replica)).report == Report::Finished);
 }
 
 void no_whole_moment() {
     Replica partner = filled(50), replica = filled(1);
     const std::string offer = sure(sure(partner.snapshot()).offer(1));
     REFUSED(Dirty, replica.moment());
-    REFUSED(Dirty, replica.open_at_moment(1, offer));
+    REFUSED(Dirty, replica.exchange_at_moment(1, offer));
     sure(replica.hold());
     REFUSED(Dirty, replica.moment());
-    REFUSED(Dirty, replica.open_at_moment(1, offer));
-    REFUSED(BadMessage, replica.open_at_moment(1, ""));
+    REFUSED(Dirty, replica.exchange_at_moment(1, offer));
+    REFUSED(BadMessage, replica.exchange_at_moment(1, ""));
 }
 
 void portion_outlives_its_replica() {
@@ -235,12 +223,12 @@ void threads_read_at_once() {
     CHECK(rows[0].size() == keys && rows[1] == rows[0] && rows[2] == rows[0]);
 }
 
-/// A sync that ends early cancels and drops its session under the lock.
+/// A sync that ends early closes its exchange under the lock.
 void reach_that_throws() {
     Store store;
     Replica partner = filled(50);
     const std::string offer = sure(sure(partner.snapshot()).offer(1));
-    const Reach fails = [&](const std::vector<std::string> &) -> std::vector<std::optional<std::string>> {
+    const Reach fails = [&](const Asks &) -> Answers {
         store.put(1, "meanwhile");
         throw 1;
     };
@@ -257,7 +245,7 @@ void reach_that_throws() {
 
 int main() {
     return run({{"moment", moment},
-                {"session at the moment", session_at_the_moment},
+                {"exchange at the moment", exchange_at_the_moment},
                 {"no whole moment", no_whole_moment},
                 {"no moment is left", no_moment_is_left},
                 {"portion outlives its replica", portion_outlives_its_replica},

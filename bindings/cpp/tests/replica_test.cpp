@@ -382,7 +382,7 @@ constexpr bool moves_only = std::is_nothrow_move_constructible_v<T> && std::is_n
                             !std::is_copy_constructible_v<T> && !std::is_copy_assignable_v<T>;
 
 static_assert(moves_only<Replica> && moves_only<Snapshot> && moves_only<Hints> && moves_only<Slots>);
-static_assert(moves_only<Portion> && moves_only<Session> && moves_only<Loan>);
+static_assert(moves_only<Portion> && moves_only<Exchange> && moves_only<Loan>);
 
 template <class T, class = void>
 constexpr bool is_value = false;

@@ -59,6 +59,20 @@ inline Replica filled(int keys) {
     return replica;
 }
 
+using Asks = std::vector<std::string>;
+using Answers = std::vector<std::optional<std::string>>;
+
+/// The answers of a partner that is called directly. Its offer has the number 1.
+inline Answers serve(const Snapshot &snapshot, const Asks &asks) {
+    Answers answers;
+    for (const auto &ask : asks) answers.push_back(sure(snapshot.serve(1, ask)));
+    return answers;
+}
+
+inline Reach reach(const Snapshot &snapshot) {
+    return [&](const Asks &asks) { return serve(snapshot, asks); };
+}
+
 /// The bytes that hexadecimal digits write.
 inline std::string from_hex(const std::string &digits) {
     std::string bytes;

@@ -1,29 +1,9 @@
-// Snapshots, sessions and syncs.
+// Snapshots, exchanges and syncs.
 #include "support.hpp"
 
 #include <thread>
 
 namespace {
-
-using Asks = std::vector<std::string>;
-using Answers = std::vector<std::optional<std::string>>;
-
-/// A partner that is called directly.
-Answers serve(const Snapshot &snapshot, const Asks &asks) {
-    Answers answers;
-    for (const auto &ask : asks) answers.push_back(sure(snapshot.serve(1, ask)));
-    return answers;
-}
-
-Reach reach(const Snapshot &snapshot) {
-    return [&](const Asks &asks) { return serve(snapshot, asks); };
-}
-
-/// Takes what a partner has.
-Synced sync(Replica &replica, Replica &partner) {
-    Snapshot snapshot = sure(partner.snapshot());
-    return sure(replica.sync(9, sure(snapshot.offer(1)), reach(snapshot)));
-}
 
 /// The number of sessions that are kept. None of them is open.
 std::uint64_t kept(const Replica &replica) {
@@ -32,18 +12,13 @@ std::uint64_t kept(const Replica &replica) {
     return counts.sessions;
 }
 
-/// True if all entries have a source.
-bool all_are(Source source, const Replica &replica) {
-    const auto entries = all(sure(replica.entries()));
-    return std::all_of(entries.begin(), entries.end(), [&](const Entry &entry) { return entry.source == source; });
-}
-
-/// The number of sessions that were opened. Opens another one.
-std::uint64_t opened(Replica &replica, const std::string &offer) { return sure(replica.open(1, offer)).number(); }
+Report report(Exchange &exchange, const Replica &replica) { return sure(exchange.progress(replica)).report; }
 
 std::string ask_of(std::uint64_t leaf) {
     return std::string("\x02\0\0\0\x01\x03", 6) + static_cast<char>(leaf >> 8) + static_cast<char>(leaf);
 }
+
+std::uint64_t leaf_of(const std::string &key) { return sure(place(2, 0, key)).leaf; }
 
 void snapshots() {
     Replica replica = filled(50);
@@ -57,7 +32,6 @@ void snapshots() {
     CHECK(sure(snapshot.rows(leaf)).find(sure(replica.row("key 3"))) != std::string::npos);
     sure(replica.put(1, "later", ""));
     REFUSED(Dirty, replica.snapshot(false));
-    REFUSED(Dirty, replica.open(1, sure(snapshot.offer(1)), false));
     CHECK(sure(replica.root()) != sure(snapshot.root()));
     Snapshot moved = std::move(snapshot);
     replica.close();
@@ -99,199 +73,167 @@ void shared_snapshots() {
     REFUSED(Empty, first.digest(0, 0));
 }
 
-void session() {
+/// Answers arrive in reverse order, and the first ask is lost.
+void polled_exchange() {
     Replica a = filled(50), b = sure(Replica::make());
     Snapshot offered = sure(a.snapshot());
-    Session session = sure(b.open(1, sure(offered.offer(1))));
-    CHECK(session.number() == 0 && session.offer_number() == 1 && sure(session.outstanding()) == 1);
-    CHECK(sure(session.state()) == State::Open && sure(session.ask()) == sure(session.asks())[0]);
+    Exchange exchange = sure(b.exchange(1, sure(offered.offer(1)), {4}));
+    const Asks root = sure(exchange.asks(b));
+    CHECK(root.size() == 1 && sure(exchange.asks(b)).empty());
+    sure(exchange.lose(root[0]));
+    REFUSED(BadMessage, exchange.lose("no ask"));
     std::uint64_t accepted = 0;
-    for (auto asks = sure(session.asks()); !asks.empty(); asks = sure(session.asks())) {
-        CHECK(sure(session.ask_at(asks.size() - 1)) == asks.back());
-        CHECK(!sure(session.ask_at(asks.size())));
+    for (Asks asks = sure(exchange.asks(b)); !asks.empty(); asks = sure(exchange.asks(b))) {
+        CHECK(asks.size() <= 4);
         for (auto ask = asks.rbegin(); ask != asks.rend(); ++ask) {
-            accepted += sure(session.take(sure(offered.serve(1, *ask)))).accepted;
+            const Verdict verdict = sure(exchange.take(b, sure(offered.serve(1, *ask))));
+            CHECK(verdict.kind == VerdictKind::Taken && !verdict.cause && verdict.known == 0);
+            accepted += verdict.accepted;
         }
+        CHECK(sure(exchange.take(b, sure(offered.serve(1, asks[0])))).kind == VerdictKind::Late);
     }
-    CHECK(accepted == 50 && sure(session.state()) == State::Finished && !sure(session.ask()));
-    CHECK(sure(b.entry(0))->source == Source::Partner && sure(a.root()) == sure(b.root()));
-    sure(session.cancel());
-    CHECK(sure(session.state()) == State::Finished);
+    const Progress progress = sure(exchange.progress(b));
+    CHECK(progress.report == Report::Finished && !progress.cause && progress.bad == 0 && progress.lost == 1);
+    CHECK(accepted == 50 && progress.accepted == 50 && progress.known == 0 && progress.on_way == 0);
+    CHECK(kept(b) == 1 && sure(b.entry(0))->source == Source::Partner && sure(exchange.left(b)).empty());
+    sure(exchange.close(b));
+    CHECK(kept(b) == 0 && sure(b.entry(0))->source == Source::Copy && sure(a.root()) == sure(b.root()));
 }
 
-void check_unknown(Session &session) {
-    REFUSED(UnknownSession, session.state());
-    REFUSED(UnknownSession, session.outstanding());
-    REFUSED(UnknownSession, session.ask());
-    REFUSED(UnknownSession, session.ask_at(0));
-    REFUSED(UnknownSession, session.asks());
-    REFUSED(UnknownSession, session.take(from_hex("03000000010000000000000000000000")));
-    REFUSED(UnknownSession, session.cancel());
-}
-
-void dropped_sessions() {
-    Replica a = filled(50), b = sure(Replica::make());
-    Snapshot offered = sure(a.snapshot());
-    const std::string offer = sure(offered.offer(1));
-    Session ended = sure(b.open(1, offer)), open = sure(b.open(1, offer));
-    sure(ended.cancel());
-    sure(b.drop_sessions());
-    check_unknown(ended);
-    CHECK(sure(b.count()).sessions == 1 && sure(b.count()).open_sessions == 1 && open.number() == 1);
-    while (const auto ask = sure(open.ask())) sure(open.take(sure(offered.serve(1, *ask))));
-    CHECK(sure(open.state()) == State::Finished && all_are(Source::Partner, b));
-    sure(b.drop_sessions());
-    check_unknown(open);
-    CHECK(kept(b) == 0 && all_are(Source::Copy, b));
-    Replica renewed = sure(b.renew());
-    CHECK(opened(renewed, offer) == 2);
-}
-
-/// A session keeps the leaf of a key that is put again, until it is dropped.
-void sizes_of_sessions() {
+void equal_roots() {
     Replica a = filled(50), b = filled(50);
-    sure(a.put(2, "later", ""));
     const std::string offer = sure(sure(a.snapshot()).offer(1));
-    Snapshot before = sure(b.snapshot());
-    Session session = sure(b.open(1, offer));
-    CHECK(sure(b.bytes()).sessions == 0);
-    sure(b.put(1, "key 3", "a longer value", {{1, 1}}));
-    sure(b.rehash());
-    const std::string leaf = sure(before.rows(sure(place(2, 0, "key 3")).leaf));
-    const Bytes bytes = sure(b.bytes());
-    CHECK(bytes.sessions == leaf.size() && bytes.sessions > 0 && bytes.rows > sure(before.bytes()));
-    sure(session.cancel());
-    CHECK(sure(b.bytes()).sessions == leaf.size());
-    sure(b.drop_sessions());
-    CHECK(sure(b.bytes()).sessions == 0 && sure(b.bytes()).rows == bytes.rows);
-}
-
-void bad_answers() {
-    Replica a = filled(50), b = sure(Replica::make());
-    Snapshot offered = sure(a.snapshot());
-    Session session = sure(b.open(1, sure(offered.offer(1))));
-    const std::string answer = sure(offered.serve(1, *sure(session.ask())));
-    REFUSED(BadMessage, session.take(""));
-    REFUSED(WrongDigest, session.take(answer.substr(0, answer.size() - 1) + '?'));
-    sure(session.take(answer));
-    REFUSED(NotAsked, session.take(answer));
+    Exchange exchange = sure(b.exchange(1, offer));
+    CHECK(report(exchange, b) == Report::Finished && sure(exchange.asks(b)).empty() && kept(b) == 0);
+    CHECK(sure(b.sync(1, offer, nullptr)).finished());
 }
 
 void refused_offers() {
     Replica replica = filled(1), first = sure(Replica::make(1)), other = sure(Replica::make(2, 1, 1));
     const std::string offer = sure(sure(replica.snapshot()).offer(1));
-    REFUSED(BadMessage, other.open(1, ""));
+    REFUSED(BadMessage, other.exchange(1, ""));
     REFUSED(BadMessage, other.sync(1, "", nullptr));
-    REFUSED(OtherFormat, first.open(1, offer));
+    REFUSED(OtherFormat, first.exchange(1, offer));
     REFUSED(OtherRange, other.sync(1, offer, nullptr));
-    REFUSED(BadClock, first.open(65'536, offer));
+    REFUSED(BadClock, first.exchange(65'536, offer));
     Replica full = sure(Replica::make());
-    std::vector<Session> sessions;
-    while (sessions.size() < ANTIENTROPY_OPEN_SESSIONS_MAX) sessions.push_back(sure(full.open(1, offer)));
-    REFUSED(SessionsFull, full.open(1, offer));
-    sessions.pop_back();
-    CHECK(full.open(1, offer));
+    std::vector<Exchange> exchanges;
+    while (exchanges.size() < ANTIENTROPY_OPEN_SESSIONS_MAX) exchanges.push_back(sure(full.exchange(1, offer)));
+    REFUSED(SessionsFull, full.exchange(1, offer));
+    sure(exchanges.back().close(full));
+    CHECK(sure(full.count()).open_sessions == 63 && full.exchange(1, offer));
 }
 
-/// The roots of empty replicas are equal, whatever their format and range.
-void empty_ranges() {
-    Replica replica = sure(Replica::make(2, 1, 0)), first = sure(Replica::make(1, 1, 0)),
-            other = sure(Replica::make(2, 1, 1)), same = sure(Replica::make(2, 1, 0));
-    const std::string offer = sure(sure(replica.snapshot()).offer(1));
-    REFUSED(OtherFormat, first.sync(1, offer, nullptr));
-    REFUSED(OtherRange, other.sync(1, offer, nullptr));
-    CHECK(sure(same.sync(1, offer, nullptr)).finished() && opened(same, offer) == 0);
-}
-
-void moved_sessions() {
+/// An exchange of a replica that is moved, and one that is closed.
+void moved_and_closed() {
     Replica a = filled(1), b = sure(Replica::make());
-    const std::string offer = sure(sure(a.snapshot()).offer(1));
-    Session first = sure(b.open(1, offer));
+    Exchange first = sure(b.exchange(1, sure(sure(a.snapshot()).offer(1))));
     Replica moved = std::move(b);
-    CHECK(sure(first.state()) == State::Open);
-    Session second = std::move(first);
-    REFUSED(Empty, first.state());
-    CHECK(sure(second.state()) == State::Open);
-    second = sure(moved.open(1, offer));
-    CHECK(second.number() == 1 && sure(moved.count()).open_sessions == 1);
-    { const Session last = std::move(second); }
-    CHECK(sure(moved.count()).open_sessions == 0);
-    Session open = sure(moved.open(1, offer));
-    moved.close();
-    REFUSED(Empty, open.asks());
-    REFUSED(Empty, open.ask());
-    REFUSED(Empty, open.take(""));
-    REFUSED(Empty, open.cancel());
+    Exchange second = std::move(first);
+    REFUSED(Empty, first.progress(moved));
+    REFUSED(Empty, second.progress(b));
+    CHECK(report(second, moved) == Report::Waiting);
+    sure(second.close(moved));
+    sure(second.close(moved));
+    CHECK(kept(moved) == 0);
+    REFUSED(Empty, second.asks(moved));
+    REFUSED(Empty, second.take(moved, ""));
+    REFUSED(Empty, second.lose(ask_of(0)));
+    REFUSED(Empty, second.go_on());
+    REFUSED(Empty, second.progress(moved));
+    REFUSED(Empty, second.left(moved));
 }
 
-void whole_sync() {
+void both_ways() {
     Replica a = filled(300), b = sure(Replica::make());
-    Snapshot snapshot = sure(a.snapshot());
+    sure(b.put(2, "other", ""));
+    Snapshot of_a = sure(a.snapshot()), of_b = sure(b.snapshot());
     std::size_t most = 0;
     const auto counting = [&](const Asks &asks) {
         most = std::max(most, asks.size());
-        return serve(snapshot, asks);
+        return serve(of_a, asks);
     };
-    const std::string offer = sure(snapshot.offer(1));
-    const Synced synced = sure(b.sync(1, offer, counting, 10));
-    CHECK(synced.finished() && synced.accepted == 300 && synced.bad == 0 && synced.crowded.empty() && most == 10);
-    CHECK(sure(a.root()) == sure(b.root()) && kept(b) == 0);
-    const Synced again = sure(b.sync(1, offer, nullptr));
-    CHECK(again.finished() && again.asks == 0 && opened(b, offer) == 1);
-    sure(b.put(2, "other", ""));
-    CHECK(sync(a, b).accepted == 1 && sync(b, a).asks == 0);
+    const Synced synced = sure(b.sync(1, sure(of_a.offer(1)), counting, {10}));
+    CHECK(synced.finished() && synced.accepted == 300 && synced.known == 0 && synced.left.empty() && most == 10);
+    CHECK(synced.bad == 0 && synced.lost == 0 && kept(b) == 0);
+    CHECK(sure(a.sync(2, sure(of_b.offer(1)), reach(of_b))).accepted == 1 && sure(a.root()) == sure(b.root()));
 }
 
-void forty_syncs() {
-    Replica a = filled(300), b = sure(Replica::make());
-    Session by_hand = sure(b.open(1, sure(sure(a.snapshot()).offer(1))));
-    for (int n = 0; n < 40; n++) {
-        sure(a.put(1, "later " + std::to_string(n), ""));
-        const Synced synced = sync(b, a);
-        CHECK(synced.finished() && synced.accepted == (n == 0 ? 301 : 1));
-        CHECK(sure(b.count()).sessions == 1);
-    }
-    CHECK(all_are(Source::Copy, b));
-    CHECK(sure(by_hand.state()) == State::Open && by_hand.number() == 0);
-    CHECK(opened(b, sure(sure(a.snapshot()).offer(1))) == 41);
-}
-
-void one_ask_at_once() {
+/// Two replicas: the first has 20 keys that the second lacks, and a key is crowded between the two. Its leaf is the
+/// first of their leaves.
+struct Crowded {
     Replica a = filled(20), b = sure(Replica::make());
-    Snapshot snapshot = sure(a.snapshot());
-    CHECK(sure(b.sync(1, sure(snapshot.offer(1)), reach(snapshot), 0)).finished());
+    std::uint64_t leaf = ANTIENTROPY_LEAVES_2;
+
+    Crowded() {
+        for (const auto &key : all(a.keys())) leaf = std::min(leaf, leaf_of(key));
+        std::string key;
+        for (int n = 0; leaf_of(key = "crowded " + std::to_string(n)) >= leaf; n++) {
+        }
+        leaf = leaf_of(key);
+        crowd(a, key);
+        sure(b.accept(key, {{{100, 1}}, Kind::Live, "one more"}));
+    }
+};
+
+void crowded_leaf_is_left() {
+    Crowded replicas;
+    Snapshot snapshot = sure(replicas.a.snapshot());
+    const auto backwards = [&](const Asks &asks) { return serve(snapshot, Asks(asks.rbegin(), asks.rend())); };
+    const Synced synced = sure(replicas.b.sync(1, sure(snapshot.offer(1)), backwards));
+    CHECK(synced.accepted == 20 && synced.report == Report::Left && synced.bad == 0 && kept(replicas.b) == 0);
+    CHECK(synced.left == std::vector{replicas.leaf});
 }
 
-void crowded_leaf_is_passed() {
-    Replica a = filled(300), b = sure(Replica::make());
-    crowd(a, "key");
-    sure(b.accept("key", {{{100, 1}}, Kind::Live, "one more"}));
+/// A partner answers each ask for a leaf with the text of the crowded one.
+void leaf_is_left_for_its_own_answer() {
+    Crowded replicas;
+    Replica &b = replicas.b;
+    Snapshot snapshot = sure(replicas.a.snapshot());
+    Exchange exchange = sure(b.exchange(1, sure(snapshot.offer(1))));
+    while (report(exchange, b) == Report::Waiting) {
+        const Asks asks = sure(exchange.asks(b));
+        for (const auto &ask : asks) {
+            const std::string other = ask[5] == 3 ? ask_of(replicas.leaf) : ask;
+            sure(exchange.take(b, sure(snapshot.serve(1, other))));
+            for (const auto leaf : sure(exchange.left(b))) CHECK(leaf == replicas.leaf);
+        }
+        for (const auto &ask : asks) sure(exchange.lose(ask));
+    }
+    const Progress progress = sure(exchange.progress(b));
+    CHECK(progress.report == Report::TooManyLost && progress.accepted == 0 && progress.bad == 0);
+    CHECK(sure(exchange.left(b)).size() == 1);
+}
+
+/// 1,100 keys of 100,000 differ. Each tick has time for one batch of asks.
+void sync_under_a_deadline() {
+    constexpr int keys = 100'000, newer = 1'100;
+    const std::string old_value(100, 'o'), new_value(100, 'n');
+    Replica b = sure(Replica::make());
+    for (int n = 0; n < keys; n++) sure(b.put(1, "key " + std::to_string(n), old_value));
+    Replica a = sure(b.renew());
+    for (int n = 0; n < newer; n++) sure(a.put(1, "key " + std::to_string(n), new_value, {{1, 1}}));
     Snapshot snapshot = sure(a.snapshot());
     const std::string offer = sure(snapshot.offer(1));
-    const Asks left = {ask_of(sure(place(2, 0, "key")).leaf)};
-    const Synced synced = sure(b.sync(1, offer, reach(snapshot)));
-    CHECK(synced.accepted == 300 && synced.state == State::Cancelled && synced.crowded == left && synced.bad == 0);
-    CHECK(kept(b) == 0);
-    const auto backwards = [&](const Asks &asks) { return serve(snapshot, Asks(asks.rbegin(), asks.rend())); };
-    CHECK(sure(b.sync(1, offer, backwards)).crowded == left);
+    std::size_t sent = offer.size();
+    int ticks = 0;
+    Exchange exchange = sure(b.exchange(1, offer));
+    while (report(exchange, b) == Report::Waiting) {
+        for (const auto &ask : sure(exchange.asks(b))) {
+            const std::string answer = sure(snapshot.serve(1, ask));
+            sent += ask.size() + answer.size();
+            sure(exchange.take(b, answer));
+        }
+        sure(b.put(2, "own " + std::to_string(++ticks), ""));
+    }
+    const Progress progress = sure(exchange.progress(b));
+    CHECK(progress.report == Report::Finished && progress.accepted == newer && kept(b) == 1);
+    CHECK(ticks > 3 && sent <= 4'000'000);
+    sure(exchange.close(b));
+    for (int n = 0; n < newer; n++) CHECK(sure(b.get("key " + std::to_string(n)))[0].value == new_value);
 }
 
-/// A partner sends the answer of a crowded leaf for each ask.
-void crowded_answers_end() {
-    Replica a = filled(300), b = sure(Replica::make());
-    crowd(a, "key");
-    sure(b.accept("key", {{{100, 1}}, Kind::Live, "one more"}));
-    Snapshot snapshot = sure(a.snapshot());
-    const std::string crowded = ask_of(sure(place(2, 0, "key")).leaf);
-    const auto repeating = [&](const Asks &asks) {
-        const bool leaves = asks[0][5] == 3;
-        return serve(snapshot, leaves ? Asks(asks.size(), crowded) : asks);
-    };
-    const Synced synced = sure(b.sync(1, sure(snapshot.offer(1)), repeating));
-    CHECK(synced.crowded == Asks{crowded} && synced.bad > 8 && synced.accepted == 0 && !synced.finished());
-}
-
-void bad_partners_are_bounded() {
+void partner_that_lies() {
     Replica a = filled(300), b = sure(Replica::make());
     Snapshot snapshot = sure(a.snapshot());
     const std::string offer = sure(snapshot.offer(1));
@@ -300,17 +242,12 @@ void bad_partners_are_bounded() {
         for (auto &answer : answers) answer->back() ^= 1;
         return answers;
     };
-    const Synced lied = sure(b.sync(1, offer, lies, 256, 5));
-    CHECK(lied.bad == 6 && lied.asks == 6 && lied.state == State::Cancelled && kept(b) == 0);
-    const Synced lost = sure(b.sync(1, offer, [](const Asks &) { return Answers(); }, 256, 3));
-    CHECK(lost.bad == 4 && !lost.finished());
-    const auto talks = [](const Asks &) { return Answers(5'000, ""); };
-    CHECK(sure(b.sync(1, offer, talks, 256, 3)).bad == 4);
-    const auto stutters = [&, round = 0](const Asks &asks) mutable {
-        return ++round == 3 ? Answers{std::nullopt} : serve(snapshot, asks);
-    };
-    const Synced stuttered = sure(b.sync(1, offer, stutters, 4));
-    CHECK(stuttered.finished() && stuttered.bad > 0 && stuttered.accepted == 300);
+    Bounds bounds;
+    bounds.bad = bounds.lost = 5;
+    const Synced lied = sure(b.sync(1, offer, lies, bounds));
+    CHECK(lied.report == Report::TooManyBad && lied.bad == 6 && lied.asks == 6 && lied.lost == 0 && kept(b) == 0);
+    const Synced lost = sure(b.sync(1, offer, [](const Asks &) { return Answers{std::nullopt}; }, bounds));
+    CHECK(lost.report == Report::TooManyLost && lost.lost == 6 && lost.bad == 0 && sure(b.count()).entries == 0);
 }
 
 /// An offer whose root is the digest of the text "junk": the text has the right digest, but isn't a node's.
@@ -319,32 +256,43 @@ void not_canonical() {
     const std::string root = from_hex("ef875a1705a5fdac206be996f4dc1f726ea6b68861eb741c37def7277f179e37");
     const std::string offer = from_hex("01000000010200") + root;
     const std::string answer = from_hex("03000000010000000000000000000004") + "junk";
-    Session session = sure(replica.open(1, offer));
-    REFUSED(NotCanonical, session.take(answer));
-    CHECK(sure(session.state()) == State::Failed && !sure(session.ask()));
     REFUSED(NotCanonical, replica.sync(1, offer, [&](const Asks &) { return Answers{answer}; }));
     CHECK(sure(replica.count()).entries == 0 && kept(replica) == 0);
-    check_unknown(session);
 }
 
-void a_sync_is_refused() {
-    Replica a = filled(300), small = sure(Replica::make(2, 0, 0, 10));
+void full_journal() {
+    Replica a = filled(50), small = sure(Replica::make(2, 0, 0, 10));
     Snapshot snapshot = sure(a.snapshot());
     const std::string offer = sure(snapshot.offer(1));
     REFUSED(JournalFull, small.sync(1, offer, reach(snapshot)));
     CHECK(kept(small) == 0);
-    try {
-        const Reach fails = [](const Asks &) -> Answers { throw 1; };
-        (void)small.sync(1, offer, fails);
-        CHECK(false);
-    } catch (int) {
-        CHECK(kept(small) == 0 && opened(small, offer) == 2);
+    Exchange exchange = sure(small.exchange(1, offer));
+    std::uint64_t refused = 0;
+    while (report(exchange, small) == Report::Waiting) {
+        for (const auto &answer : serve(snapshot, sure(exchange.asks(small)))) {
+            const Verdict verdict = sure(exchange.take(small, *answer));
+            CHECK(verdict.cause.has_value() == (verdict.kind == VerdictKind::Refused));
+            refused += verdict.cause == Refusal::JournalFull;
+        }
     }
+    const Progress stopped = sure(exchange.progress(small));
+    CHECK(stopped.report == Report::Stopped && stopped.cause == Refusal::JournalFull);
+    sure(exchange.go_on());
+    CHECK(report(exchange, small) == Report::Waiting && sure(exchange.progress(small)).lost == refused);
+    Replica renewed = sure(small.renew());
+    CHECK(report(exchange, renewed) == Report::Gone);
+    const std::uint64_t taken = sure(small.count()).entries;
+    CHECK(taken > 0 && taken <= 10 && sure(renewed.sync(1, offer, reach(snapshot))).accepted == 50 - taken);
+}
+
+void replica_is_closed_meanwhile() {
+    Replica a = filled(30), b = sure(Replica::make());
+    Snapshot snapshot = sure(a.snapshot());
     const Reach closes = [&](const Asks &asks) {
-        small.close();
+        b.close();
         return serve(snapshot, asks);
     };
-    REFUSED(Empty, small.sync(1, offer, closes));
+    REFUSED(Empty, b.sync(1, sure(snapshot.offer(1)), closes));
 }
 
 void a_snapshot_serves_from_another_thread() {
@@ -354,7 +302,7 @@ void a_snapshot_serves_from_another_thread() {
     std::thread other([&] { synced = sure(b.sync(1, sure(snapshot.offer(1)), reach(snapshot))); });
     for (int n = 0; n < 1000; n++) sure(a.put(1, "new " + std::to_string(n), ""));
     other.join();
-    CHECK(synced.accepted == 300 && sync(b, a).accepted == 1000);
+    CHECK(synced.accepted == 300 && sure(b.root()) == sure(snapshot.root()));
 }
 
 } // namespace
@@ -362,20 +310,17 @@ void a_snapshot_serves_from_another_thread() {
 int main() {
     return run({{"snapshots", snapshots},
                 {"shared snapshots", shared_snapshots},
-                {"session", session},
-                {"dropped sessions", dropped_sessions},
-                {"sizes of sessions", sizes_of_sessions},
-                {"bad answers", bad_answers},
+                {"polled exchange", polled_exchange},
+                {"equal roots", equal_roots},
                 {"refused offers", refused_offers},
-                {"empty ranges", empty_ranges},
-                {"moved sessions", moved_sessions},
-                {"whole sync", whole_sync},
-                {"forty syncs", forty_syncs},
-                {"one ask at once", one_ask_at_once},
-                {"crowded leaf is passed", crowded_leaf_is_passed},
-                {"crowded answers end", crowded_answers_end},
-                {"bad partners are bounded", bad_partners_are_bounded},
+                {"moved and closed", moved_and_closed},
+                {"both ways", both_ways},
+                {"crowded leaf is left", crowded_leaf_is_left},
+                {"leaf is left for its own answer", leaf_is_left_for_its_own_answer},
+                {"sync under a deadline", sync_under_a_deadline},
+                {"partner that lies", partner_that_lies},
                 {"not canonical", not_canonical},
-                {"a sync is refused", a_sync_is_refused},
+                {"full journal", full_journal},
+                {"replica is closed meanwhile", replica_is_closed_meanwhile},
                 {"a snapshot serves from another thread", a_snapshot_serves_from_another_thread}});
 }

@@ -1,12 +1,14 @@
-//! Snapshots and syncs of a replica that threads share.
+//! Snapshots, exchanges and syncs of a replica that threads share.
 
 use std::sync::{Mutex, RwLock};
 
+use crate::exchange::Exchange;
 use crate::moment::{at_moment, Access};
 use crate::refusal::Refusal;
 use crate::replica::Replica;
 use crate::snapshot::Snapshot;
-use crate::sync::{self, Bounds, Synced};
+use crate::sync::{self, Synced};
+use crate::values::Bounds;
 
 /// The locks by which threads share a replica, or a type that has one: [`Mutex`], and [`RwLock`], by whose
 /// [`read`](RwLock::read) threads read the replica at once. No other type can implement it.
@@ -70,11 +72,17 @@ pub fn snapshot_beside<L: Lock>(shared: &L) -> Result<Snapshot, Refusal> {
     at_moment(&mut Shared(shared), |replica| replica.moment())
 }
 
+/// Opens an exchange of a shared replica, as [`Replica::exchange`] does. The lock is free while nodes are hashed.
+///
+/// Panics if the lock is poisoned.
+pub fn exchange_beside<L: Lock>(shared: &L, partner: u16, offer: &[u8], bounds: Bounds) -> Result<Exchange, Refusal> {
+    Exchange::open(&mut Shared(shared), partner, offer, bounds)
+}
+
 /// Takes the versions of a partner's offer that a shared replica lacks, as [`Replica::sync_within`] does.
 ///
-/// The lock is free while nodes are hashed and while `reach` waits, so other threads put. Don't put a renewed replica
-/// in the place of this one meanwhile: it doesn't have the session. Don't migrate this one: that ends the session.
-/// Panics if the lock is poisoned.
+/// The lock is free while nodes are hashed and while `reach` waits, so other threads put. A migration, or a renewed
+/// replica in the place of this one, ends the sync as [`Gone`](crate::Report::Gone). Panics if the lock is poisoned.
 ///
 /// ```
 /// use std::sync::Mutex;

@@ -4,6 +4,7 @@
 
 mod beside;
 mod checkpoint;
+mod exchange;
 mod functions;
 mod handle;
 mod hints;
@@ -13,26 +14,25 @@ mod portion;
 mod refusal;
 mod replica;
 mod rows;
-mod session;
 mod slots;
 mod snapshot;
 mod sync;
 mod sys;
 mod values;
 
-pub use beside::{snapshot_beside, sync_beside, Lock};
+pub use beside::{exchange_beside, snapshot_beside, sync_beside, Lock};
 pub use checkpoint::{CheckpointError, Damage};
+pub use exchange::Exchange;
 pub use functions::{compare, merge, place, read_offer, version};
 pub use hints::Hints;
 pub use packed::Packed;
 pub use portion::Portion;
 pub use refusal::Refusal;
 pub use replica::{Config, Replica, RowsRefused};
-pub use session::{Session, SessionId};
 pub use slots::Slots;
 pub use snapshot::Snapshot;
-pub use sync::{Bounds, Synced};
+pub use sync::Synced;
 pub use values::{
-    About, Bytes, Clock, Counts, Entry, Hint, HintCounts, Kind, Loaded, OfferParts, Order, Pair, Receipt, Root,
-    SlotCounts, Source, Spot, State, Taken, Version,
+    About, Bounds, Bytes, Clock, Counts, Entry, Hint, HintCounts, Kind, Loaded, OfferParts, Order, Pair, Progress,
+    Receipt, Report, Root, SlotCounts, Source, Spot, Verdict, VerdictKind, Version,
 };

@@ -5,18 +5,19 @@ use std::fmt;
 use std::io::{Read, Write};
 
 use crate::checkpoint::{self, CheckpointError};
-use crate::functions::read_offer;
+use crate::exchange::Exchange;
 use crate::handle::{bytes, clock, value, written, Owned, CLOCK_MAX};
 use crate::moment::at_moment;
 use crate::packed::{Entries, Packed};
 use crate::portion::Portion;
 use crate::refusal::{check, found, Refusal};
 use crate::rows::{row, Keys};
-use crate::session::{Session, SessionId};
 use crate::snapshot::Snapshot;
-use crate::sync::{self, Bounds, Synced};
+use crate::sync::{self, Synced};
 use crate::sys;
-use crate::values::{kind_of, About, Bytes, Clock, Counts, Entry, Kind, Loaded, Pair, Receipt, Root, Source, Version};
+use crate::values::{
+    kind_of, About, Bounds, Bytes, Clock, Counts, Entry, Kind, Loaded, Pair, Receipt, Root, Source, Version,
+};
 
 /// A call that puts a version.
 type PutCall = unsafe extern "C" fn(
@@ -34,9 +35,6 @@ type PutCall = unsafe extern "C" fn(
 
 /// A call that makes a snapshot.
 type SnapshotCall = unsafe extern "C" fn(*mut sys::Handle, *mut sys::Handle) -> u32;
-
-/// A call that opens a session.
-type OpenCall = unsafe extern "C" fn(*mut sys::Handle, u64, *const u8, usize, *mut u64) -> u32;
 
 /// The numbers of a new replica.
 ///
@@ -84,7 +82,7 @@ impl Default for Config {
 /// ```
 #[derive(Debug)]
 pub struct Replica {
-    handle: Owned,
+    pub(crate) handle: Owned,
 }
 
 impl Replica {
@@ -455,7 +453,7 @@ impl Replica {
 
 /// The tree, offers and checkpoints.
 impl Replica {
-    /// Hashes all nodes of the tree that have no digest. Only the calls `.._if_clean` need it.
+    /// Hashes all nodes of the tree that have no digest. Only `snapshot_if_clean` needs it.
     pub fn rehash(&mut self) -> Result<(), Refusal> {
         // SAFETY: as in `sys`.
         check(unsafe { sys::antientropy_rehash(self.handle.raw()) })
@@ -561,8 +559,8 @@ impl Replica {
 
 /// The moment: the rows at a time, which are hashed and offered while the replica goes on.
 ///
-/// It is whole when each of its nodes has a digest. [`Replica::snapshot`], `root`, `save`, `open` and `sync` hold, hash
-/// and drop a moment in one call, in the place of another one.
+/// It is whole when each of its nodes has a digest. [`Replica::snapshot`], `root`, `save`, `exchange` and `sync` hold,
+/// hash and drop a moment in one call, in the place of another one.
 impl Replica {
     /// Keeps the rows now as the replica's moment, in the place of another one. No later call changes it.
     ///
@@ -631,72 +629,44 @@ impl Replica {
     }
 }
 
-/// Sessions.
+/// Syncs.
 impl Replica {
-    /// Opens a session with a partner's offer. Hashes the nodes that have no digest. The replica keeps no moment then.
+    /// Opens an exchange with a partner by its offer. Hashes the nodes that have no digest. The replica keeps no moment
+    /// then.
     ///
-    /// A session is kept until [`drop_sessions`](Replica::drop_sessions), so compare roots first. Refused as
-    /// `BadMessage`, `OtherFormat`, `OtherRange` or `SessionsFull`.
-    pub fn open(&mut self, partner: u16, offer: &[u8]) -> Result<SessionId, Refusal> {
-        at_moment(self, |replica| replica.open_at_moment(partner, offer))
+    /// It is finished, and has no session, if the roots are equal. Refused as `BadMessage`, `OtherFormat`, `OtherRange`
+    /// or `SessionsFull`. [`exchange_beside`](crate::exchange_beside) opens one while other threads put.
+    pub fn exchange(&mut self, partner: u16, offer: &[u8], bounds: Bounds) -> Result<Exchange, Refusal> {
+        Exchange::open(self, partner, offer, bounds)
     }
 
-    /// Opens a session with a partner's offer. Refused as `open`, or as `Dirty` if a node has no digest.
-    pub fn open_if_clean(&mut self, partner: u16, offer: &[u8]) -> Result<SessionId, Refusal> {
-        self.open_by(sys::antientropy_open, partner, offer)
-    }
-
-    /// Opens a session with a partner's offer, and compares the rows of the moment with it.
-    ///
-    /// It may ask for leaves that differ only because the replica has gone on. Refused as `open`, or as `Dirty` if
-    /// there is no moment, or if it isn't whole.
-    pub fn open_at_moment(&mut self, partner: u16, offer: &[u8]) -> Result<SessionId, Refusal> {
-        self.open_by(sys::antientropy_open_at_moment, partner, offer)
-    }
-
-    /// Makes one of the two calls that open a session.
-    fn open_by(&mut self, call: OpenCall, partner: u16, offer: &[u8]) -> Result<SessionId, Refusal> {
-        let parts = read_offer(offer)?;
-        let number = written(|session| {
-            // SAFETY: as in `sys`.
-            unsafe { call(self.handle.raw(), partner.into(), offer.as_ptr(), offer.len(), session) }
+    /// Opens an exchange at the moment. Refused as `exchange`, or as `Dirty` if there is none, or if it isn't whole.
+    pub fn exchange_at_moment(&mut self, partner: u16, offer: &[u8], bounds: Bounds) -> Result<Exchange, Refusal> {
+        let (replica, at, len) = (self.handle.raw(), offer.as_ptr(), offer.len());
+        let handle = Owned::make(sys::antientropy_exchange_free, |into| {
+            // SAFETY: as in `sys`; `into` is empty and a local one.
+            unsafe { sys::antientropy_exchange_open(replica, into, partner.into(), at, len, &bounds) }
         })?;
-        Ok(SessionId { number, offer: parts.number })
-    }
-
-    /// Returns a session, for some calls.
-    pub fn session(&mut self, id: SessionId) -> Session<'_> {
-        Session::of(&mut self.handle, id)
+        Ok(Exchange { handle })
     }
 
     /// Drops the sessions that have ended, and all that they keep: rows that later puts have changed, and texts.
     ///
-    /// Open sessions are unchanged. Calls of a dropped one are refused as `UnknownSession`, and no later one has its
-    /// number. Entries of the source `Partner` have the source `Copy` then. [`sync`](Replica::sync) and
-    /// [`sync_beside`](crate::sync_beside) drop sessions, too.
-    ///
-    /// ```
-    /// # use antientropy::{Config, Refusal, Replica};
-    /// # let (mut a, mut b) = (Replica::new(Config::default())?, Replica::new(Config::default())?);
-    /// let id = b.open(1, &a.snapshot()?.offer(7)?)?;
-    /// b.session(id).cancel()?;
-    /// b.drop_sessions()?;
-    /// assert_eq!(b.session(id).state(), Err(Refusal::UnknownSession));
-    /// # Ok::<(), Refusal>(())
-    /// ```
+    /// Open sessions are unchanged. Entries of the source `Partner` have the source `Copy` then. An exchange that is
+    /// closed and [`sync`](Replica::sync) drop them, too.
     pub fn drop_sessions(&mut self) -> Result<(), Refusal> {
         // SAFETY: as in `sys`.
         check(unsafe { sys::antientropy_drop_sessions(self.handle.raw()) })
     }
 
-    /// Takes the versions of a partner's offer that this replica lacks. If the roots are equal it opens no session.
-    /// Otherwise it drops all sessions that have ended, at its end, also if it is refused or `reach` panics.
+    /// Takes the versions of a partner's offer that this replica lacks, by an exchange that it closes, also if it is
+    /// refused or `reach` panics.
     ///
-    /// `reach` sends asks to the partner, and returns the answers in their order: `None` for one that is missing.
-    /// Answers that are missing at the end are left out: after a lost link it returns an empty list. The sync has the
-    /// bounds of [`Bounds::default`].
+    /// `reach` sends asks to the partner, and returns the answers in any order: `None` for one that is missing, or
+    /// fewer answers than asks. The sync has the bounds of [`Bounds::default`].
     ///
-    /// Refused as `open`, and as `NotCanonical` or `JournalFull`. A leaf with a crowded key is left.
+    /// Refused as `exchange`; as `JournalFull` if there is no room for an answer, and `NotCanonical` if one isn't a
+    /// node's. Versions that were taken before stay.
     ///
     /// ```
     /// # use antientropy::{Clock, Config, Replica};

@@ -10,9 +10,9 @@
 
 use std::ffi::c_void;
 
-use crate::values::{Bytes, Counts, HintCounts, Pair, Receipt, Root, SlotCounts};
+use crate::values::{Bounds, Bytes, Counts, HintCounts, Pair, Receipt, Root, SlotCounts};
 
-/// A handle. Hints have all of these fields, the other four structs of handles in the header the first two.
+/// A handle. Hints have all of these fields, the other five structs of handles in the header the first two.
 #[repr(C)]
 #[derive(Clone, Copy)]
 pub struct Handle {
@@ -48,10 +48,33 @@ pub struct OfferParts {
 
 #[repr(C)]
 #[derive(Default)]
-pub struct Taken {
+pub struct Verdict {
+    pub verdict: u64,
+    pub cause: u64,
     pub accepted: u64,
     pub known: u64,
-    pub state: u64,
+}
+
+#[repr(C)]
+#[derive(Default)]
+pub struct Progress {
+    pub report: u64,
+    pub cause: u64,
+    pub asks: u64,
+    pub on_way: u64,
+    pub bytes_on_way: u64,
+    pub bad: u64,
+    pub lost: u64,
+    pub accepted: u64,
+    pub known: u64,
+    pub leaves: u64,
+}
+
+#[repr(C)]
+#[derive(Default)]
+pub struct Node {
+    pub depth: u64,
+    pub index: u64,
 }
 
 #[repr(C)]
@@ -225,25 +248,21 @@ extern "C" {
         need: *mut u64,
     ) -> u32;
     pub fn antientropy_share_rows(share: *mut Handle, leaf: u64, out: *mut u8, out_len: usize, need: *mut u64) -> u32;
-    pub fn antientropy_share_outstanding(share: *mut Handle, session: u64, count: *mut u64) -> u32;
-    pub fn antientropy_share_ask_at(
+    pub fn antientropy_share_exchange_next(
+        exchange: *mut Handle,
         share: *mut Handle,
-        session: u64,
+        out: *mut u8,
+        out_len: usize,
+        need: *mut u64,
+    ) -> u32;
+    pub fn antientropy_share_exchange_report(exchange: *mut Handle, share: *mut Handle, progress: *mut Progress)
+        -> u32;
+    pub fn antientropy_share_exchange_left(
+        exchange: *mut Handle,
+        share: *mut Handle,
         place: u64,
-        number: u32,
-        out: *mut u8,
-        out_len: usize,
-        need: *mut u64,
+        node: *mut Node,
     ) -> u32;
-    pub fn antientropy_share_ask(
-        share: *mut Handle,
-        session: u64,
-        number: u32,
-        out: *mut u8,
-        out_len: usize,
-        need: *mut u64,
-    ) -> u32;
-    pub fn antientropy_share_session(share: *mut Handle, session: u64, state: *mut u64) -> u32;
 }
 
 // The other calls.
@@ -332,30 +351,26 @@ extern "C" {
         rows_len: usize,
         loaded: *mut Loaded,
     ) -> u32;
-    pub fn antientropy_open(
+    pub fn antientropy_drop_sessions(replica: *mut Handle) -> u32;
+    pub fn antientropy_exchange_open(
         replica: *mut Handle,
+        exchange: *mut Handle,
         partner: u64,
         offer: *const u8,
         offer_len: usize,
-        session: *mut u64,
+        bounds: *const Bounds,
     ) -> u32;
-    pub fn antientropy_open_at_moment(
+    pub fn antientropy_exchange_take(
+        exchange: *mut Handle,
         replica: *mut Handle,
-        partner: u64,
-        offer: *const u8,
-        offer_len: usize,
-        session: *mut u64,
-    ) -> u32;
-    pub fn antientropy_take(
-        replica: *mut Handle,
-        session: u64,
-        number: u32,
         answer: *const u8,
         answer_len: usize,
-        taken: *mut Taken,
+        verdict: *mut Verdict,
     ) -> u32;
-    pub fn antientropy_cancel(replica: *mut Handle, session: u64) -> u32;
-    pub fn antientropy_drop_sessions(replica: *mut Handle) -> u32;
+    pub fn antientropy_exchange_lose(exchange: *mut Handle, ask: *const u8, ask_len: usize) -> u32;
+    pub fn antientropy_exchange_go_on(exchange: *mut Handle) -> u32;
+    pub fn antientropy_exchange_close(exchange: *mut Handle, replica: *mut Handle) -> u32;
+    pub fn antientropy_exchange_free(exchange: *mut Handle);
     pub fn antientropy_hints_new(hints: *mut Handle) -> u32;
     pub fn antientropy_hints_restore(hints: *mut Handle, first: u64) -> u32;
     pub fn antientropy_hints_free(hints: *mut Handle);

@@ -2,7 +2,7 @@
 
 use std::fmt;
 
-use crate::refusal::Refusal;
+use crate::refusal::{check, Refusal};
 use crate::sys;
 
 /// A pair of a clock: a node and its counter.
@@ -128,16 +128,44 @@ numbered! {
 }
 
 numbered! {
-    /// States of a session.
-    State {
-        /// Some node is outstanding.
-        Open = 0,
-        /// Each ask was answered.
-        Finished = 1,
-        /// An answer had the right digest, but its text can't be a node's.
-        Failed = 2,
-        /// It was ended before it was finished.
-        Cancelled = 3,
+    /// Kinds of verdicts on an answer.
+    VerdictKind {
+        /// The session took it.
+        Taken = 0,
+        /// Its leaf was left, since a key in it is crowded.
+        Left = 1,
+        /// It counts as bad: `BadMessage`, `NotAsked` or `WrongDigest`.
+        Bad = 2,
+        /// It is late, of another offer, or the exchange is over: it counts as nothing.
+        Late = 3,
+        /// There was no room for it: `JournalFull` or `NoMemory`.
+        Refused = 4,
+        /// It has the right digest, but isn't a node's: the session has failed.
+        Failed = 5,
+    }
+}
+
+numbered! {
+    /// Reports of an exchange. It sends asks while it is waiting.
+    Report {
+        /// The replica holds each version of the offer, or one that has seen it.
+        Finished = 0,
+        /// Some node is to be asked, or its ask is on its way.
+        Waiting = 1,
+        /// All is taken but the leaves that were left.
+        Left = 2,
+        /// There was no room for an answer: go on, or close.
+        Stopped = 3,
+        /// More answers were bad than the bounds allow.
+        TooManyBad = 4,
+        /// More asks were lost than the bounds allow.
+        TooManyLost = 5,
+        /// The session has failed.
+        Failed = 6,
+        /// The exchange is closed.
+        Closed = 7,
+        /// The replica doesn't have the session, or it was cancelled.
+        Gone = 8,
     }
 }
 
@@ -253,15 +281,76 @@ pub struct OfferParts {
     pub root: Root,
 }
 
-/// The result of taking an answer.
+/// The bounds of an exchange or a sync.
+#[repr(C)]
 #[derive(Clone, Copy, Debug, PartialEq, Eq, Hash)]
-pub struct Taken {
+pub struct Bounds {
+    /// Maximum of asks on their way. One may always be.
+    pub asks: u64,
+    /// Maximum of bytes of the answers to them, as far as they can be estimated.
+    pub bytes: u64,
+    /// Maximum of bad answers: after one more it is over.
+    pub bad: u64,
+    /// Maximum of lost asks: after one more it is over.
+    pub lost: u64,
+}
+
+/// 256 asks, 1 MiB of answers, 8 bad answers, and 256 lost asks.
+impl Default for Bounds {
+    fn default() -> Bounds {
+        Bounds { asks: 256, bytes: 1 << 20, bad: 8, lost: 256 }
+    }
+}
+
+/// The verdict of an exchange on an answer.
+#[derive(Clone, Copy, Debug, PartialEq, Eq, Hash)]
+pub struct Verdict {
+    /// Kind of the verdict.
+    pub kind: VerdictKind,
+    /// Cause of a bad or a refused one.
+    pub cause: Option<Refusal>,
     /// Number of new versions: they are now entries of the journal.
     pub accepted: u64,
     /// Number of known versions.
     pub known: u64,
-    /// State of the session.
-    pub state: State,
+}
+
+/// How far an exchange is.
+#[derive(Clone, Copy, Debug, PartialEq, Eq, Hash)]
+pub struct Progress {
+    /// The report.
+    pub report: Report,
+    /// Cause for which it stopped: `JournalFull` or `NoMemory`.
+    pub cause: Option<Refusal>,
+    /// Asks that were sent.
+    pub asks: u64,
+    /// Asks on their way.
+    pub on_way: u64,
+    /// Bytes of the answers to them, as far as they can be estimated.
+    pub bytes_on_way: u64,
+    /// Bad answers.
+    pub bad: u64,
+    /// Lost asks.
+    pub lost: u64,
+    /// New versions in the answers that were taken.
+    pub accepted: u64,
+    /// Known versions in them.
+    pub known: u64,
+    /// Leaves that were taken.
+    pub leaves: u64,
+}
+
+impl From<sys::Progress> for Progress {
+    fn from(progress: sys::Progress) -> Progress {
+        let sys::Progress { report, cause, asks, on_way, bytes_on_way, bad, lost, accepted, known, leaves } = progress;
+        let (report, cause) = (report.into(), cause_of(cause));
+        Progress { report, cause, asks, on_way, bytes_on_way, bad, lost, accepted, known, leaves }
+    }
+}
+
+/// Returns the cause of a number that a verdict or a report has: 0 is none.
+pub(crate) fn cause_of(number: u64) -> Option<Refusal> {
+    check(number as u32).err()
 }
 
 /// The result of loading rows.

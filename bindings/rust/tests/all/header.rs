@@ -4,7 +4,7 @@ use std::collections::BTreeMap;
 use std::fs;
 use std::path::Path;
 
-use antientropy::{Kind, Order, Refusal, Source, State};
+use antientropy::{Kind, Order, Refusal, Report, Source, VerdictKind};
 
 /// Returns the text of a file without its comments, its white space as single blanks.
 fn text(path: &str) -> String {
@@ -48,7 +48,7 @@ fn rust_type(ty: &str) -> String {
         "bool" => "bool",
         "void" => "c_void",
         "antientropy_replica" | "antientropy_snapshot" | "antientropy_portion" => "Handle",
-        "antientropy_hints" | "antientropy_slots" => "Handle",
+        "antientropy_exchange" | "antientropy_hints" | "antientropy_slots" => "Handle",
         other => return camel(other.strip_prefix("antientropy_").unwrap()),
     };
     known.to_owned()
@@ -60,18 +60,17 @@ fn camel(name: &str) -> String {
     name.split('_').map(word).collect()
 }
 
-/// The structs of exchanges, which the crate doesn't have yet.
-const OF_EXCHANGES: [&str; 4] = ["Bounds", "Node", "Progress", "Verdict"];
+/// C's own loop of a sync, with its struct `Taken`. Here an exchange is that loop.
+const LOOP_OF_C: [&str; 8] = ["open", "open_at_moment", "outstanding", "ask_at", "ask", "take", "session", "cancel"];
 
-/// Returns the arguments and the result of each function of the library, by its name, as Rust has them. Those of
-/// exchanges are left out.
+/// Returns the arguments and the result of each function of the library, by its name, as Rust has them.
 fn functions_of_the_header() -> BTreeMap<String, String> {
     let text = header().replace("static inline uint32_t", "");
     let mut functions = BTreeMap::new();
     for (result, rust_result) in [("uint32_t", " -> u32"), ("void", "")] {
         for declared in between(&text, &format!(" {result} antientropy_"), ");") {
             let (name, arguments) = declared.split_once('(').unwrap();
-            if name.trim_start_matches("share_").starts_with("exchange_") {
+            if LOOP_OF_C.contains(&name.trim_start_matches("share_")) {
                 continue;
             }
             let arguments = arguments.split(',').filter(|argument| *argument != "void").map(field);
@@ -138,10 +137,7 @@ fn functions() {
 fn structs() {
     let structs = structs_of_the_header();
     assert!(structs.len() > 10);
-    for (name, fields) in structs {
-        if OF_EXCHANGES.contains(&name.as_str()) {
-            continue;
-        }
+    for (name, fields) in structs.into_iter().filter(|(name, _)| name != "Taken") {
         let is_handle = fields[0].0 == "at";
         let mut here = struct_of_the_crate(if is_handle { "Handle" } else { &name });
         if is_handle && name != "Hints" {
@@ -173,24 +169,33 @@ fn enums() {
     kinds.iter().for_each(|(name, kind)| assert_eq!(numbers[*name], kind.number()));
     let sources = [("PUT", Source::Put), ("COPY", Source::Copy), ("HINT", Source::Hint), ("PARTNER", Source::Partner)];
     sources.iter().for_each(|(name, source)| assert_eq!(numbers[*name], source.number()));
-    let states = [
-        ("OPEN", State::Open),
-        ("FINISHED", State::Finished),
-        ("FAILED", State::Failed),
-        ("CANCELLED", State::Cancelled),
-    ];
-    states.iter().for_each(|(name, state)| assert_eq!(numbers[*name], state.number()));
     let orders = [("BEFORE", Order::Before), ("AFTER", Order::After), ("EQUAL", Order::Equal), ("APART", Order::Apart)];
     orders.iter().for_each(|(name, order)| assert_eq!(numbers[*name], order.number()));
+}
+
+#[test]
+fn verdicts_and_reports() {
+    let numbers = numbers();
+    let members = |prefix: &'static str| {
+        let named = numbers.iter().filter_map(move |(name, number)| Some((name.strip_prefix(prefix)?, *number)));
+        named.map(|(name, number)| (camel(name), number)).collect::<Vec<_>>()
+    };
+    let (verdicts, reports) = (members("VERDICT_"), members("REPORT_"));
+    assert_eq!((verdicts.len(), reports.len()), (6, 9));
+    verdicts.iter().for_each(|(name, number)| assert_eq!(*name, format!("{:?}", VerdictKind::from(*number))));
+    reports.iter().for_each(|(name, number)| assert_eq!(*name, format!("{:?}", Report::from(*number))));
 }
 
 /// A number of a newer library is kept, and no other member has it.
 #[test]
 fn numbers_of_a_newer_library() {
-    for number in [4, 255, u64::MAX] {
+    for number in [9, 255, u64::MAX] {
         assert_eq!((Kind::from(number), Kind::Other(number).number()), (Kind::Other(number), number));
         assert_eq!((Source::from(number), Source::Other(number).number()), (Source::Other(number), number));
-        assert_eq!((State::from(number), State::Other(number).number()), (State::Other(number), number));
+        assert_eq!(
+            (VerdictKind::from(number), Report::from(number)),
+            (VerdictKind::Other(number), Report::Other(number))
+        );
         assert_eq!((Order::from(number), Order::Other(number).number()), (Order::Other(number), number));
     }
     assert_eq!(Source::from(3), Source::Partner);

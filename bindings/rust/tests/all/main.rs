@@ -1,13 +1,13 @@
 //! Tests of the crate, over the library that `build.rs` found.
 
 mod checkpoint;
+mod exchange;
 mod functions;
 mod header;
 mod hints;
 mod memory;
 mod moments;
 mod replica;
-mod session;
 mod slots;
 mod support;
 mod sync;

@@ -2,12 +2,13 @@
 
 use std::fs;
 
-use antientropy::{Hints, Slots};
+use antientropy::{Bounds, Hints, Slots};
 
-use crate::support::{live, replica, NONE};
+use crate::support::{filled, live, replica, NONE};
 
 const VALUE: &[u8] = &[b'v'; 65_536];
 const KEYS: u8 = 64;
+const EXCHANGE_LEN: usize = 32 << 10; // 8 bytes a node at least
 const SLOTS_LEN: usize = 20 << 10;
 
 /// Returns the memory of the process in bytes: pages have 4,096.
@@ -19,8 +20,8 @@ fn resident() -> usize {
 /// Makes something of `bytes` bytes again and again: without frees the process would grow by 128 MiB each round. Other
 /// tests run meanwhile, so one of three rounds has to grow by less.
 #[track_caller]
-fn assert_freed(bytes: usize, make: impl Fn()) {
-    let grows = || {
+fn assert_freed(bytes: usize, mut make: impl FnMut()) {
+    let mut grows = || {
         let before = resident();
         (0..(128 << 20) / bytes).for_each(|_| make());
         resident() >= before + (64 << 20)
@@ -42,6 +43,14 @@ fn replicas_snapshots_and_portions() {
         drop(replica);
         snapshot.root().unwrap();
         portion.hash().unwrap();
+    });
+}
+
+#[test]
+fn exchanges() {
+    let (offer, mut replica) = (filled(1).snapshot().unwrap().offer(1).unwrap(), replica());
+    assert_freed(EXCHANGE_LEN, || {
+        replica.exchange(1, &offer, Bounds::default()).unwrap().close(&mut replica).unwrap();
     });
 }
 

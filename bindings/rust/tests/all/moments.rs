@@ -1,11 +1,50 @@
-//! Moments and their portions.
+//! Snapshots, moments and their portions.
 
 use std::panic::{catch_unwind, AssertUnwindSafe};
 use std::sync::Mutex;
 
-use antientropy::{snapshot_beside, sync_beside, Bounds, Refusal, Replica, State};
+use antientropy::{exchange_beside, place, read_offer, snapshot_beside, sync_beside, Bounds, Refusal, Replica, Report};
 
 use crate::support::{assert_refused, filled, replica, serve, NONE};
+
+#[test]
+fn snapshots() {
+    let mut replica = filled(50);
+    let snapshot = replica.snapshot().unwrap();
+    let root = snapshot.root().unwrap();
+    assert_eq!((snapshot.format(), snapshot.bits(), snapshot.range(), snapshot.entries()), (2, 0, 0, 50));
+    replica.put(1, b"later", Some(b""), &NONE).unwrap();
+    assert_ne!(replica.root().unwrap(), root);
+    drop(replica);
+    let parts = read_offer(&snapshot.offer(8).unwrap()).unwrap();
+    assert_eq!((parts.number, parts.format, parts.range, parts.root), (8, 2, 0, root));
+}
+
+#[test]
+fn rows_of_a_leaf() {
+    let snapshot = filled(50).snapshot().unwrap();
+    let leaf = place(2, 0, b"key 3").unwrap().leaf;
+    let rows = snapshot.rows(leaf).unwrap();
+    assert!(replica().load_rows(&rows).unwrap().taken >= 1);
+    assert_eq!(snapshot.rows(4096), Err(Refusal::BadMessage));
+}
+
+#[test]
+fn refused_asks() {
+    let snapshot = filled(50).snapshot().unwrap();
+    let ask = [2, 0, 0, 0, 7, 0, 0, 0];
+    assert!(snapshot.serve(7, &ask).is_ok());
+    assert_eq!(snapshot.serve(8, &ask), Err(Refusal::Gone));
+    assert_eq!(snapshot.serve(7, &ask[1..]), Err(Refusal::BadMessage));
+}
+
+#[test]
+fn dirty() {
+    let mut replica = filled(1);
+    assert_eq!(replica.snapshot_if_clean().err(), Some(Refusal::Dirty));
+    replica.rehash().unwrap();
+    assert!(replica.snapshot_if_clean().is_ok());
+}
 
 #[test]
 fn a_moment() {
@@ -50,27 +89,22 @@ fn no_moment_is_left() {
     assert_eq!(replica.sync(2, &offer, |asks| serve(&snapshot, 1, asks)).unwrap().asks, 0);
     assert_no_moment(&mut replica, 50);
     replica.put(1, b"later", Some(b""), &NONE).unwrap();
-    assert_eq!(replica.open(2, b""), Err(Refusal::BadMessage));
+    assert_eq!(replica.exchange(2, b"", Bounds::default()).unwrap_err(), Refusal::BadMessage);
     assert_no_moment(&mut replica, 51);
     replica.put(1, b"last", Some(b""), &NONE).unwrap();
-    replica.open(2, &offer).unwrap();
+    replica.exchange(2, &offer, Bounds::default()).unwrap().close(&mut replica).unwrap();
     assert_no_moment(&mut replica, 52);
 }
 
 #[test]
-fn a_session_at_the_moment() {
-    let snapshot = filled(50).snapshot().unwrap();
-    let offer = snapshot.offer(7).unwrap();
-    let mut replica = replica();
+fn an_exchange_at_the_moment() {
+    let offer = filled(50).snapshot().unwrap().offer(7).unwrap();
+    let mut replica = filled(50);
     replica.hold().unwrap();
     replica.put(2, b"later", Some(b""), &NONE).unwrap();
     while replica.hash_moment(10).unwrap() > 0 {}
-    assert_eq!(replica.open_if_clean(1, &offer), Err(Refusal::Dirty));
-    let id = replica.open_at_moment(1, &offer).unwrap();
-    while let Some(ask) = replica.session(id).ask().unwrap() {
-        replica.session(id).take(&snapshot.serve(7, &ask).unwrap()).unwrap();
-    }
-    assert_eq!((replica.session(id).state(), replica.count().unwrap().entries), (Ok(State::Finished), 51));
+    let mut exchange = replica.exchange_at_moment(1, &offer, Bounds::default()).unwrap();
+    assert_eq!(exchange.progress(&replica).unwrap().report, Report::Finished);
 }
 
 #[test]
@@ -78,10 +112,10 @@ fn no_whole_moment() {
     let offer = filled(50).snapshot().unwrap().offer(7).unwrap();
     let mut replica = filled(1);
     assert_refused(Refusal::Dirty, &mut replica, |replica| replica.moment());
-    assert_refused(Refusal::Dirty, &mut replica, |replica| replica.open_at_moment(1, &offer));
+    assert_refused(Refusal::Dirty, &mut replica, |replica| replica.exchange_at_moment(1, &offer, Bounds::default()));
     replica.hold().unwrap();
     assert_refused(Refusal::Dirty, &mut replica, |replica| replica.moment());
-    assert_refused(Refusal::Dirty, &mut replica, |replica| replica.open_at_moment(1, &offer));
+    assert_refused(Refusal::Dirty, &mut replica, |replica| replica.exchange_at_moment(1, &offer, Bounds::default()));
 }
 
 #[test]
@@ -122,6 +156,8 @@ fn a_replica_that_is_never_at_rest() {
     assert_eq!(snapshot_beside(&shared).unwrap().entries(), 2);
     let partner = filled(50).snapshot().unwrap();
     let offer = partner.offer(1).unwrap();
+    let exchange = exchange_beside(&shared, 1, &offer, Bounds::default()).unwrap();
+    exchange.close(shared.lock().unwrap().as_mut()).unwrap();
     let synced = sync_beside(&shared, Bounds::default(), 1, &offer, |asks| serve(&partner, 1, asks)).unwrap();
     assert_eq!((synced.finished(), synced.accepted), (true, 50));
 }

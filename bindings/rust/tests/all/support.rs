@@ -2,7 +2,7 @@
 
 use std::fmt::Debug;
 
-use antientropy::{Clock, Config, Counts, Entry, Refusal, Replica, Snapshot, Version};
+use antientropy::{place, Clock, Config, Counts, Entry, Refusal, Replica, Snapshot, Version};
 
 pub const NONE: Clock = Clock::new();
 
@@ -37,11 +37,22 @@ pub fn crowd(replica: &mut Replica, key: &[u8]) {
     }
 }
 
-/// Returns the number of sessions that a replica has opened, and opens another one.
-pub fn opened(replica: &mut Replica, offer: &[u8]) -> u64 {
-    let id = replica.open(1, offer).unwrap();
-    replica.session(id).cancel().unwrap();
-    id.number
+/// Returns a replica with `keys` keys that another one lacks, that other one, and the leaf of a key that is crowded
+/// between the two. It is the first of their leaves.
+pub fn crowded_pair(keys: usize) -> (Replica, Replica, u16) {
+    let (mut a, mut b) = (filled(keys), replica());
+    let leaf_of = |key: &[u8]| place(2, 0, key).unwrap().leaf;
+    let first = a.keys().map(|key| leaf_of(&key.unwrap())).min().unwrap();
+    let key = (0..).map(|n| format!("crowded {n}").into_bytes()).find(|key| leaf_of(key) < first).unwrap();
+    crowd(&mut a, &key);
+    b.accept(&key, &live([(100, 1)], b"one more")).unwrap();
+    (a, b, leaf_of(&key))
+}
+
+/// Returns the numbers of sessions that are kept, and of open ones.
+pub fn sessions(replica: &Replica) -> (u64, u64) {
+    let counts = replica.count().unwrap();
+    (counts.sessions, counts.open_sessions)
 }
 
 /// Returns the answers of a partner that is called directly.

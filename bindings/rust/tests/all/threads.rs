@@ -5,7 +5,7 @@ use std::sync::{mpsc, Mutex, RwLock};
 use std::thread;
 
 use antientropy::{merge, place, snapshot_beside, sync_beside};
-use antientropy::{Bounds, Config, Hints, Portion, Refusal, Replica, Slots, Snapshot};
+use antientropy::{Bounds, Config, Exchange, Hints, Portion, Refusal, Replica, Slots, Snapshot};
 
 use crate::support::{filled, replica, serve, NONE};
 
@@ -16,6 +16,7 @@ fn handles_are_send_and_sync() {
     threads_may_have::<Replica>();
     threads_may_have::<Snapshot>();
     threads_may_have::<Portion>();
+    threads_may_have::<Exchange>();
     threads_may_have::<Hints>();
     threads_may_have::<Slots>();
 }
