@@ -18,16 +18,21 @@ func opened(r *antientropy.Replica, offer []byte) *antientropy.Exchange {
 	return must(r.Exchange(9, offer, antientropy.DefaultBounds()))
 }
 
-// takeAll takes the answers to all asks of an exchange with the offer of number 7.
-func takeAll(exchange *antientropy.Exchange, snapshot *antientropy.Snapshot) {
+// takeAll takes the answers to all asks of an exchange with the offer of number 7, those to the last ones first. It
+// calls between after each batch, and returns the number of bytes of asks and answers.
+func takeAll(exchange *antientropy.Exchange, snapshot *antientropy.Snapshot, between func()) (sent int) {
 	for asks := must(exchange.Asks()); len(asks) > 0; asks = must(exchange.Asks()) {
-		for _, ask := range asks {
-			must(exchange.Take(must(snapshot.Serve(7, ask))))
+		for i := len(asks) - 1; i >= 0; i-- {
+			answer := must(snapshot.Serve(7, asks[i]))
+			sent += len(asks[i]) + len(answer)
+			must(exchange.Take(answer))
 		}
+		between()
 	}
+	return sent
 }
 
-// Answers arrive in any order, an ask is lost, and the replica makes other calls, even a sync, in between.
+// Answers arrive in any order, one is bad, an ask is lost, and the replica makes other calls, even a sync, in between.
 func TestAPolledExchange(t *testing.T) {
 	snapshot, offer := offered()
 	r := newReplica()
@@ -35,83 +40,29 @@ func TestAPolledExchange(t *testing.T) {
 	root := must(exchange.Asks())
 	equal(t, root, [][]byte{askFor(7, 0, 0)})
 	equal(t, len(must(exchange.Asks())), 0)
+	bad := antientropy.Verdict{Kind: antientropy.VerdictBad, Cause: antientropy.ErrNotAsked}
+	equal(t, must(exchange.Take(must(snapshot.Serve(7, askFor(7, 3, 5))))), bad)
 	check(exchange.Lose(root[0]))
-	equal(t, must(exchange.Asks()), root)
-	equal(t, must(exchange.Take(must(snapshot.Serve(7, root[0])))).Kind, antientropy.VerdictTaken)
+	refused(t, exchange.Lose(nil), antientropy.ErrBadMessage)
 	put(r, "own", "")
-	equal(t, must(syncFrom(r, filled(1))).Accepted, uint64(1))
-	var known uint64
-	for asks := must(exchange.Asks()); len(asks) > 0; asks = must(exchange.Asks()) {
-		for i := len(asks) - 1; i >= 0; i-- {
-			known += must(exchange.Take(must(snapshot.Serve(7, asks[i])))).Known
-		}
-	}
+	takeAll(exchange, snapshot, func() { equal(t, must(syncFrom(r, filled(1))).Finished(), true) })
 	progress := must(exchange.Progress())
-	equal(t, []uint64{progress.Accepted, progress.Known, progress.Lost, progress.OnWay, known}, []uint64{49, 1, 1, 0, 1})
-	equal(t, []any{progress.Report, must(r.Count()).Sessions}, []any{antientropy.ReportFinished, uint64(1)})
+	equal(t, []any{progress.Report, progress.Cause, progress.OnWay}, []any{antientropy.ReportFinished, nil, uint64(0)})
+	equal(t, []uint64{progress.Accepted, progress.Known, progress.Bad, progress.Lost}, []uint64{49, 1, 1, 1})
 	check(exchange.Close())
 	noSession(t, r)
 	_, err := exchange.Progress()
 	refused(t, err, antientropy.ErrEmpty)
 }
 
-func TestVerdicts(t *testing.T) {
-	snapshot, offer := offered()
-	r := newReplica()
-	exchange := opened(r, offer)
-	ask := must(exchange.Asks())[0]
-	answer := must(snapshot.Serve(7, ask))
-	wrong := append([]byte{}, answer...)
-	wrong[len(wrong)-1] ^= 1
-	bad := func(cause error) antientropy.Verdict {
-		return antientropy.Verdict{Kind: antientropy.VerdictBad, Cause: cause}
-	}
-	equal(t, must(exchange.Take(nil)), bad(antientropy.ErrBadMessage))
-	equal(t, must(exchange.Take(must(snapshot.Serve(7, askFor(7, 3, 5))))), bad(antientropy.ErrNotAsked))
-	equal(t, must(exchange.Take(wrong)), bad(antientropy.ErrWrongDigest))
-	equal(t, must(exchange.Take(answer)), antientropy.Verdict{Kind: antientropy.VerdictTaken})
-	equal(t, must(exchange.Take(answer)), antientropy.Verdict{Kind: antientropy.VerdictLate})
-	refused(t, exchange.Lose(answer), antientropy.ErrBadMessage)
-	equal(t, must(r.Count()).Entries, uint64(0))
-}
-
-func TestBounds(t *testing.T) {
-	snapshot, offer := offered()
-	for bounds, most := range map[antientropy.Bounds]int{{Asks: 5, Bytes: 1 << 20}: 5, {Asks: 256, Bytes: 1}: 1} {
-		exchange := must(newReplica().Exchange(9, offer, bounds))
-		must(exchange.Take(must(snapshot.Serve(7, must(exchange.Asks())[0]))))
-		equal(t, len(must(exchange.Asks())), most)
-		progress := must(exchange.Progress())
-		equal(t, []any{progress.OnWay, progress.BytesOnWay > 0}, []any{uint64(most), true})
-	}
-}
-
-// The journal has no room for an answer: asks stop until the program says that there is room.
-func TestAnExchangeThatStops(t *testing.T) {
-	snapshot, offer := offered()
-	exchange := opened(withLimit(10), offer)
-	takeAll(exchange, snapshot)
-	progress := must(exchange.Progress())
-	want := []any{antientropy.ReportStopped, antientropy.ErrJournalFull, uint64(0)}
-	equal(t, []any{progress.Report, progress.Cause, progress.Lost}, want)
-	check(exchange.GoOn())
-	equal(t, []any{must(exchange.Progress()).Lost > 0, len(must(exchange.Asks())) > 0}, []any{true, true})
-}
-
 func TestRefusedOffers(t *testing.T) {
 	_, offer := offered()
-	for _, each := range []struct {
-		config antientropy.Config
-		offer  []byte
-		cause  error
-	}{
-		{antientropy.Config{Format: 1, Limit: 1}, offer, antientropy.ErrOtherFormat},
-		{antientropy.Config{Format: 2, Bits: 1, Range: 1, Limit: 1}, offer, antientropy.ErrOtherRange},
-		{antientropy.Config{Format: 2, Limit: 1}, offer[1:], antientropy.ErrBadMessage},
+	for cause, config := range map[error]antientropy.Config{
+		antientropy.ErrOtherFormat: {Format: 1, Limit: 1},
+		antientropy.ErrOtherRange:  {Format: 2, Bits: 1, Range: 1, Limit: 1},
 	} {
-		r := must(antientropy.NewReplica(each.config))
-		_, err := r.Exchange(1, each.offer, antientropy.DefaultBounds())
-		refused(t, err, each.cause)
+		_, err := must(antientropy.NewReplica(config)).Exchange(1, offer, antientropy.DefaultBounds())
+		refused(t, err, cause)
 	}
 }
 
@@ -199,18 +150,14 @@ func TestAnExchangeUnderDeadlines(t *testing.T) {
 	asker, partner := largePair(1_100)
 	snapshot := must(partner.Snapshot())
 	offer := must(snapshot.Offer(7))
-	exchange, sent := opened(asker, offer), len(offer)
-	for asks := must(exchange.Asks()); len(asks) > 0; asks = must(exchange.Asks()) {
-		for _, ask := range asks {
-			answer := must(snapshot.Serve(7, ask))
-			sent += len(ask) + len(answer)
-			must(exchange.Take(answer))
-		}
-		must(asker.Put(2, []byte(fmt.Sprint("own ", sent)), nil, nil))
-	}
+	exchange, puts := opened(asker, offer), 0
+	sent := len(offer) + takeAll(exchange, snapshot, func() {
+		puts++
+		put(asker, fmt.Sprint("own ", puts), "value")
+	})
 	progress := must(exchange.Progress())
 	equal(t, []any{progress.Report, progress.Accepted}, []any{antientropy.ReportFinished, uint64(1_100)})
-	equal(t, must(asker.Count()).Sessions, uint64(1))
+	equal(t, []any{must(asker.Count()).Sessions, puts > 1}, []any{uint64(1), true})
 	if sent > 4_000_000 {
 		t.Errorf("offer, asks and answers have %d bytes", sent)
 	}

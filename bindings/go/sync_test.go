@@ -62,17 +62,17 @@ func TestASyncWithoutReach(t *testing.T) {
 func TestBothWays(t *testing.T) {
 	a, b, l := filled(300), newReplica(), link{}
 	must(b.Put(2, []byte("other"), nil, nil))
-	synced := must(l.sync(b, a, antientropy.DefaultBounds()))
+	synced := must(l.sync(b, a, antientropy.Bounds{Asks: 10, Bytes: 1 << 20}))
 	equal(t, []uint64{synced.Accepted, must(syncFrom(a, b)).Accepted}, []uint64{300, 1})
-	asks := 0
+	most, asks := 0, 0
 	for _, round := range l.rounds {
-		asks += round
+		if asks += round; round > most {
+			most = round
+		}
 	}
-	equal(t, []any{synced.Asks, synced.Finished()}, []any{uint64(asks), true})
+	equal(t, []any{synced.Asks, synced.Finished(), most}, []any{uint64(asks), true, 10})
 	equal(t, must(a.Root()), must(b.Root()))
-	for _, entry := range must(b.Entries(1).All()) {
-		equal(t, entry.Source, antientropy.SourceCopy)
-	}
+	equal(t, must(b.Entries(0).All())[300].Source, antientropy.SourceCopy)
 }
 
 func TestEqualRoots(t *testing.T) {
@@ -94,15 +94,6 @@ func TestAPartnerThatLies(t *testing.T) {
 	synced := must(l.sync(b, filled(300), antientropy.Bounds{Bad: 5}))
 	equal(t, synced, antientropy.Synced{Report: antientropy.ReportTooManyBad, Asks: 6, Bad: 6})
 	equal(t, must(b.Count()).Entries, uint64(0))
-}
-
-func TestALostLink(t *testing.T) {
-	for _, lost := range [][][]byte{nil, {nil}} {
-		answers := lost
-		l := link{change: func(_, _ [][]byte) ([][]byte, error) { return answers, nil }}
-		synced := must(l.sync(newReplica(), filled(300), antientropy.Bounds{Lost: 3}))
-		equal(t, synced, antientropy.Synced{Report: antientropy.ReportTooManyLost, Asks: 4, Lost: 4})
-	}
 }
 
 func TestALinkThatFails(t *testing.T) {
@@ -130,12 +121,21 @@ func TestALinkThatPanics(t *testing.T) {
 	noSession(t, b)
 }
 
-// What was taken before the journal was full stays.
+// Asks stop when the journal is full. What was taken before stays.
 func TestAFullJournal(t *testing.T) {
+	snapshot, offer := offered()
 	small := withLimit(10)
-	synced, err := syncFrom(small, filled(300))
+	exchange := opened(small, offer)
+	takeAll(exchange, snapshot, func() {})
+	progress := must(exchange.Progress())
+	equal(t, []any{progress.Report, progress.Cause}, []any{antientropy.ReportStopped, antientropy.ErrJournalFull})
+	check(exchange.GoOn())
+	equal(t, len(must(exchange.Asks())) > 0, true)
+	check(exchange.Close())
+	synced, err := small.Sync(9, offer, reachOf(snapshot, 7))
 	refused(t, err, antientropy.ErrJournalFull)
-	equal(t, []any{synced.Accepted > 0, synced.Accepted}, []any{true, must(small.Count()).Entries})
+	taken := progress.Accepted + synced.Accepted
+	equal(t, []any{taken > 0, taken}, []any{true, must(small.Count()).Entries})
 	noSession(t, small)
 }
 
