@@ -3,7 +3,10 @@
 from __future__ import annotations
 
 from enum import IntEnum
-from typing import Dict, Iterable, List, Mapping, NamedTuple, Optional, Tuple, Union
+from typing import TYPE_CHECKING, Dict, Iterable, List, Mapping, NamedTuple, Optional, Tuple, Union
+
+if TYPE_CHECKING:
+    from ._refused import Refused
 
 #: A clock that a call returns: the counter of each node, by rising node.
 Clock = Dict[int, int]
@@ -28,13 +31,39 @@ class Source(IntEnum):
     PARTNER = 3
 
 
-class State(IntEnum):
-    """States of a session."""
+class VerdictKind(IntEnum):
+    """Kinds of verdicts of an exchange on an answer.
 
-    OPEN = 0
-    FINISHED = 1
-    FAILED = 2
-    CANCELLED = 3
+    The session took it; the leaf was left, since a key in its text is crowded; it counts as bad; it is late or of
+    another offer, or the exchange is over; there was no room for it; or the text isn't a node's, so the session has
+    failed.
+    """
+
+    TAKEN = 0
+    LEFT = 1
+    BAD = 2
+    LATE = 3
+    REFUSED = 4
+    FAILED = 5
+
+
+class Report(IntEnum):
+    """How far an exchange is.
+
+    FINISHED means that the replica has seen each version of the offer, and LEFT that only leaves that were left are
+    outstanding. It is STOPPED if there was no room for an answer: go on, or close it. It is GONE if a renewal or a
+    migration has ended the session.
+    """
+
+    FINISHED = 0
+    WAITING = 1
+    LEFT = 2
+    STOPPED = 3
+    TOO_MANY_BAD = 4
+    TOO_MANY_LOST = 5
+    FAILED = 6
+    CLOSED = 7
+    GONE = 8
 
 
 class Order(IntEnum):
@@ -130,12 +159,48 @@ class OfferParts(NamedTuple):
     root: bytes
 
 
-class Taken(NamedTuple):
-    """The result of taking an answer: numbers of new and of known versions, and the state of the session."""
+class Bounds(NamedTuple):
+    """The bounds of an exchange.
 
+    At most so many asks are on their way, and bytes of the answers to them, as far as they can be estimated; one ask
+    may always be. After more bad answers or lost asks the exchange is over.
+    """
+
+    asks: int = 256
+    bytes: int = 1 << 20
+    bad: int = 8
+    lost: int = 256
+
+
+class Verdict(NamedTuple):
+    """The verdict of an exchange on an answer, with the numbers of new and of known versions.
+
+    The cause is BadMessage, NotAsked or WrongDigest of a bad answer, and JournalFull or NoMemory of a refused one.
+    """
+
+    verdict: VerdictKind
+    cause: Optional[Refused]
     accepted: int
     known: int
-    state: State
+
+
+class Progress(NamedTuple):
+    """The report and the counts of an exchange. The cause is JournalFull or NoMemory if it is STOPPED.
+
+    `asks` is the number of those that were sent, and `bytes_on_way` an estimate of the answers to those on their way.
+    `accepted`, `known` and `leaves` count new and known versions and leaves in the answers that were taken.
+    """
+
+    report: Report
+    cause: Optional[Refused]
+    asks: int
+    on_way: int
+    bytes_on_way: int
+    bad: int
+    lost: int
+    accepted: int
+    known: int
+    leaves: int
 
 
 class Loaded(NamedTuple):
@@ -201,16 +266,20 @@ class SlotCounts(NamedTuple):
 
 
 class Synced(NamedTuple):
-    """The result of a sync. `crowded` has the asks for the leaves that were left, since a key in them is crowded."""
+    """The result of a sync: the report and the counts of its exchange.
 
+    `left` has the leaves that were left, since a key in each of them is crowded.
+    """
+
+    report: Report
     accepted: int
     known: int
     asks: int
     bad: int
-    crowded: List[bytes]
-    state: State
+    lost: int
+    left: List[int]
 
     @property
     def finished(self) -> bool:
-        """True if each version of the offer was taken."""
-        return self.state is State.FINISHED
+        """True if the replica has seen each version of the offer."""
+        return self.report is Report.FINISHED
