@@ -32,38 +32,28 @@ class Source(IntEnum):
 
 
 class VerdictKind(IntEnum):
-    """Kinds of verdicts of an exchange on an answer.
+    """Kinds of verdicts of an exchange on an answer."""
 
-    The session took it; the leaf was left, since a key in its text is crowded; it counts as bad; it is late or of
-    another offer, or the exchange is over; there was no room for it; or the text isn't a node's, so the session has
-    failed.
-    """
-
-    TAKEN = 0
-    LEFT = 1
-    BAD = 2
-    LATE = 3
-    REFUSED = 4
-    FAILED = 5
+    TAKEN = 0  # the session took it
+    LEFT = 1  # the leaf was left: a key in its text is crowded
+    BAD = 2  # it counts as bad
+    LATE = 3  # it is late or of another offer, or the exchange is over
+    REFUSED = 4  # there was no room for it
+    FAILED = 5  # the text isn't a node's: the session has failed
 
 
 class Report(IntEnum):
-    """How far an exchange is.
+    """How far an exchange is."""
 
-    FINISHED means that the replica has seen each version of the offer, and LEFT that only leaves that were left are
-    outstanding. It is STOPPED if there was no room for an answer: go on, or close it. It is GONE if a renewal or a
-    migration has ended the session.
-    """
-
-    FINISHED = 0
-    WAITING = 1
-    LEFT = 2
-    STOPPED = 3
+    FINISHED = 0  # the replica has seen each version of the offer
+    WAITING = 1  # some node is to be asked, or its ask is on its way
+    LEFT = 2  # only leaves that were left are outstanding
+    STOPPED = 3  # there was no room for an answer: go on, or close
     TOO_MANY_BAD = 4
     TOO_MANY_LOST = 5
-    FAILED = 6
-    CLOSED = 7
-    GONE = 8
+    FAILED = 6  # the session has failed
+    CLOSED = 7  # no call returns it
+    GONE = 8  # a renewal or a migration has ended the session
 
 
 class Order(IntEnum):
