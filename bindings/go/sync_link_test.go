@@ -65,9 +65,9 @@ func (l *slowLink) send() {
 	}
 }
 
-// receive brings the next answer, in pieces. The asks are lost if no piece arrives in the time of the answers on their
-// way, and a second. (The estimate of the first leaves is 0, so the time begins anew with each piece.)
-func (l *slowLink) receive() {
+// receive brings the next answer, in pieces. An ask would be lost if no piece arrived in the time of the answers on
+// their way, and a second. (The estimate of the first leaves is 0, so that time begins anew with each piece.)
+func (l *slowLink) receive(t *testing.T) {
 	const piece = 1 << 20
 	answer := must(l.snapshot.Serve(7, l.queue[0]))
 	for rest := uint64(len(answer)); rest > 0; {
@@ -76,20 +76,13 @@ func (l *slowLink) receive() {
 			size = piece
 		}
 		if timeOf(size) > timeOf(must(l.exchange.Progress()).BytesOnWay)+time.Second {
-			l.lose()
+			t.Fatal("an ask is lost")
 		}
 		rest -= size
 		l.now += timeOf(size)
 	}
 	must(l.exchange.Take(answer))
 	l.queue = l.queue[1:]
-}
-
-// lose counts the asks that wait as lost.
-func (l *slowLink) lose() {
-	for _, ask := range l.queue {
-		check(l.exchange.Lose(ask))
-	}
 }
 
 // An empty replica takes leaves of 14 MB over a slow link, and asks for nothing twice.
@@ -101,7 +94,7 @@ func TestASyncOverASlowLink(t *testing.T) {
 	defer snapshot.Close()
 	l := slowLink{exchange: opened(asker, must(snapshot.Offer(7))), snapshot: snapshot, asks: map[string]int{}}
 	for l.send(); len(l.queue) > 0; l.send() {
-		l.receive()
+		l.receive(t)
 	}
 	progress := must(l.exchange.Progress())
 	equal(t, []any{progress.Report, progress.Leaves}, []any{antientropy.ReportFinished, uint64(10)})
