@@ -116,7 +116,7 @@ func TestEachLockIsHeldToTheEnd(t *testing.T) {
 	for take, give := range map[string]string{"locked": "Unlock", "reading": "RUnlock"} {
 		locks := regexp.MustCompile(`\S\.`+take+`\(\)`).FindAllString(source, -1)
 		held := regexp.MustCompile(`held := \S+\.`+take+`\(\)\n\s+defer held\.lock\.`+give+`\(\)`).FindAllString(source, -1)
-		equal(t, []any{len(locks) > 30, len(held)}, []any{true, len(locks)})
+		equal(t, []any{len(locks) > 25, len(held)}, []any{true, len(locks)})
 	}
 	equal(t, []int{strings.Count(source, ".Lock()"), strings.Count(source, ".RLock()")}, []int{5, 2})
 }
@@ -148,7 +148,7 @@ func TestVerdictsAndReportsOfTheHeader(t *testing.T) {
 		equal(t, []any{name, constant.MatchString(source), names[kind].String()}, []any{name, true, camel(rest)})
 		count++
 	}
-	equal(t, strings.Count(source, "= C."), count)
+	equal(t, strings.Count(source, " = C.ANTIENTROPY_"), count)
 }
 
 func TestVersionOfTheHeader(t *testing.T) {
