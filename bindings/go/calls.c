@@ -125,21 +125,3 @@ uint32_t antientropy_go_hint_next(struct antientropy_hints *hints, uint64_t owne
         return got;
     return antientropy_go_hint(hints, id, out, out_len, need);
 }
-
-uint32_t antientropy_go_asks(const struct antientropy_replica *replica, uint64_t session, uint32_t number, uint8_t *out,
-                             size_t out_len, uint64_t *need)
-{
-    uint64_t count, len;
-    uint32_t got = antientropy_outstanding(replica, session, &count);
-    if (got != ANTIENTROPY_OK)
-        return got;
-    if (fit(count * ANTIENTROPY_ASK_LEN, out_len, need) != ANTIENTROPY_OK)
-        return ANTIENTROPY_SMALL;
-    for (uint64_t place = 0; place < count; place++) {
-        got = antientropy_ask_at(replica, session, place, number, out + place * ANTIENTROPY_ASK_LEN,
-                                 ANTIENTROPY_ASK_LEN, &len);
-        if (got != ANTIENTROPY_OK)
-            return got;
-    }
-    return ANTIENTROPY_OK;
-}

@@ -57,8 +57,4 @@ uint32_t antientropy_go_hint(struct antientropy_hints *hints, uint64_t id, uint8
 uint32_t antientropy_go_hint_next(struct antientropy_hints *hints, uint64_t owner, uint64_t after, uint8_t *out,
                                   size_t out_len, uint64_t *need);
 
-/* Writes the asks for all outstanding nodes of a session, one after another. */
-uint32_t antientropy_go_asks(const struct antientropy_replica *replica, uint64_t session, uint32_t number, uint8_t *out,
-                             size_t out_len, uint64_t *need);
-
 #endif

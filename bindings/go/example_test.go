@@ -40,7 +40,7 @@ func ExampleReplica_Sync() {
 		return answers, nil
 	}
 	synced, err := b.Sync(1, must(offered.Offer(7)), reach)
-	fmt.Println(synced.Accepted, synced.State, err)
+	fmt.Println(synced.Accepted, synced.Report, err)
 	// Output: 3 Finished <nil>
 }
 

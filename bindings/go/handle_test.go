@@ -12,18 +12,19 @@ import (
 
 // Methods that read no handle: what they return was fixed when the object was made.
 var fixed = map[string]bool{
-	"Snapshot.Config": true, "Snapshot.Entries": true, "Session.Number": true, "Session.OfferNumber": true,
+	"Snapshot.Config": true, "Snapshot.Entries": true,
 }
 
-// Methods of a replica, a snapshot or a session that change it: all others are made at once.
+// Methods of a replica, a snapshot or an exchange that change it: all others are made at once.
 var changes = map[string]bool{
 	"Replica.Accept": true, "Replica.Close": true, "Replica.DropMoment": true, "Replica.DropSessions": true,
-	"Replica.HashMoment": true, "Replica.Hold": true, "Replica.LoadFormat": true, "Replica.LoadRows": true,
-	"Replica.Migrate": true, "Replica.Open": true, "Replica.OpenAtMoment": true, "Replica.OpenIfClean": true,
-	"Replica.Put": true, "Replica.PutTombstone": true, "Replica.PutTombstoneUnread": true, "Replica.PutUnread": true,
-	"Replica.Rehash": true, "Replica.RehashSome": true, "Replica.Root": true, "Replica.Save": true,
-	"Replica.Snapshot": true, "Replica.Sync": true, "Replica.SyncWithin": true, "Snapshot.Close": true,
-	"Session.Cancel": true, "Session.Take": true,
+	"Replica.Exchange": true, "Replica.HashMoment": true, "Replica.Hold": true, "Replica.LoadFormat": true,
+	"Replica.LoadRows": true, "Replica.Migrate": true, "Replica.Put": true, "Replica.PutTombstone": true,
+	"Replica.PutTombstoneUnread": true, "Replica.PutUnread": true, "Replica.Rehash": true, "Replica.RehashSome": true,
+	"Replica.Root": true, "Replica.Save": true, "Replica.Snapshot": true, "Replica.Sync": true,
+	"Replica.SyncWithin": true, "Snapshot.Close": true, "Exchange.Asks": true, "Exchange.Close": true,
+	"Exchange.GoOn": true, "Exchange.Left": true, "Exchange.Lose": true, "Exchange.Progress": true,
+	"Exchange.Take": true,
 }
 
 // A locker is the lock of a handle.
@@ -46,14 +47,14 @@ func emptyHandles() []handle {
 		{&Snapshot{at: s}, &s.lock},
 		{&Hints{h}, &h.lock},
 		{&Slots{l}, &l.lock},
-		{&Session{replica: r}, &r.lock},
+		{&Exchange{&exchange{replica: r}}, &r.lock},
 	}
 }
 
 // zeroHandles returns the zero value of each type.
 func zeroHandles() []handle {
 	return []handle{{object: new(Replica)}, {object: new(Snapshot)}, {object: new(Hints)}, {object: new(Slots)},
-		{object: new(Session)}}
+		{object: new(Exchange)}}
 }
 
 // callMethod calls a method with arguments that are 0, except that bytes are an offer, and that a reach brings nothing.
@@ -198,22 +199,31 @@ func TestCopiesShareAHandle(t *testing.T) {
 	if err != nil {
 		t.Fatal(err)
 	}
-	replicas, snapshots, hints, slots := *r, *s, *h, *l
+	offer, err := s.Offer(1)
+	if err != nil {
+		t.Fatal(err)
+	}
+	e, err := r.Exchange(1, offer, Bounds{})
+	if err != nil {
+		t.Fatal(err)
+	}
+	replicas, snapshots, hints, slots, exchanges := *r, *s, *h, *l, *e
 	calls := []func() error{
 		func() error { _, err := replicas.Count(); return err },
 		func() error { _, err := snapshots.Root(); return err },
 		func() error { _, err := hints.Count(); return err },
 		func() error { _, err := slots.Count(); return err },
+		func() error { _, err := exchanges.Progress(); return err },
 	}
-	r, s, h, l = nil, nil, nil, nil
+	r, s, h, l, e = nil, nil, nil, nil, nil
 	for _, call := range calls {
 		runtime.GC()
 		if err := call(); err != nil {
 			t.Error(err)
 		}
 	}
-	first, second, third, fourth := replicas, snapshots, hints, slots
-	for _, closer := range []io.Closer{&first, &second, &third, &fourth, &first} {
+	first, second, third, fourth, fifth := replicas, snapshots, hints, slots, exchanges
+	for _, closer := range []io.Closer{&fifth, &first, &second, &third, &fourth, &first, &fifth} {
 		if err := closer.Close(); err != nil {
 			t.Error(err)
 		}
@@ -223,23 +233,10 @@ func TestCopiesShareAHandle(t *testing.T) {
 			t.Errorf("after Close of a copy the error is %v", err)
 		}
 	}
-	calls, replicas, snapshots, hints, slots = nil, Replica{}, Snapshot{}, Hints{}, Slots{}
-	first, second, third, fourth = replicas, snapshots, hints, slots
+	calls, replicas, snapshots, hints, slots, exchanges = nil, Replica{}, Snapshot{}, Hints{}, Slots{}, Exchange{}
+	first, second, third, fourth, fifth = replicas, snapshots, hints, slots, exchanges
 	runtime.GC() // the finalizers free nothing twice
 	runtime.GC()
-}
-
-func TestUnknownSession(t *testing.T) {
-	r, err := NewReplica(Config{Format: 2, Limit: 1})
-	if err != nil {
-		t.Fatal(err)
-	}
-	session := reflect.ValueOf(&Session{replica: r.at, number: 9})
-	for _, name := range []string{"State", "Outstanding", "Ask", "AskAt", "Asks", "Cancel"} {
-		if err := callMethod(session.MethodByName(name)); err != ErrUnknownSession {
-			t.Errorf("%s returns the error %v", name, err)
-		}
-	}
 }
 
 // Locks are apart: a replica that is in use doesn't stop its snapshots, or others, and a snapshot doesn't stop those

@@ -1,6 +1,7 @@
 package antientropy_test
 
 import (
+	"fmt"
 	"os"
 	"path/filepath"
 	"regexp"
@@ -54,18 +55,20 @@ func camel(name string) string {
 	return strings.Join(words, "")
 }
 
-// Each call of the header is used, but for those of exchanges, which have no type here yet.
+// C's own loop of a sync: here an exchange is that loop.
+var ownLoop = map[string]bool{
+	"open": true, "open_at_moment": true, "outstanding": true, "ask_at": true, "ask": true, "take": true,
+	"session": true, "cancel": true,
+}
+
+// Each call of the header is used, but for C's own loop of a sync.
 func TestEachCallOfTheHeaderIsUsed(t *testing.T) {
 	source := textOf(t, "*.go") + textOf(t, "*.c")
-	declared := regexp.MustCompile(`(?m)^(?:static inline )?(?:uint32_t|void) (antientropy_\w+\()`)
+	declared := regexp.MustCompile(`(?m)^(?:static inline )?(?:uint32_t|void) antientropy_(\w+)\(`)
 	calls := declared.FindAllStringSubmatch(sharesOf.ReplaceAllString(header(t), ""), -1)
 	for _, call := range calls {
-		if strings.HasPrefix(call[1], "antientropy_exchange_") {
-			continue
-		}
-		if !regexp.MustCompile(`[^\w]` + regexp.QuoteMeta(call[1])).MatchString(source) {
-			t.Errorf("nothing calls %s)", call[1])
-		}
+		isUsed := regexp.MustCompile(`\bantientropy_` + call[1] + `\(`).MatchString(source)
+		equal(t, []any{call[1], isUsed}, []any{call[1], !ownLoop[call[1]]})
 	}
 	if len(calls) < 50 {
 		t.Errorf("the header has %d calls", len(calls))
@@ -113,9 +116,9 @@ func TestEachLockIsHeldToTheEnd(t *testing.T) {
 	for take, give := range map[string]string{"locked": "Unlock", "reading": "RUnlock"} {
 		locks := regexp.MustCompile(`\S\.`+take+`\(\)`).FindAllString(source, -1)
 		held := regexp.MustCompile(`held := \S+\.`+take+`\(\)\n\s+defer held\.lock\.`+give+`\(\)`).FindAllString(source, -1)
-		equal(t, []any{len(locks) > 30, len(held)}, []any{true, len(locks)})
+		equal(t, []any{len(locks) > 25, len(held)}, []any{true, len(locks)})
 	}
-	equal(t, []int{strings.Count(source, ".Lock()"), strings.Count(source, ".RLock()")}, []int{4, 2})
+	equal(t, []int{strings.Count(source, ".Lock()"), strings.Count(source, ".RLock()")}, []int{5, 2})
 }
 
 func TestEnumsOfTheHeader(t *testing.T) {
@@ -124,14 +127,28 @@ func TestEnumsOfTheHeader(t *testing.T) {
 		"LIVE": uint64(antientropy.Live), "TOMBSTONE": uint64(antientropy.Tombstone),
 		"PUT": uint64(antientropy.SourcePut), "COPY": uint64(antientropy.SourceCopy),
 		"HINT": uint64(antientropy.SourceHint), "PARTNER": uint64(antientropy.SourcePartner),
-		"OPEN": uint64(antientropy.StateOpen), "FINISHED": uint64(antientropy.StateFinished),
-		"FAILED": uint64(antientropy.StateFailed), "CANCELLED": uint64(antientropy.StateCancelled),
 		"BEFORE": uint64(antientropy.Before), "AFTER": uint64(antientropy.After),
 		"EQUAL": uint64(antientropy.Equal), "APART": uint64(antientropy.Apart),
 	} {
 		wanted, found := numbers[name]
 		equal(t, []any{name, number, true}, []any{name, wanted, found})
 	}
+}
+
+// Each verdict and each report of the header is a constant, and has its name.
+func TestVerdictsAndReportsOfTheHeader(t *testing.T) {
+	source, count := textOf(t, "exchange.go"), 0
+	for name, number := range numbers(t) {
+		kind, rest, _ := strings.Cut(name, "_")
+		names := map[string]fmt.Stringer{"VERDICT": antientropy.VerdictKind(number), "REPORT": antientropy.Report(number)}
+		if names[kind] == nil {
+			continue
+		}
+		constant := regexp.MustCompile(`\b` + camel(name) + ` +\w+ = C\.ANTIENTROPY_` + name + `\b`)
+		equal(t, []any{name, constant.MatchString(source), names[kind].String()}, []any{name, true, camel(rest)})
+		count++
+	}
+	equal(t, strings.Count(source, " = C.ANTIENTROPY_"), count)
 }
 
 func TestVersionOfTheHeader(t *testing.T) {

@@ -78,6 +78,5 @@ func TestRefusals(t *testing.T) {
 func TestNamesOfNumbers(t *testing.T) {
 	equal(t, fmt.Sprint(antientropy.Live, antientropy.Tombstone, antientropy.Kind(2)), "Live Tombstone 2")
 	equal(t, fmt.Sprint(antientropy.SourcePut, antientropy.SourcePartner), "Put Partner")
-	equal(t, fmt.Sprint(antientropy.StateOpen, antientropy.StateCancelled), "Open Cancelled")
 	equal(t, fmt.Sprint(antientropy.Before, antientropy.Apart), "Before Apart")
 }

@@ -27,14 +27,17 @@ type maker struct {
 }
 
 var makers = map[string]maker{
-	"replicas and snapshots": {64 * antientropy.ValueMax2, func(close bool) {
+	"replicas, snapshots and exchanges": {64 * antientropy.ValueMax2, func(close bool) {
 		r, value := newReplica(), bytes.Repeat([]byte("v"), antientropy.ValueMax2)
 		for n := 0; n < 64; n++ {
 			must(r.Put(1, []byte{byte(n)}, value, nil))
 		}
 		snapshot, renewed := must(r.Snapshot()), must(r.Renew(64))
 		shared := must(snapshot.Share())
+		put(r, "later", "")
+		exchange := opened(r, must(snapshot.Offer(7)))
 		if close {
+			check(exchange.Close())
 			check(r.Close())
 			must(snapshot.Root())
 			check(snapshot.Close())

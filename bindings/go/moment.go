@@ -19,8 +19,8 @@ type portion struct {
 // that only this moment has, and other goroutines wait meanwhile: so call [Replica.DropMoment] before its snapshot is
 // closed.
 //
-// [Replica.Snapshot], [Replica.Root], [Replica.Save], [Replica.Open] and [Replica.Sync] hold a moment in the place of
-// another one, and drop it before they return.
+// [Replica.Snapshot], [Replica.Root], [Replica.Save], [Replica.Exchange] and [Replica.Sync] hold a moment in the place
+// of another one, and drop it before they return.
 func (r *Replica) Hold() error {
 	held := r.at.locked()
 	defer held.lock.Unlock()

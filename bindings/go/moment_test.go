@@ -19,7 +19,7 @@ func copyOf(r *antientropy.Replica, entries uint64) *antientropy.Replica {
 }
 
 func TestAMoment(t *testing.T) {
-	r, offer := filled(20), must(must(newReplica().Snapshot()).Offer(7))
+	r := filled(20)
 	check(r.Hold())
 	put(r, "later", "value")
 	equal(t, must(r.Count()).Front, uint64(0))
@@ -32,9 +32,6 @@ func TestAMoment(t *testing.T) {
 	moment := must(r.Moment())
 	equal(t, []any{moment.Entries(), moment.Config()}, []any{uint64(20), antientropy.Config{Format: 2, Limit: 20_000}})
 	equal(t, must(moment.Root()), must(copyOf(r, 20).Root()))
-	session := must(r.OpenAtMoment(2, offer))
-	want := []any{uint32(7), uint64(0), uint64(1)}
-	equal(t, []any{session.OfferNumber(), session.Number(), must(session.Outstanding())}, want)
 	check(r.DropMoment())
 	equal(t, must(r.Count()).Front, uint64(20))
 }
@@ -50,23 +47,22 @@ func TestNoMomentIsLeft(t *testing.T) {
 	snapshot := must(r.Snapshot())
 	noMoment(20)
 	offer := must(snapshot.Offer(7))
-	equal(t, must(r.Sync(2, offer, reachOf(snapshot, 7))).Asks, 0)
+	equal(t, must(r.Sync(2, offer, reachOf(snapshot, 7))).Asks, uint64(0))
 	noMoment(20)
 	put(r, "later", "value")
-	_, err := r.Open(2, nil)
+	_, err := r.Exchange(2, nil, antientropy.DefaultBounds())
 	refused(t, err, antientropy.ErrBadMessage)
 	noMoment(21)
 	put(r, "last", "value")
-	must(r.Open(2, offer))
+	opened(r, offer)
 	noMoment(22)
 }
 
 func TestNoWholeMoment(t *testing.T) {
-	r, offer := filled(20), must(must(newReplica().Snapshot()).Offer(7))
+	r := filled(20)
 	dirty := func() {
 		t.Helper()
 		unchanged(t, r, antientropy.ErrDirty, func() error { _, err := r.Moment(); return err })
-		unchanged(t, r, antientropy.ErrDirty, func() error { _, err := r.OpenAtMoment(2, offer); return err })
 	}
 	check(r.Rehash())
 	equal(t, must(r.HashMoment(1)), uint64(0))

@@ -19,7 +19,7 @@ func journalOf(format uint8) *antientropy.Replica {
 	must(r.Accept([]byte("none"), antientropy.Version{Value: []byte("of an empty clock")}))
 	put(partner, "tea", "green")
 	snapshot := must(partner.Snapshot())
-	takeAll(must(r.Open(9, must(snapshot.Offer(7)))), snapshot)
+	takeAll(opened(r, must(snapshot.Offer(7))), snapshot, func() {})
 	if format == 2 {
 		must(r.PutTombstone(2, []byte("cart"), clock(1, 2)))
 		must(r.Put(2, []byte("great"), []byte(strings.Repeat("v", antientropy.ValueMax2)), nil))

@@ -154,6 +154,14 @@ func (r *Replica) Migrate() error {
 	return check(C.antientropy_migrate(&held.handle))
 }
 
+// DropSessions drops the sessions that have ended, and the rows that they keep. Those of exchanges in progress stay.
+// Entries of the source [SourcePartner] have [SourceCopy] then.
+func (r *Replica) DropSessions() error {
+	held := r.at.locked()
+	defer held.lock.Unlock()
+	return check(C.antientropy_drop_sessions(&held.handle))
+}
+
 // Config returns the numbers of the replica: zeros after [Replica.Close]. Its format is 2 after [Replica.Migrate].
 func (r *Replica) Config() Config {
 	held := r.at.reading()

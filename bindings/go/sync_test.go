@@ -4,7 +4,6 @@ import (
 	"bytes"
 	"crypto/sha256"
 	"errors"
-	"fmt"
 	"testing"
 
 	"antientropy"
@@ -13,7 +12,7 @@ import (
 // A link carries asks to a partner's snapshot, and may change the answers. It notes the lengths of the lists.
 type link struct {
 	snapshot *antientropy.Snapshot
-	change   func(answers [][]byte) ([][]byte, error)
+	change   func(asks, answers [][]byte) ([][]byte, error)
 	rounds   []int
 }
 
@@ -23,7 +22,7 @@ func (l *link) reach(asks [][]byte) ([][]byte, error) {
 	}
 	answers, err := reachOf(l.snapshot, 1)(asks)
 	if l.change != nil {
-		return l.change(answers)
+		return l.change(asks, answers)
 	}
 	return answers, err
 }
@@ -32,6 +31,14 @@ func (l *link) reach(asks [][]byte) ([][]byte, error) {
 func (l *link) sync(r, partner *antientropy.Replica, bounds antientropy.Bounds) (antientropy.Synced, error) {
 	l.snapshot = must(partner.Snapshot())
 	return r.SyncWithin(bounds, 9, must(l.snapshot.Offer(1)), l.reach)
+}
+
+// reversed changes the order of answers.
+func reversed(_, answers [][]byte) ([][]byte, error) {
+	for i, j := 0, len(answers)-1; i < j; i, j = i+1, j-1 {
+		answers[i], answers[j] = answers[j], answers[i]
+	}
+	return answers, nil
 }
 
 // noSession checks that a replica keeps no session.
@@ -46,122 +53,53 @@ func syncFrom(r, partner *antientropy.Replica) (antientropy.Synced, error) {
 	return new(link).sync(r, partner, antientropy.DefaultBounds())
 }
 
-func TestSeveralAsksInFlight(t *testing.T) {
-	a, b, l := filled(300), newReplica(), link{}
-	synced := must(l.sync(b, a, antientropy.Bounds{InFlight: 10, MostBad: 8}))
-	equal(t, []uint64{synced.Accepted, synced.Known}, []uint64{300, 0})
-	equal(t, []any{synced.Bad, synced.Finished()}, []any{0, true})
-	most, sum := 0, 0
-	for _, asks := range l.rounds {
-		if sum += asks; asks > most {
-			most = asks
-		}
-	}
-	equal(t, []int{most, sum}, []int{10, synced.Asks})
-	equal(t, must(a.Root()), must(b.Root()))
-}
-
-func TestNoAsksInFlightCountAsOne(t *testing.T) {
-	l := link{}
-	synced := must(l.sync(newReplica(), filled(5), antientropy.Bounds{}))
-	equal(t, []any{synced.Finished(), len(l.rounds)}, []any{true, synced.Asks})
-}
-
 // A sync without a reach opens no session, and hashes nothing.
 func TestASyncWithoutReach(t *testing.T) {
 	r, offer := filled(1), must(must(filled(2).Snapshot()).Offer(1))
 	unchanged(t, r, antientropy.ErrNoReach, func() error { _, err := r.Sync(9, offer, nil); return err })
 }
 
-// The roots of empty replicas are equal, whatever their format and range.
-func TestEmptyRanges(t *testing.T) {
-	empty := func(format uint8, number uint16) *antientropy.Replica {
-		return must(antientropy.NewReplica(antientropy.Config{Format: format, Bits: 1, Range: number, Limit: 1}))
-	}
-	partner, same := empty(2, 0), empty(2, 0)
-	_, err := syncFrom(empty(1, 0), partner)
-	refused(t, err, antientropy.ErrOtherFormat)
-	_, err = syncFrom(empty(2, 1), partner)
-	refused(t, err, antientropy.ErrOtherRange)
-	equal(t, must(syncFrom(same, partner)).Finished(), true)
-	equal(t, must(same.Count()).Sessions, uint64(0))
-}
-
 func TestBothWays(t *testing.T) {
-	a, b := filled(300), newReplica()
+	a, b, l := filled(300), newReplica(), link{}
 	must(b.Put(2, []byte("other"), nil, nil))
-	equal(t, []uint64{must(syncFrom(b, a)).Accepted, must(syncFrom(a, b)).Accepted}, []uint64{300, 1})
+	synced := must(l.sync(b, a, antientropy.Bounds{Asks: 10, Bytes: 1 << 20}))
+	equal(t, []uint64{synced.Accepted, must(syncFrom(a, b)).Accepted}, []uint64{300, 1})
+	most, asks := 0, 0
+	for _, round := range l.rounds {
+		if asks += round; round > most {
+			most = round
+		}
+	}
+	equal(t, []any{synced.Asks, synced.Finished(), most}, []any{uint64(asks), true, 10})
 	equal(t, must(a.Root()), must(b.Root()))
-}
-
-func TestKnownVersions(t *testing.T) {
-	a, b := filled(5), newReplica()
-	must(b.Accept([]byte("key 1"), live(1, 1, "value")))
-	put(a, "own", "")
-	must(b.Accept([]byte("own"), live(1, 1, "")))
-	must(b.Accept([]byte("own"), live(2, 1, "")))
-	synced := must(syncFrom(b, a))
-	equal(t, []uint64{synced.Accepted, synced.Known}, []uint64{4, 1})
+	equal(t, must(b.Entries(0).All())[300].Source, antientropy.SourceCopy)
 }
 
 func TestEqualRoots(t *testing.T) {
 	a, b, l := filled(30), newReplica(), link{}
 	must(syncFrom(b, a))
 	synced := must(l.sync(b, a, antientropy.DefaultBounds()))
-	equal(t, synced, antientropy.Synced{State: antientropy.StateFinished})
-	equal(t, []any{len(l.rounds), must(b.Count()).Sessions}, []any{0, uint64(0)})
-}
-
-func TestAnswersInAnotherOrder(t *testing.T) {
-	reversed := func(answers [][]byte) ([][]byte, error) {
-		for i, j := 0, len(answers)-1; i < j; i, j = i+1, j-1 {
-			answers[i], answers[j] = answers[j], answers[i]
-		}
-		return answers, nil
-	}
-	l := link{change: reversed}
-	equal(t, must(l.sync(newReplica(), filled(300), antientropy.DefaultBounds())).Finished(), true)
-}
-
-func TestSomeBadAnswers(t *testing.T) {
-	l := link{}
-	l.change = func(answers [][]byte) ([][]byte, error) {
-		if len(l.rounds) == 3 {
-			answers[0] = []byte{}
-			answers = answers[:len(answers)-1]
-		}
-		return answers, nil
-	}
-	synced := must(l.sync(newReplica(), filled(300), antientropy.DefaultBounds()))
-	equal(t, []any{synced.Bad, synced.Accepted, synced.Finished()}, []any{2, uint64(300), true})
+	equal(t, []any{synced, len(l.rounds)}, []any{antientropy.Synced{Report: antientropy.ReportFinished}, 0})
+	noSession(t, b)
 }
 
 func TestAPartnerThatLies(t *testing.T) {
 	b := newReplica()
-	l := link{change: func(answers [][]byte) ([][]byte, error) {
+	l := link{change: func(_, answers [][]byte) ([][]byte, error) {
 		for _, answer := range answers {
 			answer[len(answer)-1] ^= 1
 		}
 		return answers, nil
 	}}
-	synced := must(l.sync(b, filled(300), antientropy.Bounds{InFlight: 256, MostBad: 5}))
-	equal(t, synced, antientropy.Synced{Asks: 6, Bad: 6, State: antientropy.StateCancelled})
+	synced := must(l.sync(b, filled(300), antientropy.Bounds{Bad: 5}))
+	equal(t, synced, antientropy.Synced{Report: antientropy.ReportTooManyBad, Asks: 6, Bad: 6})
 	equal(t, must(b.Count()).Entries, uint64(0))
-}
-
-func TestALostLink(t *testing.T) {
-	for _, lost := range [][][]byte{nil, {nil}} {
-		answers := lost
-		l := link{change: func([][]byte) ([][]byte, error) { return answers, nil }}
-		synced := must(l.sync(newReplica(), filled(300), antientropy.DefaultBounds()))
-		equal(t, []int{synced.Bad, len(l.rounds)}, []int{9, 9})
-	}
 }
 
 func TestALinkThatFails(t *testing.T) {
 	b, lost := newReplica(), errors.New("the link is lost")
 	l := link{}
-	l.change = func(answers [][]byte) ([][]byte, error) {
+	l.change = func(_, answers [][]byte) ([][]byte, error) {
 		if len(l.rounds) == 2 {
 			return nil, lost
 		}
@@ -169,13 +107,13 @@ func TestALinkThatFails(t *testing.T) {
 	}
 	synced, err := l.sync(b, filled(300), antientropy.DefaultBounds())
 	refused(t, err, lost)
-	equal(t, []any{synced.Asks, synced.State}, []any{17, antientropy.StateCancelled})
+	equal(t, []any{synced.Asks, synced.Report}, []any{uint64(17), antientropy.ReportWaiting})
 	noSession(t, b)
 }
 
 func TestALinkThatPanics(t *testing.T) {
 	b := newReplica()
-	l := link{change: func([][]byte) ([][]byte, error) { panic("link") }}
+	l := link{change: func(_, _ [][]byte) ([][]byte, error) { panic("link") }}
 	func() {
 		defer func() { equal(t, recover(), "link") }()
 		must(l.sync(b, filled(30), antientropy.DefaultBounds()))
@@ -183,21 +121,21 @@ func TestALinkThatPanics(t *testing.T) {
 	noSession(t, b)
 }
 
-func TestACrowdedLeafIsLeft(t *testing.T) {
-	a, b := filled(300), newReplica()
-	crowd(a, "key")
-	must(b.Accept([]byte("key"), live(100, 1, "one more")))
-	synced := must(syncFrom(b, a))
-	want := []any{uint64(300), 0, antientropy.StateCancelled, 1}
-	equal(t, []any{synced.Accepted, synced.Bad, synced.State, len(synced.Crowded)}, want)
-	leaf := must(antientropy.Place(2, 0, []byte("key"))).Leaf
-	equal(t, synced.Crowded[0], []byte{2, 0, 0, 0, 1, 3, byte(leaf >> 8), byte(leaf)})
-}
-
+// Asks stop when the journal is full. What was taken before stays.
 func TestAFullJournal(t *testing.T) {
+	snapshot, offer := offered()
 	small := withLimit(10)
-	_, err := syncFrom(small, filled(300))
+	exchange := opened(small, offer)
+	takeAll(exchange, snapshot, func() {})
+	progress := must(exchange.Progress())
+	equal(t, []any{progress.Report, progress.Cause}, []any{antientropy.ReportStopped, antientropy.ErrJournalFull})
+	check(exchange.GoOn())
+	equal(t, len(must(exchange.Asks())) > 0, true)
+	check(exchange.Close())
+	synced, err := small.Sync(9, offer, reachOf(snapshot, 7))
 	refused(t, err, antientropy.ErrJournalFull)
+	taken := progress.Accepted + synced.Accepted
+	equal(t, []any{taken > 0, taken}, []any{true, must(small.Count()).Entries})
 	noSession(t, small)
 }
 
@@ -209,55 +147,6 @@ func TestASyncThatFails(t *testing.T) {
 	b := newReplica()
 	synced, err := b.Sync(9, offer, func([][]byte) ([][]byte, error) { return [][]byte{answer}, nil })
 	refused(t, err, antientropy.ErrNotCanonical)
-	equal(t, synced, antientropy.Synced{Asks: 1, State: antientropy.StateFailed})
+	equal(t, synced, antientropy.Synced{Report: antientropy.ReportFailed, Asks: 1})
 	noSession(t, b)
-}
-
-// Each sync drops its session, so that any number of syncs needs no renewal.
-func TestManySyncs(t *testing.T) {
-	a, b := newReplica(), newReplica()
-	for n := 0; n < 40; n++ {
-		put(a, fmt.Sprint("key ", n), "value")
-		equal(t, must(syncFrom(b, a)).Accepted, uint64(1))
-		noSession(t, b)
-	}
-	for _, entry := range must(b.Entries(0).All()) {
-		equal(t, entry.Source, antientropy.SourceCopy)
-	}
-	equal(t, must(b.Open(9, must(must(filled(1).Snapshot()).Offer(1)))).Number(), uint64(40))
-}
-
-// A session that the program has opened stays, under its number.
-func TestASyncLeavesOpenSessions(t *testing.T) {
-	snapshot, offer := offered()
-	b := newReplica()
-	session := must(b.Open(1, offer))
-	must(syncFrom(b, filled(5)))
-	equal(t, []any{must(b.Count()).Sessions, must(session.State())}, []any{uint64(1), antientropy.StateOpen})
-	takeAll(session, snapshot)
-	equal(t, must(session.State()), antientropy.StateFinished)
-}
-
-// A migration cancels the session of a sync, and another goroutine drops it: answers are bad then, and the sync ends.
-func TestAMigrationMeanwhile(t *testing.T) {
-	for _, isDropped := range []bool{false, true} {
-		config := antientropy.Config{Format: 1, Limit: 10}
-		a, b := must(antientropy.NewReplica(config)), must(antientropy.NewReplica(config))
-		put(a, "key", "value")
-		l := link{change: func(answers [][]byte) ([][]byte, error) {
-			check(b.Migrate())
-			if isDropped {
-				check(b.DropSessions())
-			}
-			return answers, nil
-		}}
-		synced := must(l.sync(b, a, antientropy.DefaultBounds()))
-		equal(t, synced, antientropy.Synced{Asks: 1, Bad: 1, State: antientropy.StateCancelled})
-		noSession(t, b)
-	}
-}
-
-func TestSyncOfNoOffer(t *testing.T) {
-	_, err := newReplica().Sync(1, []byte("?"), new(link).reach)
-	refused(t, err, antientropy.ErrBadMessage)
 }

@@ -178,8 +178,8 @@ func TestTheCollectorClosesNoHandleInUse(t *testing.T) {
 		defer close(done)
 		for n := 0; n < 50; n++ {
 			equal(t, must(newReplica().Root()), must(newReplica().Root()))
-			session := must(newReplica().Open(1, must(must(filled(1).Snapshot()).Offer(1))))
-			equal(t, len(must(session.Asks())), 1)
+			exchange := opened(newReplica(), must(must(filled(1).Snapshot()).Offer(7)))
+			equal(t, len(must(exchange.Asks())), 1)
 		}
 	}()
 	for {

@@ -22,7 +22,7 @@ func Place(format, bits uint8, key []byte) (Spot, error) {
 }
 
 // Rehash hashes all nodes of the tree that have no digest. Other goroutines wait meanwhile. Only
-// [Replica.SnapshotIfClean] and [Replica.OpenIfClean] need it.
+// [Replica.SnapshotIfClean] needs it.
 func (r *Replica) Rehash() error {
 	held := r.at.locked()
 	defer held.lock.Unlock()

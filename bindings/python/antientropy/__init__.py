@@ -9,17 +9,18 @@ from __future__ import annotations
 
 from typing import Type
 
+from ._exchange import Exchange
 from ._functions import compare, merge, place, read_offer
 from ._hints import Hints
 from ._library import load_library, refusal_class, version
 from ._packed import unpack_entries
 from ._refused import Refused
 from ._replica import Replica
-from ._session import Session
 from ._slots import Slots
 from ._snapshot import Snapshot
 from ._values import (
     About,
+    Bounds,
     ByteCounts,
     Clock,
     ClockLike,
@@ -32,23 +33,27 @@ from ._values import (
     OfferParts,
     Order,
     Packed,
+    Progress,
     Receipt,
+    Report,
     SlotCounts,
     Source,
     Spot,
-    State,
     Synced,
-    Taken,
+    Verdict,
+    VerdictKind,
     Version,
 )
 
 __all__ = [
     "About",
+    "Bounds",
     "ByteCounts",
     "Clock",
     "ClockLike",
     "Counts",
     "Entry",
+    "Exchange",
     "Hint",
     "HintCounts",
     "Hints",
@@ -57,18 +62,19 @@ __all__ = [
     "OfferParts",
     "Order",
     "Packed",
+    "Progress",
     "Receipt",
     "Refused",
     "Replica",
-    "Session",
+    "Report",
     "SlotCounts",
     "Slots",
     "Snapshot",
     "Source",
     "Spot",
-    "State",
     "Synced",
-    "Taken",
+    "Verdict",
+    "VerdictKind",
     "Version",
     "compare",
     "load_library",

@@ -67,11 +67,13 @@ CALLS: Dict[str, Tuple[Any, Tuple[Any, ...]]] = {
     "read_offer": (c_uint32, (*_BYTES, *_STRUCT)),
     "load": (c_uint32, (*_HANDLE, *_BYTES, *_STRUCT)),
     "load_format": (c_uint32, (*_HANDLE, c_uint64, *_BYTES, *_STRUCT)),
-    "open": (c_uint32, (*_HANDLE, c_uint64, *_BYTES, *_NUMBER)),
-    "open_at_moment": (c_uint32, (*_HANDLE, c_uint64, *_BYTES, *_NUMBER)),
-    "take": (c_uint32, (*_HANDLE, c_uint64, c_uint32, *_BYTES, *_STRUCT)),
-    "cancel": (c_uint32, (*_HANDLE, c_uint64)),
     "drop_sessions": (c_uint32, _HANDLE),
+    "exchange_open": (c_uint32, (*_HANDLE, *_HANDLE, c_uint64, *_BYTES, *_STRUCT)),
+    "exchange_take": (c_uint32, (*_HANDLE, *_HANDLE, *_BYTES, *_STRUCT)),
+    "exchange_lose": (c_uint32, (*_HANDLE, *_BYTES)),
+    "exchange_go_on": (c_uint32, _HANDLE),
+    "exchange_close": (c_uint32, (*_HANDLE, *_HANDLE)),
+    "exchange_free": (None, _HANDLE),
     "hints_new": (c_uint32, _HANDLE),
     "hints_restore": (c_uint32, (*_HANDLE, c_uint64)),
     "hints_free": (None, _HANDLE),
@@ -124,11 +126,11 @@ CALLS: Dict[str, Tuple[Any, Tuple[Any, ...]]] = {
     "share_offer": (c_uint32, (*_HANDLE, c_uint32, *_OUT)),
     "share_serve": (c_uint32, (*_HANDLE, c_uint32, *_BYTES, *_OUT)),
     "share_rows": (c_uint32, (*_HANDLE, c_uint64, *_OUT)),
-    "share_outstanding": (c_uint32, (*_HANDLE, c_uint64, *_NUMBER)),
-    "share_ask_at": (c_uint32, (*_HANDLE, c_uint64, c_uint64, c_uint32, *_OUT)),
-    "share_ask": (c_uint32, (*_HANDLE, c_uint64, c_uint32, *_OUT)),
-    "share_session": (c_uint32, (*_HANDLE, c_uint64, *_NUMBER)),
+    # of an exchange, by a share of its replica
+    "share_exchange_next": (c_uint32, (*_HANDLE, *_HANDLE, *_OUT)),
+    "share_exchange_report": (c_uint32, (*_HANDLE, *_HANDLE, *_STRUCT)),
+    "share_exchange_left": (c_uint32, (*_HANDLE, *_HANDLE, c_uint64, *_STRUCT)),
 }
 
-#: The calls that only read a handle, by their names without `share_`.
-READS = frozenset(name[len(SHARE) :] for name in CALLS if name.startswith(SHARE))
+#: The calls that only read a handle, by their names without `share_`. Those of exchanges have the exchange alone.
+READS = frozenset(name[len(SHARE) :] for name in CALLS if name.startswith(SHARE) and "exchange" not in name)

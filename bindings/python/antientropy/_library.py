@@ -32,6 +32,7 @@ class Library:
         self.names = {number: name for number in _NUMBERS if (name := self._name(number))}
         self.small = self._number("Small")
         self.no_version = self._number("NoVersion")
+        self.not_canonical = self._number("NotCanonical")
 
     def __getattr__(self, call: str) -> Callable[..., Any]:
         name = SHARE + call if call in READS else call

@@ -3,20 +3,34 @@
 from __future__ import annotations
 
 from ctypes import byref, c_uint64, create_string_buffer
-from typing import BinaryIO, Callable, Iterable, Iterator, List, Optional, Sequence, Tuple
+from typing import BinaryIO, Callable, Iterable, Iterator, List, Optional, Tuple
 
-from . import _checkpoint, _sync
+from . import _checkpoint, _exchange
 from ._calls import CLOCK_MAX, ENTRY_MAX
 from ._convert import fits, to_bytes, to_clock, to_kind, to_pairs, to_value
+from ._exchange import Exchange, Reach
 from ._handle import Results
 from ._library import Library, current
 from ._packed import unpack_entries
 from ._puts import put_many
 from ._refused import class_of
 from ._rows import Rows
-from ._session import Session
 from ._snapshot import Snapshot
-from ._values import ByteCounts, Clock, ClockLike, Counts, Entry, Loaded, Packed, Put, Receipt, Source, Synced, Version
+from ._values import (
+    Bounds,
+    ByteCounts,
+    Clock,
+    ClockLike,
+    Counts,
+    Entry,
+    Loaded,
+    Packed,
+    Put,
+    Receipt,
+    Source,
+    Synced,
+    Version,
+)
 
 _LIMIT = 1_000_000
 
@@ -288,7 +302,7 @@ class Replica(Rows):
     def rehash(self) -> None:
         """Hashes all nodes of the tree that have no digest.
 
-        Other threads wait meanwhile. Only `snapshot` and `open` need it, if their `rehash` is False.
+        Other threads wait meanwhile. Only `snapshot` needs it, if its `rehash` is False.
         """
         self._call("rehash")
 
@@ -304,7 +318,7 @@ class Replica(Rows):
 
         While a moment is kept, the first change of each block of some rows copies the block. The next hold frees the
         blocks that only this moment has, and other threads wait meanwhile: so drop the moment before its snapshot is
-        closed. `snapshot`, `root`, `save`, `open` and `sync` hold a moment in the place of another one, and drop it
+        closed. `snapshot`, `root`, `save`, `exchange` and `sync` hold a moment in the place of another one, and drop it
         before they return.
         """
         self._call("hold")
@@ -383,48 +397,31 @@ class Replica(Rows):
         """
         return _checkpoint.load(file, lambda format, bits, range: cls(format, bits, range, limit))
 
-    # ---- sessions
+    # ---- exchanges
 
-    def open(self, partner: int, offer: bytes, rehash: bool = True) -> Session:
-        """Opens a session with a partner's offer. It is kept until `drop_sessions`, so compare roots first.
+    def exchange(self, partner: int, offer: bytes, bounds: Bounds = Bounds()) -> Exchange:
+        """Opens an exchange with a partner by its offer. If the roots are equal it is finished, and opens no session.
 
-        It compares the rows now, which are held as a moment and hashed while other threads put. If `rehash` is False it
-        holds no moment, and raises Dirty if a node of the tree has no digest.
+        It compares the rows now, which are held as a moment and hashed while other threads put.
 
         Raises BadMessage, BadClock (the partner is over 65,535), OtherFormat, OtherRange or SessionsFull.
         """
-        return Session(self, partner, offer, rehash)
-
-    def open_at_moment(self, partner: int, offer: bytes) -> Session:
-        """Opens a session as `open` does, but compares the rows of the moment.
-
-        Raises what `open` raises, and Dirty if there is no moment, or if it isn't whole.
-        """
-        with self._to_change():
-            return Session._at_moment_held(self, partner, offer)
+        return Exchange(self, partner, offer, bounds)
 
     def drop_sessions(self) -> None:
-        """Drops the sessions that have ended, and the rows that they keep. Open ones stay, under their numbers.
+        """Drops the sessions that have ended, and the rows that they keep. Those of exchanges in progress stay.
 
-        Calls of a dropped session raise UnknownSession. Entries whose source is PARTNER have the source COPY then.
+        Entries whose source is PARTNER have the source COPY then.
         """
         self._call("drop_sessions")
 
-    def sync(
-        self,
-        partner: int,
-        offer: bytes,
-        reach: Callable[[List[bytes]], Sequence[Optional[bytes]]],
-        in_flight: int = 256,
-        most_bad: int = 8,
-    ) -> Synced:
-        """Takes the versions of a partner's offer that this replica lacks. If the roots are equal it opens no session.
+    def sync(self, partner: int, offer: bytes, reach: Reach, bounds: Bounds = Bounds()) -> Synced:
+        """Takes the versions of a partner's offer that this replica lacks: an exchange from its begin to its end.
 
-        It compares the rows now, which are held as a moment and hashed while other threads put. At its end, also by an
-        exception, it drops the sessions that have ended, as `drop_sessions` does.
+        `reach` gets the asks to send, and returns the answers in any order: missing ones are None, or left out. At its
+        end, also by an exception, it drops the sessions that have ended, as `drop_sessions` does.
 
-        `reach` sends at most `in_flight` asks to the partner, and returns the answers in their order: None for one
-        that is missing. After more than `most_bad` bad or missing answers the sync ends unfinished. A leaf with a
-        crowded key is left. Raises what `open` raises, NotCanonical, JournalFull, and what `reach` raises.
+        Raises what `exchange` raises, NotCanonical, JournalFull or NoMemory, and what `reach` raises. The versions that
+        were taken stay.
         """
-        return _sync.sync(self, partner, offer, reach, in_flight, most_bad)
+        return _exchange.sync(self, partner, offer, reach, bounds)

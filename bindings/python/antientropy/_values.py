@@ -3,7 +3,10 @@
 from __future__ import annotations
 
 from enum import IntEnum
-from typing import Dict, Iterable, List, Mapping, NamedTuple, Optional, Tuple, Union
+from typing import TYPE_CHECKING, Dict, Iterable, List, Mapping, NamedTuple, Optional, Tuple, Union
+
+if TYPE_CHECKING:
+    from ._refused import Refused
 
 #: A clock that a call returns: the counter of each node, by rising node.
 Clock = Dict[int, int]
@@ -28,13 +31,29 @@ class Source(IntEnum):
     PARTNER = 3
 
 
-class State(IntEnum):
-    """States of a session."""
+class VerdictKind(IntEnum):
+    """Kinds of verdicts of an exchange on an answer."""
 
-    OPEN = 0
-    FINISHED = 1
-    FAILED = 2
-    CANCELLED = 3
+    TAKEN = 0  # the session took it
+    LEFT = 1  # the leaf was left: a key in its text is crowded
+    BAD = 2  # it counts as bad
+    LATE = 3  # it is late or of another offer, or the exchange is over
+    REFUSED = 4  # there was no room for it
+    FAILED = 5  # the text isn't a node's: the session has failed
+
+
+class Report(IntEnum):
+    """How far an exchange is."""
+
+    FINISHED = 0  # the replica has seen each version of the offer
+    WAITING = 1  # some node is to be asked, or its ask is on its way
+    LEFT = 2  # only leaves that were left are outstanding
+    STOPPED = 3  # there was no room for an answer: go on, or close
+    TOO_MANY_BAD = 4
+    TOO_MANY_LOST = 5
+    FAILED = 6  # the session has failed
+    CLOSED = 7  # no call returns it
+    GONE = 8  # a renewal or a migration has ended the session
 
 
 class Order(IntEnum):
@@ -130,12 +149,48 @@ class OfferParts(NamedTuple):
     root: bytes
 
 
-class Taken(NamedTuple):
-    """The result of taking an answer: numbers of new and of known versions, and the state of the session."""
+class Bounds(NamedTuple):
+    """The bounds of an exchange.
 
+    At most so many asks are on their way, and bytes of the answers to them, as far as they can be estimated; one ask
+    may always be. After more bad answers or lost asks the exchange is over.
+    """
+
+    asks: int = 256
+    bytes: int = 1 << 20
+    bad: int = 8
+    lost: int = 256
+
+
+class Verdict(NamedTuple):
+    """The verdict of an exchange on an answer, with the numbers of new and of known versions.
+
+    The cause is BadMessage, NotAsked or WrongDigest of a bad answer, and JournalFull or NoMemory of a refused one.
+    """
+
+    verdict: VerdictKind
+    cause: Optional[Refused]
     accepted: int
     known: int
-    state: State
+
+
+class Progress(NamedTuple):
+    """The report and the counts of an exchange. The cause is JournalFull or NoMemory if it is STOPPED.
+
+    `asks` is the number of those that were sent, and `bytes_on_way` an estimate of the answers to those on their way.
+    `accepted`, `known` and `leaves` count new and known versions and leaves in the answers that were taken.
+    """
+
+    report: Report
+    cause: Optional[Refused]
+    asks: int
+    on_way: int
+    bytes_on_way: int
+    bad: int
+    lost: int
+    accepted: int
+    known: int
+    leaves: int
 
 
 class Loaded(NamedTuple):
@@ -201,16 +256,20 @@ class SlotCounts(NamedTuple):
 
 
 class Synced(NamedTuple):
-    """The result of a sync. `crowded` has the asks for the leaves that were left, since a key in them is crowded."""
+    """The result of a sync: the report and the counts of its exchange.
 
+    `left` has the leaves that were left, since a key in each of them is crowded.
+    """
+
+    report: Report
     accepted: int
     known: int
     asks: int
     bad: int
-    crowded: List[bytes]
-    state: State
+    lost: int
+    left: List[int]
 
     @property
     def finished(self) -> bool:
-        """True if each version of the offer was taken."""
-        return self.state is State.FINISHED
+        """True if the replica has seen each version of the offer."""
+        return self.report is Report.FINISHED

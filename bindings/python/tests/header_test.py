@@ -13,9 +13,13 @@ HEADER = Path(__file__).resolve().parents[3] / "include/antientropy.h"
 SETUP = Path(__file__).resolve().parents[1] / "setup.cfg"
 TEXT = re.sub(r"/\*.*?\*/", "", HEADER.read_text(encoding="utf-8"), flags=re.S)
 SCALARS = {"uint8_t": c_uint8, "uint32_t": c_uint32, "uint64_t": c_uint64, "size_t": c_size_t, "bool": c_bool}
-STRUCTS = {"receipt": _values.Receipt, "spot": _values.Spot, "offer_parts": _values.OfferParts, "taken": _values.Taken,
+STRUCTS = {"receipt": _values.Receipt, "spot": _values.Spot, "offer_parts": _values.OfferParts,
+           "bounds": _values.Bounds, "verdict": _values.Verdict, "progress": _values.Progress,
            "counts": _values.Counts, "bytes": _values.ByteCounts, "about": _values.About,
            "hint_counts": _values.HintCounts, "slot_counts": _values.SlotCounts}
+#: C's own loop of a sync: here an exchange is that loop.
+OWN_LOOP = {"open", "open_at_moment", "share_outstanding", "share_ask_at", "share_ask", "take", "share_session",
+            "cancel"}
 
 
 def argument(text):
@@ -27,14 +31,12 @@ def argument(text):
 
 
 def declared():
-    """The types of each call in the header. Those of exchanges are left out: no class has them yet."""
+    """The types of each call in the header, but for C's own loop of a sync."""
     calls = {}
     for result, name, arguments in re.findall(r"^(uint32_t|void) antientropy_(\w+)\((.*?)\);", TEXT, re.M | re.S):
-        if re.match("(share_)?exchange_", name):
-            continue
         types = () if arguments == "void" else tuple(argument(text.strip()) for text in arguments.split(","))
         calls[name] = (None if result == "void" else c_uint32, types)
-    return calls
+    return {name: calls[name] for name in calls.keys() - OWN_LOOP}
 
 
 def constants():
@@ -55,7 +57,7 @@ class HeaderTest(unittest.TestCase):
 
     def test_reads(self):
         inline = re.findall(r"^static inline uint32_t antientropy_(\w+)\(\s*const struct", TEXT, re.M)
-        self.assertEqual(set(inline), _calls.READS)
+        self.assertEqual(set(inline) - {name.replace("share_", "") for name in OWN_LOOP}, _calls.READS)
 
     def test_types(self):
         for name, types in declared().items():
@@ -70,16 +72,20 @@ class HeaderTest(unittest.TestCase):
         self.assertEqual(fields("loaded"), ("taken", "known", "offset"))
         self.assertEqual(fields("percentile"), ("found", "micros"))
         self.assertEqual(fields("pair"), ("node", "counter"))
+        self.assertEqual(fields("node"), ("depth", "index"))
         handle = tuple(name for name, _ in _calls.HandleStruct._fields_)
         self.assertEqual(fields("hints"), handle)
-        for struct in ("replica", "snapshot", "portion", "slots"):
+        for struct in ("replica", "snapshot", "portion", "exchange", "slots"):
             self.assertEqual(fields(struct), handle[:2])
 
     def test_enums(self):
         numbers = constants()
-        for enum in (antientropy.Kind, antientropy.Source, antientropy.State, antientropy.Order):
+        for enum in (antientropy.Kind, antientropy.Source, antientropy.Order):
             for member in enum:
                 self.assertEqual(numbers[member.name], member.value)
+        for prefix, enum in (("VERDICT_", antientropy.VerdictKind), ("REPORT_", antientropy.Report)):
+            members = {prefix + member.name: member.value for member in enum}
+            self.assertEqual(members, {name: numbers[name] for name in numbers if name.startswith(prefix)})
 
     def test_limits(self):
         numbers = constants()

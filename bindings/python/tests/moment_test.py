@@ -28,8 +28,6 @@ class MomentTest(ReplicaCase):
         return copy
 
     def test_a_moment(self):
-        with self.partner.snapshot() as offered:
-            offer = offered.offer(7)
         self.replica.hold()
         self.replica.put(1, b"later", b"value")
         self.assertEqual(self.replica.count().front, 0)
@@ -41,8 +39,6 @@ class MomentTest(ReplicaCase):
         with self.replica.moment() as moment:
             self.assertEqual((moment.entries, moment.format), (20, 2))
             self.assertEqual(moment.root(), self.copy_of(self.replica, 20).root())
-        session = self.replica.open_at_moment(2, offer)
-        self.assertEqual((session.offer_number, session.number, session.outstanding), (7, 0, 1))
         self.replica.drop_moment()
         self.assertEqual(self.replica.count().front, 20)
 
@@ -58,23 +54,19 @@ class MomentTest(ReplicaCase):
             self.assertEqual(self.replica.sync(2, offered.offer(7), reach(offered, 7)).asks, 0)
             assert_no_moment(20)
             self.replica.put(1, b"later", b"value")
-            self.assertRaises(BadClock, self.replica.open, 65_536, offered.offer(7))
+            self.assertRaises(BadClock, self.replica.exchange, 65_536, offered.offer(7))
             assert_no_moment(21)
             self.replica.put(1, b"last", b"value")
-            self.replica.open(2, offered.offer(7))
+            self.replica.exchange(2, offered.offer(7)).close()
             assert_no_moment(22)
 
     def test_no_whole_moment(self):
-        with self.partner.snapshot() as offered:
-            offer = offered.offer(7)
         self.replica.rehash()
         self.assertEqual(self.replica.hash_moment(1), 0)
         self.assert_refused("Dirty", self.replica, self.replica.moment)
-        self.assert_refused("Dirty", self.replica, self.replica.open_at_moment, 2, offer)
         self.replica.put(1, b"later", b"value")
         self.replica.hold()
         self.assert_refused("Dirty", self.replica, self.replica.moment)
-        self.assert_refused("Dirty", self.replica, self.replica.open_at_moment, 2, offer)
 
     def test_puts_while_a_moment_is_hashed(self):
         """Each is over before the portion is hashed, so the lock is free."""
@@ -90,8 +82,8 @@ class MomentTest(ReplicaCase):
         with self.replica.snapshot() as snapshot, self.partner.snapshot() as offered:
             self.assertEqual(snapshot.entries, 20)
             self.assertEqual(snapshot.root(), self.copy_of(self.replica, 20).root())
-            with self.replica.open(2, offered.offer(1)) as session:
-                self.assertEqual(session.outstanding, 1)
+            with self.replica.exchange(2, offered.offer(1)) as exchange:
+                self.assertEqual(len(exchange.asks()), 1)
             before = next(numbers)
             self.assertTrue(self.replica.sync(2, offered.offer(1), reach(offered)).finished)
             self.assertGreater(next(numbers), before + 1)

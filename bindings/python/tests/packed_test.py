@@ -6,7 +6,7 @@ from itertools import accumulate
 import antientropy
 from antientropy import Replica, Source, unpack_entries
 
-from tests.support import ReplicaCase, sync
+from tests.support import ReplicaCase, sync, take_all
 
 ROUNDS = 3
 
@@ -27,10 +27,8 @@ class PackedTest(ReplicaCase):
             replica.put(2, b"great", bytes(range(256)) * 256)
         with Replica(replica.format) as partner:
             partner.put(9, b"tea", b"green")
-            with partner.snapshot() as offered, replica.open(9, offered.offer(1)) as session:
-                while asks := session.asks():
-                    for ask in asks:
-                        session.take(offered.serve(1, ask))
+            with partner.snapshot() as offered:
+                take_all(replica.exchange(9, offered.offer(1)), offered)
 
     def test_entry_of_the_page(self):
         for format, kind in ((1, ""), (2, "00")):

@@ -311,9 +311,6 @@ class RefusalTest(ReplicaCase):
 
     def test_dirty(self):
         self.refused("Dirty", self.replica.snapshot, False)
-        with self.replica.snapshot() as snapshot:
-            self.replica.put(1, b"other", b"")
-            self.refused("Dirty", self.replica.open, 2, snapshot.offer(1), False)
 
     def test_bad_ring(self):
         for args in ((3,), (2, 9), (2, 1, 2), (2, 0, 0, 0)):
@@ -331,7 +328,6 @@ class RefusalTest(ReplicaCase):
 
     def test_bad_message(self):
         self.refused("BadMessage", antientropy.read_offer, b"")
-        self.refused("BadMessage", self.replica.open, 2, b"")
         for leaf in (4096, 65536, 1 << 32):
             self.refused("BadMessage", list, self.replica.keys_of(leaf))
 

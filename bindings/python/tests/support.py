@@ -29,6 +29,21 @@ def sync(replica, partner):
         return replica.sync(9, snapshot.offer(1), reach(snapshot))
 
 
+def take_all(exchange, snapshot, between=lambda: None):
+    """Takes the answers to all asks, those to the last ones first. Returns the bytes of asks and answers.
+
+    It calls a function after each batch.
+    """
+    sent = 0
+    while asks := exchange.asks():
+        for ask in reversed(asks):
+            answer = snapshot.serve(1, ask)
+            sent += len(ask) + len(answer)
+            exchange.take(answer)
+        between()
+    return sent
+
+
 def crowd(replica, key=b"crowded", first=1):
     """Fills a key with 64 concurrent versions."""
     for node in range(first, first + 64):

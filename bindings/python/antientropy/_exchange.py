@@ -1,0 +1,118 @@
+"""An exchange of a replica with a partner, and a whole sync by one."""
+
+from __future__ import annotations
+
+from contextlib import suppress
+from ctypes import c_uint64
+from typing import TYPE_CHECKING, Callable, Iterable, List, Optional
+
+from ._convert import fits, to_bytes
+from ._handle import Handle
+from ._moment import at_moment
+from ._refused import Refused, class_of
+from ._values import Bounds, Progress, Report, Synced, Verdict, VerdictKind
+
+if TYPE_CHECKING:
+    from ._replica import Replica
+
+#: Sends asks to a partner, and returns the answers.
+Reach = Callable[[List[bytes]], Iterable[Optional[bytes]]]
+
+
+class Exchange(Handle):
+    """Carries on a sync with a partner: says which asks to send, and takes the answers in any order.
+
+    The program carries both, and no call waits for the partner. It lasts as long as the program wants, with puts and
+    other calls of the replica in between; a renewal or a migration ends it. It has the lock of its replica, so several
+    threads may use it. Close it, or use it as a context manager: an exchange that is only collected leaves its session
+    open.
+    """
+
+    _free = "exchange_free"
+
+    def __init__(self, replica: Replica, partner: int, offer: bytes, bounds: Bounds) -> None:
+        super().__init__(replica._library)
+        self._replica, self._lock = replica, replica._lock
+        offer, words = to_bytes(offer), (c_uint64 * len(bounds))(*(fits(bound, 64) for bound in bounds))
+        args = fits(partner, 64), offer, len(offer), words
+        at_moment(replica, replica._to_change(), lambda: replica._call_held("exchange_open", self._at, *args))
+
+    def asks(self) -> List[bytes]:
+        """Returns the asks to send now.
+
+        There is none if each outstanding node is on its way or was left, if the bounds leave no room, or if the
+        exchange has stopped or is over.
+        """
+        with self._to_change():
+            return list(iter(lambda: self._bytes_held("share_exchange_next", self._replica._share()), b""))
+
+    def take(self, answer: bytes) -> Verdict:
+        """Takes a partner's answer, which isn't trusted, and judges it by the node that it names.
+
+        Answers may arrive in any order, late or twice.
+        """
+        answer = to_bytes(answer)
+        kind, cause, *counts = self._change_words(4, "exchange_take", self._replica._at, answer, len(answer))
+        return Verdict(VerdictKind(kind), self._cause(cause), *counts)
+
+    def lose(self, ask: bytes) -> None:
+        """Counts an ask as lost if it is on its way, so that `asks` may return it again. Raises BadMessage."""
+        ask = to_bytes(ask)
+        self._call("exchange_lose", ask, len(ask))
+
+    def go_on(self) -> None:
+        """Lets asks be sent again after there was no room for an answer. Asks whose answers were refused are lost."""
+        self._call("exchange_go_on")
+
+    def progress(self) -> Progress:
+        """Returns how far the exchange is."""
+        with self._lock:
+            words = self._words_held(len(Progress._fields), "share_exchange_report", self._replica._share())
+        return Progress(Report(words[0]), self._cause(words[1]), *words[2:])
+
+    def left(self) -> List[int]:
+        """Returns the leaves that were left, since a key in each of them is crowded."""
+        leaves: List[int] = []
+        with self._lock, suppress(class_of("NoVersion")):
+            while True:
+                node = self._words_held(2, "share_exchange_left", self._replica._share(), len(leaves))
+                leaves.append(node[1])
+        return leaves
+
+    def close(self) -> None:
+        """Cancels the session if it is in progress, and drops it with the others that have ended.
+
+        Later calls are refused as Empty.
+        """
+        with self._to_change():
+            is_open = not self._library.exchange_close(self._at, self._replica._at)
+            self._free_call(self._at)
+            if is_open:
+                self._replica._call_held("drop_sessions")
+
+    def __del__(self) -> None:
+        """Frees the memory alone: this thread or another one may be in a call of the replica."""
+        if hasattr(self, "_spare"):
+            self._free_call(self._at)
+
+    def _cause(self, number: int) -> Optional[Refused]:
+        return self._library.refusal("exchange_take", number) if number else None
+
+
+def sync(replica: Replica, partner: int, offer: bytes, reach: Reach, bounds: Bounds) -> Synced:
+    """Takes the versions of an offer that a replica lacks."""
+    with Exchange(replica, partner, offer, bounds) as exchange:
+        while asks := exchange.asks():
+            for answer in reach(asks):
+                if answer is not None:
+                    exchange.take(answer)
+            for ask in asks:
+                exchange.lose(ask)
+        progress, left = exchange.progress(), exchange.left()
+    if progress.cause is not None:
+        raise progress.cause
+    if progress.report is Report.FAILED:
+        raise replica._library.refusal("exchange_take", replica._library.not_canonical)
+    return Synced(
+        progress.report, progress.accepted, progress.known, progress.asks, progress.bad, progress.lost, left
+    )
