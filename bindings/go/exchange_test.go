@@ -55,17 +55,6 @@ func TestAPolledExchange(t *testing.T) {
 	refused(t, err, antientropy.ErrEmpty)
 }
 
-func TestRefusedOffers(t *testing.T) {
-	_, offer := offered()
-	for cause, config := range map[error]antientropy.Config{
-		antientropy.ErrOtherFormat: {Format: 1, Limit: 1},
-		antientropy.ErrOtherRange:  {Format: 2, Bits: 1, Range: 1, Limit: 1},
-	} {
-		_, err := must(antientropy.NewReplica(config)).Exchange(1, offer, antientropy.DefaultBounds())
-		refused(t, err, cause)
-	}
-}
-
 // A session keeps the leaf of a key that is put again, until it has ended and is dropped.
 func TestBytesOfSessions(t *testing.T) {
 	_, offer := offered()

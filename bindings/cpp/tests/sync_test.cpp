@@ -108,22 +108,6 @@ void equal_roots() {
     CHECK(sure(b.sync(1, offer, nullptr)).finished());
 }
 
-void refused_offers() {
-    Replica replica = filled(1), first = sure(Replica::make(1)), other = sure(Replica::make(2, 1, 1));
-    const std::string offer = sure(sure(replica.snapshot()).offer(1));
-    REFUSED(BadMessage, other.exchange(1, ""));
-    REFUSED(BadMessage, other.sync(1, "", nullptr));
-    REFUSED(OtherFormat, first.exchange(1, offer));
-    REFUSED(OtherRange, other.sync(1, offer, nullptr));
-    REFUSED(BadClock, first.exchange(65'536, offer));
-    Replica full = sure(Replica::make());
-    std::vector<Exchange> exchanges;
-    while (exchanges.size() < ANTIENTROPY_OPEN_SESSIONS_MAX) exchanges.push_back(sure(full.exchange(1, offer)));
-    REFUSED(SessionsFull, full.exchange(1, offer));
-    sure(exchanges.back().close(full));
-    CHECK(sure(full.count()).open_sessions == 63 && full.exchange(1, offer));
-}
-
 /// An exchange of a replica that is moved, and one that is closed.
 void moved_and_closed() {
     Replica a = filled(1), b = sure(Replica::make());
@@ -312,7 +296,6 @@ int main() {
                 {"shared snapshots", shared_snapshots},
                 {"polled exchange", polled_exchange},
                 {"equal roots", equal_roots},
-                {"refused offers", refused_offers},
                 {"moved and closed", moved_and_closed},
                 {"both ways", both_ways},
                 {"crowded leaf is left", crowded_leaf_is_left},

@@ -123,13 +123,6 @@ class ExchangeTest(ExchangeCase):
         ):
             self.assert_refused("Empty", self.b, call, *args)
 
-    def test_refused_offers(self):
-        for numbers, name in ((dict(format=1), "OtherFormat"), (dict(bits=1, range=1), "OtherRange")):
-            self.assertRaises(getattr(antientropy, name), self.replica(**numbers).exchange, 1, self.offer)
-        self.assertRaises(antientropy.BadMessage, self.b.exchange, 1, self.offer[1:])
-        for partner in (65536, 65537):
-            self.assertRaises(antientropy.BadClock, self.b.exchange, partner, self.offer)
-
     def test_bytes_of_sessions(self):
         """A session keeps the leaf of a key that is put again, until it has ended and is dropped."""
         self.a.put(1, b"later", b"")

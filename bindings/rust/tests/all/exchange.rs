@@ -2,7 +2,7 @@
 
 use antientropy::{Bounds, Clock, Config, Progress, Refusal, Replica, Report, Snapshot, Source, Verdict, VerdictKind};
 
-use crate::support::{assert_refused, crowded_pair, filled, replica, serve, sessions, with_limit, NONE};
+use crate::support::{crowded_pair, filled, replica, serve, sessions, with_limit, NONE};
 
 /// Returns a snapshot of 50 keys, with its offer of number 7.
 fn offered() -> (Snapshot, Vec<u8>) {
@@ -52,22 +52,6 @@ fn equal_roots() {
     let mut exchange = replica.exchange(1, &offer, Bounds::default()).unwrap();
     assert_eq!(exchange.progress(&replica).unwrap().report, Report::Finished);
     assert_eq!((exchange.asks(&replica).unwrap().len(), sessions(&replica)), (0, (0, 0)));
-}
-
-#[test]
-fn refused_offers() {
-    let (_, offer) = offered();
-    let open = |replica: &mut Replica, offer: &[u8]| replica.exchange(1, offer, Bounds::default());
-    let mut first = Replica::new(Config { format: 1, ..Config::default() }).unwrap();
-    let mut other = Replica::new(Config { bits: 1, range: 1, ..Config::default() }).unwrap();
-    assert_eq!(open(&mut first, &offer).unwrap_err(), Refusal::OtherFormat);
-    assert_eq!(open(&mut other, &offer).unwrap_err(), Refusal::OtherRange);
-    let mut replica = replica();
-    assert_eq!(open(&mut replica, b"?").unwrap_err(), Refusal::BadMessage);
-    let mut opened: Vec<_> = (0..64).map(|_| open(&mut replica, &offer).unwrap()).collect();
-    assert_refused(Refusal::SessionsFull, &mut replica, |replica| open(replica, &offer));
-    opened.pop().unwrap().close(&mut replica).unwrap();
-    assert_eq!(sessions(&replica), (63, 63));
 }
 
 /// A partner that answers each ask for a leaf with the text of the crowded leaf, which is asked for first.
