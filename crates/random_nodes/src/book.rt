@@ -92,9 +92,9 @@ impl Book {
 
     /// Changes how far the ask for a node is.
     fn set(&mut self, node: NodeAt, way: Way) -> Result<(), Trouble> {
-        for asked in self.asked.iter_mut() {
-            if asked.node == node {
-                asked.way = way;
+        for place in 0..self.asked.len() {
+            if self.asked[place].node == node {
+                self.asked[place].way = way;
                 return Ok(());
             }
         }
@@ -134,37 +134,33 @@ impl Book {
         self.tally.lost > u64::from(self.bounds.lost)
     }
 
-    /// Returns the node to ask next, if there is one: the first outstanding node whose ask isn't on its way, and that
-    /// wasn't left. It is asked then.
-    pub(crate) fn next(&mut self, alloc: Global, walk: &Walk) -> Result<Option<NodeAt>, Trouble> {
+    /// Returns the first of some outstanding nodes that may be asked: its ask isn't on its way, and it wasn't left. There
+    /// is none if asks have stopped, or it is over.
+    pub(crate) fn askable(&self, outstanding: &[NodeAt]) -> Option<NodeAt> {
         if self.is_stopped || self.is_over() {
-            return Ok(None);
+            return None;
         }
-        let Some(node) = self.askable(&walk.outstanding) else {
-            return Ok(None);
-        };
-        let is_leaf = walk.is_leaf(node);
-        let bytes = if is_leaf {
-            self.leaf_size(walk.own.text(alloc, node)?.len() as u64)
-        } else {
-            INNER_LEN
-        };
-        if !self.has_room(is_leaf, bytes) {
-            return Ok(None);
-        }
-        self.set(node, Way::Open(bytes))?;
-        self.tally.asks = self.tally.asks.wrapping_add(1);
-        Ok(Some(node))
-    }
-
-    /// Returns the first of these nodes that may be asked.
-    fn askable(&self, nodes: &[NodeAt]) -> Option<NodeAt> {
-        for node in nodes {
+        for node in outstanding {
             if matches!(self.way(*node), None | Some(Way::Lost)) {
                 return Some(*node);
             }
         }
         None
+    }
+
+    /// Sends the ask for a node, if there is room for it, and returns true if it was sent. The local text of a leaf has
+    /// this length; an inner node has none.
+    pub(crate) fn send(&mut self, node: NodeAt, local_leaf: Option<u64>) -> Result<bool, Trouble> {
+        let bytes = match local_leaf {
+            Some(len) => self.leaf_size(len),
+            None => INNER_LEN,
+        };
+        let has_room = self.has_room(local_leaf.is_some(), bytes);
+        if has_room {
+            self.set(node, Way::Open(bytes))?;
+            self.tally.asks = self.tally.asks.wrapping_add(1);
+        }
+        Ok(has_room)
     }
 
     /// Returns the expected size of a leaf's text: that of the local rows, which is the local text without its first

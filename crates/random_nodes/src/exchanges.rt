@@ -280,15 +280,32 @@ impl Dialogue {
     /// Sends the next ask, if there is one.
     fn ask(&mut self, alloc: Global, here: &Closed) -> Result<(), Trouble> {
         let sent = here.range.next_ask(&mut self.exchange);
-        let wanted = match walk_of(&here.mirror, self.session) {
-            Some(walk) => self.book.next(alloc, walk)?,
-            None => None,
-        };
-        expect(sent == wanted, "the next ask of an exchange")?;
+        expect(
+            self.is_next(alloc, &here.mirror, sent)?,
+            "the next ask of an exchange",
+        )?;
         if let Some(node) = sent {
             self.sent.push(node)?;
         }
         Ok(())
+    }
+
+    /// Sends the next ask by the definitions. Returns true if it is for this node, or there is none.
+    fn is_next(
+        &mut self,
+        alloc: Global,
+        here: &Mirror,
+        sent: Option<NodeAt>,
+    ) -> Result<bool, Trouble> {
+        let Some(walk) = walk_of(here, self.session) else {
+            return Ok(sent.is_none());
+        };
+        let Some(node) = self.book.askable(&walk.outstanding) else {
+            return Ok(sent.is_none());
+        };
+        let len = walk.own.text(alloc, node)?.len() as u64;
+        let is_sent = self.book.send(node, walk.is_leaf(node).then_some(len))?;
+        Ok(sent == is_sent.then_some(node))
     }
 
     /// Takes an answer.
