@@ -1,6 +1,7 @@
 /* Handles as resources. */
 #include "handles.h"
 
+#include <stdatomic.h>
 #include <string.h>
 
 #include "terms.h"
@@ -13,9 +14,24 @@ static void drop_lock(struct resource *dropped)
         enif_rwlock_destroy(dropped->lock);
 }
 
+void close_orphans(struct resource *replica)
+{
+    struct orphan *next, *orphan = atomic_exchange(&replica->orphans, NULL);
+    if (orphan == NULL)
+        return;
+    for (; orphan != NULL; orphan = next) {
+        next = orphan->next;
+        antientropy_exchange_close(&orphan->exchange, &replica->replica);
+        antientropy_exchange_free(&orphan->exchange);
+        enif_free(orphan);
+    }
+    antientropy_drop_sessions(&replica->replica);
+}
+
 static void drop_replica(UNUSED ErlNifEnv *env, void *dropped)
 {
     struct resource *at = dropped;
+    close_orphans(at);
     antientropy_free(&at->replica);
     drop_lock(at);
 }
@@ -27,10 +43,19 @@ static void drop_snapshot(UNUSED ErlNifEnv *env, void *dropped)
     drop_lock(at);
 }
 
+/* Leaves an exchange to its replica, since a destructor may not wait for the lock. */
 static void drop_exchange(UNUSED ErlNifEnv *env, void *dropped)
 {
     struct resource *at = dropped;
-    antientropy_exchange_free(&at->exchange);
+    struct orphan *orphan = at->exchange.held ? enif_alloc(sizeof *orphan) : NULL;
+    if (orphan != NULL) {
+        orphan->exchange = at->exchange;
+        orphan->next = atomic_load(&at->of->orphans);
+        while (!atomic_compare_exchange_weak(&at->of->orphans, &orphan->next, orphan))
+            ;
+    } else {
+        antientropy_exchange_free(&at->exchange);
+    }
     enif_release_resource(at->of);
 }
 

@@ -12,10 +12,17 @@
 
 enum kind { REPLICA, SNAPSHOT, EXCHANGE, HINTS, SLOTS, KINDS };
 
-/* An exchange keeps the resource of its replica, and has its lock. */
+/* An exchange that no process has any more. */
+struct orphan {
+    struct antientropy_exchange exchange;
+    struct orphan *next;
+};
+
+/* An exchange keeps the resource of its replica, and has its lock. A replica keeps its orphans until they are closed. */
 struct resource {
     ErlNifRWLock *lock;
     struct resource *of;
+    _Atomic(struct orphan *) orphans;
     union {
         struct antientropy_replica replica;
         struct antientropy_snapshot snapshot;
@@ -101,6 +108,9 @@ ERL_NIF_TERM with_lock(const struct call *call, ErlNifEnv *env, int argc, const 
 
 /* Makes a resource whose handle holds nothing, or returns NULL without memory. */
 struct resource *make_resource(enum kind kind);
+
+/* Closes the orphans of a replica, whose lock the caller has, and drops the sessions that have ended. */
+void close_orphans(struct resource *replica);
 
 /* Makes a resource of a replica's exchange whose handle holds nothing, or returns NULL without memory. */
 struct resource *make_exchange(struct resource *replica);

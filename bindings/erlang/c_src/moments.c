@@ -120,6 +120,7 @@ struct opening {
 static uint32_t open_exchange(struct resource *at, void *of)
 {
     struct opening *opening = of;
+    close_orphans(at);
     uint32_t number = antientropy_exchange_open(&at->replica, &opening->made->exchange, opening->partner,
                                                 opening->offer.data, opening->offer.size, &opening->bounds);
     if (number == ANTIENTROPY_OK)

@@ -115,6 +115,7 @@ CALL(REPLICA, rehash_some)
 /* drop_sessions(Replica) -> ok */
 CALL(REPLICA, drop_sessions)
 {
+    close_orphans(at);
     return done(env, antientropy_drop_sessions(&at->replica));
 }
 

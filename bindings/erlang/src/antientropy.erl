@@ -512,7 +512,8 @@ exchange(Replica, Partner, Offer, Bounds) ->
 
 %% @doc Drops the sessions that have ended, and all that they keep: rows that later puts have changed, and texts.
 %%
-%% {@link antientropy_exchange:close/1} does so. Open sessions are unchanged. Entries of the source `partner' have the
+%% {@link antientropy_exchange:close/1} does so. Open sessions are unchanged, but those of exchanges that no process has any
+%% more are closed first. Entries of the source `partner' have the
 %% source `copy' then.
 -spec drop_sessions(replica()) -> ok | refused().
 drop_sessions(Replica) ->
@@ -528,8 +529,7 @@ sync(Replica, Partner, Offer, Reach) ->
 %%
 %% Other processes may put meanwhile. `Reach' sends asks to the partner, as many as the bounds allow, and returns the
 %% answers, in any order; those that are missing count as lost. If it raises an exception, the exchange is closed, too.
-%% (A process that is killed in a sync leaves its session open.) What was taken stays. Refused: what {@link exchange/4}
-%% refuses, `not_canonical', `journal_full'.
+%% What was taken stays. Refused: what {@link exchange/4} refuses, `not_canonical', `journal_full'.
 -spec sync(replica(), Partner :: non_neg_integer(), Offer :: iodata(), antientropy_sync:reach(), Bounds) ->
     {ok, antientropy_sync:synced()} | refused() when
     Bounds :: antientropy_exchange:bounds().

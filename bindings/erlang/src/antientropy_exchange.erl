@@ -2,8 +2,9 @@
 %%
 %% It says what to ask, takes the answers in any order, and says how far it is; the program carries the messages. It
 %% lasts as long as the program wants, with puts in between. A renewal or a migration ends it. Its calls are calls of
-%% its replica, which it keeps. They are refused as `empty' after {@link close/1}, and if the replica is closed. {@link
-%% antientropy:sync/4} is a whole sync in one call.
+%% its replica, which it keeps. They are refused as `empty' after {@link close/1}, and if the replica is closed. One that
+%% no process has any more is closed when the next one of its replica is opened, or by {@link
+%% antientropy:drop_sessions/1}. {@link antientropy:sync/4} is a whole sync in one call.
 -module(antientropy_exchange).
 
 -export([asks/1, take/2, lose/2, go_on/1, progress/1, left/1, close/1]).

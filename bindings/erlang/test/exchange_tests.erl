@@ -19,6 +19,7 @@ exchanges_test_() ->
             fun journal_full/1,
             fun not_canonical/1,
             fun closed/1,
+            fun killed/1,
             fun bytes_of_sessions/1,
             fun syncs_at_once/1
         ]
@@ -169,6 +170,33 @@ closed({A, B}) ->
     support:badarg(fun() -> antientropy_exchange:take(OfClosed, none) end),
     ok = antientropy_exchange:close(OfClosed).
 
+%% Processes that are killed leave no session: at most 64 may be open.
+killed({A, B}) ->
+    {_, Offer} = offered(A),
+    Open = fun() ->
+        {ok, _} = antientropy:exchange(B, 1, Offer, #{}),
+        exit(self(), kill)
+    end,
+    [?assertEqual(killed, reason(spawn_monitor(Open))) || _ <- lists:seq(1, 100)],
+    drop_all(B).
+
+%% (The memory of the last process may be freed a little later.)
+drop_all(Replica) ->
+    ok = antientropy:drop_sessions(Replica),
+    case antientropy:count(Replica) of
+        {ok, #{sessions := 0}} ->
+            ok;
+        {ok, _} ->
+            timer:sleep(1),
+            drop_all(Replica)
+    end.
+
+%% Returns the reason for which a process ends.
+reason({Process, Monitor}) ->
+    receive
+        {'DOWN', Monitor, process, Process, Reason} -> Reason
+    end.
+
 %% A session keeps the leaf of a key that is put again, until it is dropped.
 bytes_of_sessions({A, B}) ->
     {Snapshot, _} = offered(A),
@@ -186,7 +214,7 @@ bytes_of_sessions({A, B}) ->
 
 %% Syncs of one replica drop the sessions of each other, when these have ended.
 syncs_at_once({_, B}) ->
-    Sync = fun(Partner) ->
+    Take = fun(Partner) ->
         [
             begin
                 {ok, _} = antientropy:put(Partner, 1, key(Number), <<"value">>),
@@ -195,13 +223,8 @@ syncs_at_once({_, B}) ->
          || Number <- lists:seq(1, 50)
         ]
     end,
-    Syncing = [spawn_monitor(fun() -> Sync(replica()) end) || _ <- lists:seq(1, 4)],
-    [
-        receive
-            {'DOWN', Monitor, process, Process, Reason} -> ?assertEqual(normal, Reason)
-        end
-     || {Process, Monitor} <- Syncing
-    ],
+    Syncing = [spawn_monitor(fun() -> Take(replica()) end) || _ <- lists:seq(1, 4)],
+    [?assertEqual(normal, reason(Sync)) || Sync <- Syncing],
     ?assertMatch({ok, #{sessions := 0}}, antientropy:count(B)).
 
 %% A replica lacks 20 keys of a partner, and one more is crowded between the two: that of the leaf that is asked first.
