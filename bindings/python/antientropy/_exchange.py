@@ -24,8 +24,8 @@ class Exchange(Handle):
 
     The program carries both, and no call waits for the partner. It lasts as long as the program wants, with puts and
     other calls of the replica in between; a renewal or a migration ends it. It has the lock of its replica, so several
-    threads may use it. Close it, or use it as a context manager: an exchange that is only collected leaves its session
-    open.
+    threads may use it. Close it, or use it as a context manager: the replica closes one that was only collected when the
+    next one is opened, or by `Replica.drop_sessions`.
     """
 
     _free = "exchange_free"
@@ -35,7 +35,11 @@ class Exchange(Handle):
         self._replica, self._lock = replica, replica._lock
         offer, words = to_bytes(offer), (c_uint64 * len(bounds))(*(fits(bound, 64) for bound in bounds))
         args = fits(partner, 64), offer, len(offer), words
-        at_moment(replica, replica._to_change(), lambda: replica._call_held("exchange_open", self._at, *args))
+        at_moment(replica, replica._to_change(), lambda: self._open_held(*args))
+
+    def _open_held(self, *args: object) -> None:
+        self._replica._close_orphans_held()
+        self._replica._call_held("exchange_open", self._at, *args)
 
     def asks(self) -> List[bytes]:
         """Returns the asks to send now.
@@ -91,9 +95,9 @@ class Exchange(Handle):
                 self._replica._call_held("drop_sessions")
 
     def __del__(self) -> None:
-        """Frees the memory alone: this thread or another one may be in a call of the replica."""
-        if hasattr(self, "_spare"):
-            self._free_call(self._at)
+        """Leaves itself to the replica: this thread or another one may be in a call of that."""
+        if hasattr(self, "_replica") and self._struct.held:
+            self._replica._orphans.append(self._struct)
 
     def _cause(self, number: int) -> Optional[Refused]:
         return self._library.refusal("exchange_take", number) if number else None

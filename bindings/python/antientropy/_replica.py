@@ -6,7 +6,7 @@ from ctypes import byref, c_uint64, create_string_buffer
 from typing import BinaryIO, Callable, Iterable, Iterator, List, Optional, Tuple
 
 from . import _checkpoint, _exchange
-from ._calls import CLOCK_MAX, ENTRY_MAX
+from ._calls import CLOCK_MAX, ENTRY_MAX, HandleStruct
 from ._convert import fits, to_bytes, to_clock, to_kind, to_pairs, to_value
 from ._exchange import Exchange, Reach
 from ._handle import Results
@@ -71,6 +71,21 @@ class Replica(Rows):
         super().__init__(library)
         #: The threads that are in calls at a moment, once for each call.
         self._moment_threads: List[int] = []
+        #: Exchanges that were collected, and not closed.
+        self._orphans: List[HandleStruct] = []
+
+    def close(self) -> None:
+        """Frees the memory. Later calls are refused as Empty."""
+        with self._to_change():
+            self._close_orphans_held()
+            self._free_call(self._at)
+
+    def _close_orphans_held(self) -> None:
+        while self._orphans:
+            orphan = byref(self._orphans.pop())
+            self._library.exchange_close(orphan, self._at)
+            self._library.exchange_free(orphan)
+            self._library.drop_sessions(self._at)
 
     def renew(self, limit: int = _LIMIT) -> Replica:
         """Returns a new replica with the versions that are held: one entry for each, and no sessions.
@@ -413,7 +428,9 @@ class Replica(Rows):
 
         Entries whose source is PARTNER have the source COPY then.
         """
-        self._call("drop_sessions")
+        with self._to_change():
+            self._close_orphans_held()
+            self._call_held("drop_sessions")
 
     def sync(self, partner: int, offer: bytes, reach: Reach, bounds: Bounds = Bounds()) -> Synced:
         """Takes the versions of a partner's offer that this replica lacks: an exchange from its begin to its end.

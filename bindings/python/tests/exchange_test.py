@@ -138,6 +138,12 @@ class ExchangeTest(ExchangeCase):
             self.assertEqual(self.a.count_bytes(), kept)
         self.assertEqual(self.a.count_bytes(), kept._replace(sessions=0))
 
+    def test_collected_exchanges(self):
+        for _ in range(100):
+            self.b.exchange(1, self.offer).asks()
+        self.b.drop_sessions()
+        self.assertEqual(self.b.count().sessions, 0)
+
     def crowded_pair(self):
         """A replica that lacks 20 keys of a partner's, a link to it, and the leaf of another key.
 
