@@ -44,7 +44,8 @@ SYS_CONFIG = """[{{cluster, [
     {{quorums, {{3, 2, 2}}}},
     {{http_token, "{folder}/token"}},
     {{https, {{"{folder}/node.pem", "{folder}/node.key"}}}}
-]}}].
+]}},
+{{kernel, [{{inet_dist_listen_min, {port}}}, {{inet_dist_listen_max, {port}}}]}}].
 """
 
 
@@ -57,6 +58,7 @@ class Site:
             packed.extractall(room / "release")
         self.program = room / "release/bin/cluster"
         self.token, cookie = secrets.token_hex(16), secrets.token_hex(16)
+        (self._node_port,) = _free_ports(1)
         self.config = self.make_config("config", cookie)
         self.other_ring = self.make_config("other-ring", cookie, bits=3)
         self.guest = self.make_config("guest", secrets.token_hex(16))
@@ -92,7 +94,8 @@ class Site:
         _openssl("x509", "-req", *files, *signed)
         (folder / "ca.pem").write_bytes(authority.with_suffix(".pem").read_bytes())
         places = ",\n".join(f'        {{{place}, "{host}"}}' for place, host in HOSTS.items())
-        (folder / "sys.config").write_text(SYS_CONFIG.format(places=places, bits=bits, folder=folder))
+        settings = SYS_CONFIG.format(places=places, bits=bits, folder=folder, port=self._node_port)
+        (folder / "sys.config").write_text(settings)
         (folder / "ssl_dist.conf").write_text((REL / "ssl_dist.conf").read_text().replace("/etc/cluster", str(folder)))
         for secret, text in ((".erlang.cookie", cookie), ("token", self.token)):
             (folder / secret).write_text(text)
@@ -378,6 +381,12 @@ class Operate(unittest.TestCase):
             (wrong / "sys.config").write_text(text.replace(*change))
             status, printed = site.done(3, "foreground", config=wrong, disk=site.room / "wrong-disk")
             self.assertEqual((status, printed), (1, said))
+        (wrong / "sys.config").write_text(text)
+        (wrong / "ssl_dist.conf").unlink()
+        names = (site.config / "ssl_dist.conf").read_text()
+        (wrong / "ssl_dist.conf").write_text(names.replace(f"{site.config}/node.key", f"{wrong}/node.key"))
+        said = f"{wrong}/ssl_dist.conf names {wrong}/node.key, which can't be read\n"
+        self.assertEqual(site.done(3, "foreground", config=wrong, disk=site.room / "wrong-disk"), (1, said))
 
     def test_9_stop(self) -> None:
         """A node that is stopped ends, and can be stopped again."""
