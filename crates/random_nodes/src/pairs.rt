@@ -1,8 +1,11 @@
-//! Closed nodes, and pairs of them that are reconciled.
+//! Closed nodes, and pairs of them that take from each other, or are reconciled.
 
+use crate::exchanges::exchange_with;
 use crate::mirror::Mirror;
 use crate::ranges::{Range, reconcile_ranges};
+use crate::tally::Tally;
 use plain_model::plain::{Fault, KEYS};
+use plain_model::random::Random;
 use plain_model::trees::{Tree, differing, leaf_depth, width};
 use plain_model::trouble::{Trouble, expect};
 use plain_model::walks::{Offering, Sent, Walk};
@@ -65,9 +68,46 @@ impl Closed {
     }
 }
 
+/// All nodes, closed.
+#[derive(Drop)]
+pub(crate) struct AllClosed {
+    pub(crate) one: Closed,
+    pub(crate) two: Closed,
+    pub(crate) three: Closed,
+}
+
+impl AllClosed {
+    /// Compares all that the ranges have.
+    pub(crate) fn check(&self, alloc: Global) -> Result<(), Trouble> {
+        self.one.check(alloc)?;
+        self.two.check(alloc)?;
+        self.three.check(alloc)
+    }
+
+    /// Has each node take from the next one by an exchange, which is drawn by a seed and counted.
+    pub(crate) fn exchange(
+        &mut self,
+        alloc: Global,
+        seed: u64,
+        tally: &mut Tally,
+    ) -> Result<(), Trouble> {
+        let mut random = Random::new(seed);
+        exchange_with(alloc, &mut random, &mut self.one, &mut self.two, tally)?;
+        exchange_with(alloc, &mut random, &mut self.two, &mut self.three, tally)?;
+        exchange_with(alloc, &mut random, &mut self.three, &mut self.one, tally)
+    }
+
+    /// Reconciles each node with the next one.
+    pub(crate) fn reconcile(&mut self, alloc: Global) -> Result<(), Trouble> {
+        reconcile_both(alloc, &mut self.one, &mut self.two)?;
+        reconcile_both(alloc, &mut self.two, &mut self.three)?;
+        reconcile_both(alloc, &mut self.three, &mut self.one)
+    }
+}
+
 /// Hashes two closed ranges of one format, reconciles them, and compares the result and both states. If nothing is
 /// refused, both hold the same versions. Then drops the ended sessions of the first.
-pub(crate) fn reconcile_both(alloc: Global, a: &mut Closed, b: &mut Closed) -> Result<(), Trouble> {
+fn reconcile_both(alloc: Global, a: &mut Closed, b: &mut Closed) -> Result<(), Trouble> {
     if a.mirror.plain.format != b.mirror.plain.format {
         return Ok(());
     }

@@ -2,10 +2,9 @@
 ghost use Rattle.std.specs.Prelude.{◌≡◌, ◌<◌};
 
 use crate::deliveries::check_pending;
-use crate::exchanges::exchange_with;
 use crate::inner::Inner;
 use crate::node::{Made, Node, Parts, Rest};
-use crate::pairs::{Closed, check_equal, reconcile_both};
+use crate::pairs::{AllClosed, Closed, check_equal};
 use crate::ranges::Range;
 use crate::renewals::renewed;
 use crate::schedule::Schedule;
@@ -15,7 +14,6 @@ use crate::tally::Tally;
 use crate::world::World;
 use plain_model::draws::{LAST, crowd_version};
 use plain_model::plain::Part;
-use plain_model::random::Random;
 use plain_model::trouble::{Trouble, expect};
 use ring_node::{Gate, OpenGate};
 use std::alloc::Global;
@@ -331,20 +329,15 @@ impl<L: Ledger, M: Ledger, N: Ledger, C: Ledger> World<L, M, N, C> {
             slots: _slots,
             schedule: _schedule,
         } = self;
-        let mut one = close(alloc, one)?;
-        let mut two = close(alloc, two)?;
-        let mut three = close(alloc, three)?;
-        one.check(alloc)?;
-        two.check(alloc)?;
-        three.check(alloc)?;
-        let mut random = Random::new(setup.salt);
-        exchange_with(alloc, &mut random, &mut one, &mut two, &mut tally)?;
-        exchange_with(alloc, &mut random, &mut two, &mut three, &mut tally)?;
-        exchange_with(alloc, &mut random, &mut three, &mut one, &mut tally)?;
+        let mut closed = AllClosed {
+            one: close(alloc, one)?,
+            two: close(alloc, two)?,
+            three: close(alloc, three)?,
+        };
+        closed.check(alloc)?;
+        closed.exchange(alloc, setup.salt, &mut tally)?;
         if !setup.rests {
-            reconcile_both(alloc, &mut one, &mut two)?;
-            reconcile_both(alloc, &mut two, &mut three)?;
-            reconcile_both(alloc, &mut three, &mut one)?;
+            closed.reconcile(alloc)?;
         }
         Ok(tally)
     }
