@@ -202,7 +202,7 @@ class Site:
         return json.loads(body)
 
     def put_all(self, place: int, keys: Sequence[str]) -> None:
-        """Puts keys with their names as values, over one connection."""
+        """Puts keys, each with its name as its value, over one connection."""
         host, port = self.hosts.ADDRESSES[place], self.hosts.port(place)
         link = http.client.HTTPSConnection(host, port, timeout=STEP_S, context=self._trust())
         for key in keys:
@@ -454,17 +454,15 @@ class Operate(unittest.TestCase):
         site, cable = self.site, self.cable()
         if not cable.delay(3, DELAY_MS):
             self.skipTest("the kernel has no netem: no link has a delay")
-        for place in (1, 2):
-            site.done(place, "stop")
-        # (place 3 is stopped, and a start needs all: nodes that have their disks don't)
-        site.start((1, 2), "handoff off")
-        keys = {f"missed-{number}" for number in range(MISSED)}
-        with ThreadPoolExecutor(PUTTERS) as putters:
-            parts = [sorted(keys)[first::PUTTERS] for first in range(PUTTERS)]
-            list(putters.map(lambda part: site.put_all(1, part), parts))
+        # (place 3 is stopped already)
+        keys = [f"missed-{number}" for number in range(MISSED)]
+        with ThreadPoolExecutor(PUTTERS) as pool:
+            list(pool.map(lambda place: site.done(place, "stop"), (1, 2)))
+            site.start((1, 2), "handoff off")
+            list(pool.map(lambda first: site.put_all(1 + first % 2, keys[first::PUTTERS]), range(PUTTERS)))
         begun = time.monotonic()
         site.start([3])
-        until(lambda: keys <= site.keys(3), "place 3 has all keys")
+        until(lambda: site.keys(3).issuperset(keys), "place 3 has all keys")
         note(f"{MISSED} keys came over a link with a delay of {DELAY_MS} ms in {time.monotonic() - begun:.1f} seconds")
         self.assertGreaterEqual(site.metrics(3)["cluster_repair_keys_total"], MISSED)
 
