@@ -216,6 +216,10 @@ class Site:
         status, _, body = self.ask(place, "GET", f"/keys/{key}", **self.bearer(), **headers)
         return status, body
 
+    def is_up(self, place: int, other: int) -> bool:
+        """Returns true if another place is up for a place."""
+        return self.metrics(place)[f'cluster_place_up{{place="{other}"}}'] == 1
+
     def siblings(self, place: int, key: str) -> Set[str]:
         """Returns the values that a place has itself."""
         status, body = self.get(place, key, x_r="1")
@@ -314,22 +318,21 @@ class Operate(unittest.TestCase):
         before = len(site.log(1))
         os.kill(site.pid(3), signal.SIGKILL)
         until(lambda: "event down place=3" in site.log(1)[before:], "place 1 says that place 3 is down")
-        self.assertEqual(site.metrics(1)['cluster_place_up{place="3"}'], 0)
+        self.assertFalse(site.is_up(1, 3))
         site.put(1, "cup", "tea")
         site.start([3])
         until(lambda: "event up place=3" in site.log(1)[before:], "place 1 says that place 3 is up")
-        until(lambda: site.metrics(1)['cluster_place_up{place="3"}'] == 1, "it is up in the metrics")
+        until(lambda: site.is_up(1, 3), "it is up in the metrics")
         self.assertEqual(site.get(3, "cup"), (200, b"tea"))
 
     def test_3_partition(self) -> None:
         """Both sides of a partition take puts, and after it each host has both values."""
         site, cable = self.site, self.cable()
-        before = {place: len(site.log(place)) for place in PLACES}
         cable.cut(3)
         try:
             for place, other in ((1, 3), (2, 3), (3, 1), (3, 2)):
-                event = f"event down place={other}"
-                until(lambda: event in site.log(place)[before[place] :], f"place {place} says that {other} is down")
+                with cable.inside(place):
+                    until(lambda: not site.is_up(place, other), f"place {other} is down for place {place}")
             self.assertEqual(site.put(1, "fork", "left")["on"], [1, 2])
             with cable.inside(3):
                 self.assertEqual(site.ask(3, "PUT", "/keys/spoon", b"one", **site.bearer())[0], 503)
