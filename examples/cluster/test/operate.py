@@ -452,7 +452,7 @@ class Operate(unittest.TestCase):
             status, printed = site.done(3, "foreground", config=wrong, disk=site.room / "wrong-disk")
             self.assertEqual((status, printed), (1, said))
 
-    def test_8_slow_link(self) -> None:
+    def test_9_a_slow_link(self) -> None:
         """Repair alone brings a host the keys that it missed, over a link with a delay."""
         site, cable = self.site, self.cable()
         if not cable.delay(3, DELAY_MS):
