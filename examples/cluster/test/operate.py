@@ -208,7 +208,8 @@ class Site:
         for key in keys:
             link.request("PUT", f"/keys/{key}", key.encode(), self.bearer())
             with link.getresponse() as answer:
-                if answer.read() is None or answer.status != 200:
+                answer.read()
+                if answer.status != 200:
                     raise AssertionError(f"a put was answered by {answer.status}")
         link.close()
 
@@ -467,7 +468,8 @@ class Operate(unittest.TestCase):
         site.start([3])
         until(lambda: site.keys(3).issuperset(keys), "place 3 has all keys")
         note(f"{MISSED} keys came over a link with a delay of {DELAY_MS} ms in {time.monotonic() - begun:.1f} seconds")
-        self.assertGreaterEqual(site.metrics(3)["cluster_repair_keys_total"], MISSED)
+        # (a round counts at its end)
+        until(lambda: site.metrics(3).get("cluster_repair_keys_total", 0) >= MISSED, "repair alone brought them")
 
     def test_9_plot(self) -> None:
         """The samples of this run, and their plot, have each series of each place."""
