@@ -1,12 +1,17 @@
 #!/usr/bin/env python3
 """Operates a release as its page says: three nodes with TLS between them and for clients, on a folder that make built.
 
-A put, a kill, a damaged disk, settings that differ, a stranger without a certificate, and what nodes say of all that.
-All that it starts ends with it. The last line is 'N passed, M failed'.
+A put, a kill, a partition, a damaged disk, settings that differ, a stranger without a certificate, a slow link, and
+what nodes say of all that. Hosts are network namespaces if there can be some, and loopback addresses otherwise: then
+the partition and the slow link are skipped. Lines that begin with 'note:' say what was used, and what was skipped. All
+that it starts ends with it. The last line is 'N passed, M failed'.
 """
 
 from __future__ import annotations
 
+import base64
+import csv
+import http.client
 import json
 import os
 import re
@@ -22,52 +27,67 @@ import time
 import unittest
 import urllib.error
 import urllib.request
+import xml.etree.ElementTree
+from concurrent.futures import ThreadPoolExecutor
 from pathlib import Path
-from typing import Dict, List, Mapping, Optional, Sequence, Tuple
+from typing import Dict, Mapping, Optional, Sequence, Set, Tuple, Union
+
+import hosts
+from hosts import PLACES, Loopback, Namespaces
 
 HERE = Path(__file__).resolve().parent
 REL = HERE.parent / "rel"
-
-#: The fronts are at one address. The nodes are at another one each: all of them are this host.
-HOST = "127.0.0.1"
-PLACES = (1, 2, 3)
-HOSTS = {place: f"127.0.0.{place + 1}" for place in PLACES}
+PLOT = HERE.parent / "plot"
 
 #: Seconds that a step may take on a machine that is busy, and between two looks.
 STEP_S, LOOK_S = 180.0, 0.1
 
-SYS_CONFIG = """[{{cluster, [
+#: Seconds after which a connection without ticks is closed: net_ticktime and a quarter.
+TICKS_S = 5.0
+
+#: Seconds after a partition until each host has what was put meanwhile, and keys that a host misses over a slow link.
+JOINED_S, MISSED, PUTTERS = 10.0, 1000, 8
+DELAY_MS = 50
+
+SYS_CONFIG = """[{kernel}{{cluster, [
     {{places, [
 {places}
     ]}},
     {{bits, {bits}}},
     {{quorums, {{3, 2, 2}}}},
     {{http_token, "{folder}/token"}},
+    {{admin_token, "{folder}/token"}},
     {{https, {{"{folder}/node.pem", "{folder}/node.key"}}}}
-]}},
-{{kernel, [{{inet_dist_listen_min, {port}}}, {{inet_dist_listen_max, {port}}}]}}].
+]}}].
 """
 
 
 class Site:
-    """The configuration and the nodes of a cluster on one host."""
+    """The configuration and the nodes of a cluster."""
 
-    def __init__(self, out: Path, room: Path) -> None:
-        self.room = room
+    def __init__(self, out: Path, room: Path, its_hosts: Union[Loopback, Namespaces]) -> None:
+        self.room, self.hosts = room, its_hosts
         with tarfile.open(next(out.glob("cluster-*.tar.gz"))) as packed:
             packed.extractall(room / "release")
         self.program = room / "release/bin/cluster"
         self.token, cookie = secrets.token_hex(16), secrets.token_hex(16)
-        (self._node_port,) = _free_ports(1)
         self.config = self.make_config("config", cookie)
         self.other_ring = self.make_config("other-ring", cookie, bits=3)
         self.guest = self.make_config("guest", secrets.token_hex(16))
         self.stranger = self.make_config("stranger", cookie, authority=self.make_authority("strangers"))
-        self._ports = _free_ports(2 * len(PLACES) + 1)
-        self._environment = {**os.environ, "ERL_EPMD_PORT": str(self._ports.pop())}
-        self._environment["ERL_EPMD_ADDRESS"] = ",".join(HOSTS.values())
-        epmd = next((room / "release").glob("erts-*/bin/epmd"))
-        self._epmd = subprocess.Popen([epmd], env=self._environment, stdin=subprocess.DEVNULL)
+        self._environment = {**os.environ, **its_hosts.environment}
+        self._epmd = next((room / "release").glob("erts-*/bin/epmd"))
+        self._beside = [self._begin(place, self._epmd) for place in its_hosts.WITH_EPMD]
+        self.samples = room / "run.csv"
+        urls = [f"{place}={self.url(place, True)}" for place in PLACES]
+        secret = ["--ca", self.config / "ca.pem", "--token", self.config / "token"]
+        with self.samples.open("w") as samples:
+            self._beside.append(subprocess.Popen([PLOT, "sample", *secret, *urls], stdout=samples))
+
+    def _begin(self, place: int, *command: Union[str, Path], **given: object) -> subprocess.Popen:
+        """Begins a command at a host."""
+        words = {"env": self._environment, "stdin": subprocess.DEVNULL, **given}
+        return subprocess.Popen([*self.hosts.words(place), *command], **words)
 
     def make_authority(self, name: str) -> Path:
         """Makes an authority, and returns the path of its files without their endings."""
@@ -87,15 +107,15 @@ class Site:
         wanted = ["-keyout", f"{folder}/node.key", "-out", f"{folder}/node.csr", "-subj", "/CN=node"]
         _openssl("req", "-new", *wanted, *KEY)
         names = folder / "names"
-        hosts = [f"IP:{host},DNS:{host}" for host in (HOST, *HOSTS.values())]
-        names.write_text(f"subjectAltName={','.join(hosts)}\n")
+        its_names = [f"IP:{host},DNS:{host}" for host in self.hosts.ADDRESSES.values()]
+        names.write_text(f"subjectAltName={','.join(its_names)}\n")
         signed = ["-CA", f"{authority}.pem", "-CAkey", f"{authority}.key", "-CAcreateserial", "-days", "2"]
         files = ["-in", f"{folder}/node.csr", "-out", f"{folder}/node.pem", "-extfile", str(names)]
         _openssl("x509", "-req", *files, *signed)
         (folder / "ca.pem").write_bytes(authority.with_suffix(".pem").read_bytes())
-        places = ",\n".join(f'        {{{place}, "{host}"}}' for place, host in HOSTS.items())
-        settings = SYS_CONFIG.format(places=places, bits=bits, folder=folder, port=self._node_port)
-        (folder / "sys.config").write_text(settings)
+        places = ",\n".join(f'        {{{place}, "{host}"}}' for place, host in self.hosts.ADDRESSES.items())
+        settings = {"kernel": self.hosts.KERNEL, "places": places, "bits": bits, "folder": folder}
+        (folder / "sys.config").write_text(SYS_CONFIG.format(**settings))
         (folder / "ssl_dist.conf").write_text((REL / "ssl_dist.conf").read_text().replace("/etc/cluster", str(folder)))
         for secret, text in ((".erlang.cookie", cookie), ("token", self.token)):
             (folder / secret).write_text(text)
@@ -105,25 +125,26 @@ class Site:
     def disk(self, place: int) -> Path:
         return self.room / f"disk-{place}"
 
-    def port(self, place: int, is_admin: bool = False) -> int:
-        return self._ports[2 * (place - 1) + is_admin]
+    def url(self, place: int, is_admin: bool = False) -> str:
+        return f"https://{self.hosts.ADDRESSES[place]}:{self.hosts.port(place, is_admin)}"
 
     def run(
-        self, place: int, word: str, config: Optional[Path] = None, disk: Optional[Path] = None
+        self, place: int, word: str, config: Optional[Path] = None, disk: Optional[Path] = None, settings: str = ""
     ) -> subprocess.Popen:
         """Begins a command of the release."""
-        settings = f"http_port {self.port(place)} admin_port {self.port(place, True)}"
+        ports = f"http_port {self.hosts.port(place)} admin_port {self.hosts.port(place, True)}"
+        fronts = f'http_host "{self.hosts.ADDRESSES[place]}" admin_host "{self.hosts.ADDRESSES[place]}"'
         environment = {
             **self._environment,
             "CLUSTER_PLACE": str(place),
             "CLUSTER_CONFIG": str(config or self.config),
             "CLUSTER_FOLDER": str(disk or self.disk(place)),
             "CLUSTER_LOG": str(self.log_file(place)),
-            "CLUSTER_SETTINGS": settings,
+            "CLUSTER_SETTINGS": f"{ports} {fronts} {settings}",
             "CLUSTER_FLAGS": "+S 2:2 +SDcpu 2:2 +SDio 4",
         }
-        words = {"stdin": subprocess.DEVNULL, "stdout": subprocess.PIPE, "stderr": subprocess.STDOUT, "text": True}
-        return subprocess.Popen([self.program, word], env=environment, **words)
+        words = {"stdout": subprocess.PIPE, "stderr": subprocess.STDOUT, "text": True}
+        return self._begin(place, self.program, word, env=environment, **words)
 
     def done(self, place: int, word: str, **given: Path) -> Tuple[int, str]:
         """Runs a command of the release, and returns its status and what it printed."""
@@ -131,9 +152,9 @@ class Site:
         printed, _ = command.communicate(timeout=STEP_S)
         return command.returncode, printed
 
-    def start(self, places: Sequence[int]) -> None:
+    def start(self, places: Sequence[int], settings: str = "") -> None:
         """Starts nodes, and waits until they serve."""
-        commands = [self.run(place, "start") for place in places]
+        commands = [self.run(place, "start", settings=settings) for place in places]
         for command in commands:
             printed, _ = command.communicate(timeout=STEP_S)
             if command.returncode:
@@ -147,8 +168,7 @@ class Site:
 
     def node_port(self, place: int) -> int:
         """Returns the port of a node for other nodes, as epmd knows it."""
-        words = [self._epmd.args[0], "-names"]
-        names = subprocess.run(words, env=self._environment, stdout=subprocess.PIPE, text=True, check=True).stdout
+        names, _ = self._begin(place, self._epmd, "-names", stdout=subprocess.PIPE, text=True).communicate()
         return int(re.search(rf"name p{place} at port (\d+)", names)[1])
 
     def pid(self, place: int) -> int:
@@ -167,12 +187,10 @@ class Site:
         self, place: int, method: str, path: str, body: Optional[bytes] = None, is_admin: bool = False, **headers: str
     ) -> Tuple[int, Mapping[str, str], bytes]:
         """Sends a request by HTTPS, and trusts the cluster's authority alone."""
-        trust = ssl.create_default_context(cafile=self.config / "ca.pem")
         named = {name.replace("_", "-"): value for name, value in headers.items()}
-        url = f"https://{HOST}:{self.port(place, is_admin)}{path}"
-        request = urllib.request.Request(url, body, named, method=method)
+        request = urllib.request.Request(self.url(place, is_admin) + path, body, named, method=method)
         try:
-            with urllib.request.urlopen(request, timeout=STEP_S, context=trust) as answer:
+            with urllib.request.urlopen(request, timeout=STEP_S, context=self._trust()) as answer:
                 return answer.status, dict(answer.headers), answer.read()
         except urllib.error.HTTPError as answer:
             return answer.code, dict(answer.headers), answer.read()
@@ -183,16 +201,47 @@ class Site:
             raise AssertionError(f"the put was answered by {status}: {body!r}")
         return json.loads(body)
 
-    def get(self, place: int, key: str) -> Tuple[int, bytes]:
-        status, _, body = self.ask(place, "GET", f"/keys/{key}", **self.bearer())
+    def put_all(self, place: int, keys: Sequence[str]) -> None:
+        """Puts keys, each with its name as its value, over one connection."""
+        host, port = self.hosts.ADDRESSES[place], self.hosts.port(place)
+        link = http.client.HTTPSConnection(host, port, timeout=STEP_S, context=self._trust())
+        for key in keys:
+            link.request("PUT", f"/keys/{key}", key.encode(), self.bearer())
+            with link.getresponse() as answer:
+                answer.read()
+                if answer.status != 200:
+                    raise AssertionError(f"a put was answered by {answer.status}")
+        link.close()
+
+    def get(self, place: int, key: str, **headers: str) -> Tuple[int, bytes]:
+        status, _, body = self.ask(place, "GET", f"/keys/{key}", **self.bearer(), **headers)
         return status, body
+
+    def is_up(self, place: int, other: int) -> bool:
+        """Returns true if another place is up for a place."""
+        return self.metrics(place)[f'cluster_place_up{{place="{other}"}}'] == 1
+
+    def siblings(self, place: int, key: str) -> Set[str]:
+        """Returns the values that a place has itself."""
+        status, body = self.get(place, key, x_r="1")
+        if status != 300:
+            return {body.decode()}
+        return {base64.b64decode(it["value"]).decode() for it in json.loads(body)["siblings"]}
+
+    def keys(self, place: int) -> Set[str]:
+        """Returns the keys that a place has itself."""
+        dump = json.loads(self.ask(place, "GET", "/dump", is_admin=True, **self.bearer())[2])
+        return {base64.b64decode(row["key"]).decode() for range_ in dump["ranges"] for row in range_["rows"]}
+
+    def _trust(self) -> ssl.SSLContext:
+        return ssl.create_default_context(cafile=self.config / "ca.pem")
 
     def bearer(self) -> Dict[str, str]:
         return {"authorization": f"Bearer {self.token}"}
 
     def metrics(self, place: int) -> Dict[str, float]:
         """Returns the metrics of a node by name and labels."""
-        text = self.ask(place, "GET", "/metrics", is_admin=True)[2].decode()
+        text = self.ask(place, "GET", "/metrics", is_admin=True, **self.bearer())[2].decode()
         lines = [line.rsplit(" ", 1) for line in text.splitlines() if not line.startswith("#")]
         return {name: float(value) for name, value in lines}
 
@@ -203,8 +252,9 @@ class Site:
                 os.kill(self.pid(place), signal.SIGKILL)
             except (AssertionError, ProcessLookupError):
                 pass
-        self._epmd.kill()
-        self._epmd.wait()
+        for process in self._beside:
+            process.kill()
+            process.wait()
 
 
 #: Words for a key without a passphrase.
@@ -213,14 +263,6 @@ KEY = ["-newkey", "ec", "-pkeyopt", "ec_paramgen_curve:prime256v1", "-nodes"]
 
 def _openssl(*words: str) -> None:
     subprocess.run(["openssl", *words], check=True, stdout=subprocess.DEVNULL, stderr=subprocess.DEVNULL)
-
-
-def _free_ports(count: int) -> List[int]:
-    probes = [socket.create_server((HOST, 0)) for _ in range(count)]
-    ports = [probe.getsockname()[1] for probe in probes]
-    for probe in probes:
-        probe.close()
-    return ports
 
 
 def until(condition, what: str) -> None:
@@ -237,6 +279,12 @@ class Operate(unittest.TestCase):
 
     site: Site
 
+    def cable(self) -> Namespaces:
+        """Returns the hosts if their links can be cut."""
+        if isinstance(self.site.hosts, Loopback):
+            self.skipTest("loopback addresses have no links")
+        return self.site.hosts
+
     def test_1_puts_and_gets(self) -> None:
         """Any node takes a request by HTTPS with the token, and each is refused without it."""
         site = self.site
@@ -248,7 +296,7 @@ class Operate(unittest.TestCase):
         self.assertEqual(site.ask(1, "GET", "/keys/cart")[0], 401)
         self.assertEqual(site.ask(1, "GET", "/health")[0], 200)
         with self.assertRaises(urllib.error.URLError):
-            urllib.request.urlopen(f"https://{HOST}:{site.port(1)}/health", context=ssl.create_default_context())
+            urllib.request.urlopen(f"{site.url(1)}/health", context=ssl.create_default_context())
 
     def test_2_secrets(self) -> None:
         """Nobody else can read disks, nor the cookie, which is in no command line."""
@@ -271,12 +319,35 @@ class Operate(unittest.TestCase):
         before = len(site.log(1))
         os.kill(site.pid(3), signal.SIGKILL)
         until(lambda: "event down place=3" in site.log(1)[before:], "place 1 says that place 3 is down")
-        self.assertEqual(site.metrics(1)['cluster_place_up{place="3"}'], 0)
+        self.assertFalse(site.is_up(1, 3))
         site.put(1, "cup", "tea")
         site.start([3])
         until(lambda: "event up place=3" in site.log(1)[before:], "place 1 says that place 3 is up")
-        until(lambda: site.metrics(1)['cluster_place_up{place="3"}'] == 1, "it is up in the metrics")
+        until(lambda: site.is_up(1, 3), "it is up in the metrics")
         self.assertEqual(site.get(3, "cup"), (200, b"tea"))
+
+    def test_3_partition(self) -> None:
+        """Both sides of a partition take puts, and after it each host has both values."""
+        site, cable = self.site, self.cable()
+        cable.cut(3)
+        try:
+            for place, other in ((1, 3), (2, 3), (3, 1), (3, 2)):
+                with cable.inside(place):
+                    until(lambda: not site.is_up(place, other), f"place {other} is down for place {place}")
+            self.assertEqual(site.put(1, "fork", "left")["on"], [1, 2])
+            with cable.inside(3):
+                self.assertEqual(site.ask(3, "PUT", "/keys/spoon", b"one", **site.bearer())[0], 503)
+                self.assertEqual(site.put(3, "fork", "right", x_w="1")["on"], [3])
+            # (longer than it takes a node to close a connection without ticks)
+            time.sleep(TICKS_S)
+        finally:
+            cable.join(3)
+        joined = time.monotonic()
+        for place in PLACES:
+            until(lambda: site.siblings(place, "fork") == {"left", "right"}, f"place {place} has both values")
+        took = time.monotonic() - joined
+        self.assertLess(took, JOINED_S)
+        note(f"both values are at each host {took:.1f} seconds after a partition")
 
     def test_4_damage(self) -> None:
         """A damaged disk is kept aside, and a new life takes all from the others."""
@@ -348,7 +419,7 @@ class Operate(unittest.TestCase):
         site = self.site
         pid = site.pid(1)
         for text in (b"", b"GET / HTTP/1.1\r\n\r\n", secrets.token_bytes(100_000)):
-            with socket.create_connection((HOSTS[1], site.node_port(1)), STEP_S) as garbage:
+            with socket.create_connection((site.hosts.ADDRESSES[1], site.node_port(1)), STEP_S) as garbage:
                 try:
                     garbage.sendall(text)
                 except ConnectionError:
@@ -388,6 +459,45 @@ class Operate(unittest.TestCase):
         said = f"{wrong}/ssl_dist.conf names {wrong}/node.key, which can't be read\n"
         self.assertEqual(site.done(3, "foreground", config=wrong, disk=site.room / "wrong-disk"), (1, said))
 
+    def test_9_a_slow_link(self) -> None:
+        """Repair alone brings a host the keys that it missed, over a link with a delay."""
+        site, cable = self.site, self.cable()
+        if not cable.delay(3, DELAY_MS):
+            self.skipTest("the kernel has no netem")
+        # (place 3 is stopped already)
+        keys = [f"missed-{number}" for number in range(MISSED)]
+        with ThreadPoolExecutor(PUTTERS) as pool:
+            list(pool.map(lambda place: site.done(place, "stop"), (1, 2)))
+            site.start((1, 2), "handoff off")
+            list(pool.map(lambda first: site.put_all(1 + first % 2, keys[first::PUTTERS]), range(PUTTERS)))
+        begun = time.monotonic()
+        site.start([3])
+        until(lambda: site.keys(3).issuperset(keys), "place 3 has all keys")
+        note(f"{MISSED} keys came over a link with a delay of {DELAY_MS} ms in {time.monotonic() - begun:.1f} seconds")
+        # (a round counts at its end)
+        until(lambda: site.metrics(3).get("cluster_repair_keys_total", 0) >= MISSED, "repair alone brought them")
+
+    def test_9_plot(self) -> None:
+        """The samples of this run, and their plot, have each series of each place."""
+        with self.site.samples.open() as samples:
+            lines = list(csv.DictReader(samples))
+        names = ["puts", "gets", "refusals", "put_p99_ms", "get_p99_ms", "repair_bytes", "hints"]
+        self.assertEqual(list(lines[0]), ["time", "place", *names])
+        for place in PLACES:
+            states = " ".join("up" if line["puts"] else "down" for line in lines if line["place"] == str(place))
+            # (place 3 was stopped)
+            self.assertRegex(states, "up.* down" if place == 3 else "up")
+        most = {name: max(float(line[name] or 0) for line in lines) for name in names}
+        self.assertTrue(all(most[name] > 0 for name in names if name != "refusals"), most)
+        drawn = subprocess.run([PLOT, "draw", self.site.samples], stdout=subprocess.PIPE, text=True, check=True).stdout
+        svg = "{http://www.w3.org/2000/svg}"
+        panels = xml.etree.ElementTree.fromstring(drawn).findall(f"{svg}g")
+        self.assertEqual([panel.get("id") for panel in panels], names)
+        for panel in panels:
+            lines_of = {line.findtext(f"{svg}title"): line.get("d") for line in panel.findall(f"{svg}path[@stroke]")}
+            self.assertEqual(list(lines_of), [f"place {place}" for place in PLACES])
+            self.assertTrue(all(lines_of.values()) or panel.get("id").endswith("ms"))
+
     def test_9_stop(self) -> None:
         """A node that is stopped ends, and can be stopped again."""
         site = self.site
@@ -397,22 +507,35 @@ class Operate(unittest.TestCase):
         self.assertEqual(site.done(1, "stop"), (0, ""))
 
 
-def main(out: Path) -> int:
+def note(text: str) -> None:
+    print(f"note: {text}", flush=True)
+
+
+def main(out: Path, is_inside: bool) -> int:
     """Runs the steps, and prints those that failed."""
+    if not is_inside:
+        why = hosts.why_not()
+        if why is None:
+            return hosts.run_inside()
+        note(f"no network namespaces: {why}")
+    its_hosts = Namespaces() if is_inside else Loopback()
+    note(f"hosts are {its_hosts.NAME}")
     with tempfile.TemporaryDirectory() as room:
-        Operate.site = Site(out, Path(room))
+        Operate.site = Site(out, Path(room), its_hosts)
         try:
             suite = unittest.defaultTestLoader.loadTestsFromTestCase(Operate)
-            result = unittest.TextTestRunner(stream=sys.stderr, failfast=True).run(suite)
+            result = unittest.TextTestRunner(stream=sys.stderr, verbosity=0, failfast=True).run(suite)
             if not result.wasSuccessful():
                 for log in sorted(Path(room).glob("log-*")):
                     print(f"{log}:\n{log.read_text()[-3000:]}", file=sys.stderr)
         finally:
             Operate.site.end()
+    for step, why in result.skipped:
+        note(f"{step.id().split('.')[-1]} is skipped: {why}")
     failed = len(result.failures) + len(result.errors)
-    print(f"{result.testsRun - failed} passed, {failed} failed")
+    print(f"{result.testsRun - failed - len(result.skipped)} passed, {failed} failed")
     return 1 if failed else 0
 
 
 if __name__ == "__main__":
-    sys.exit(main(Path(sys.argv[1])))
+    sys.exit(main(Path(sys.argv[1]), hosts.INSIDE in sys.argv))
