@@ -29,14 +29,25 @@ handed_on_test_() ->
         {"bad input", [{refused, bad_value}, puts], {refused, bad_value}, []}
     ],
     [
-        {Name,
-            as_place(4, fun hold/4, fun() ->
-                ?assertEqual(Outcome, put_with(<<"value">>, Deeds)),
-                timer:sleep(150),
-                ?assertEqual(Places, places(<<"value">>))
-            end)}
+        {Name, as_place(4, fun hold/4, fun() -> handed_on(Deeds, {Outcome, Places}, 3) end)}
      || {Name, Deeds, Outcome, Places} <- Cases
     ].
+
+%% A busy machine may be later than a holder that is late. Then the put is tried again, if its answer is true.
+handed_on(Deeds, Wanted, Tries) ->
+    true = ets:delete_all_objects(cluster_patience),
+    Value = integer_to_binary(Tries),
+    Outcome = put_with(Value, Deeds),
+    timer:sleep(150),
+    case {Outcome, places(Value)} of
+        Wanted ->
+            ok;
+        {_, Places} when Tries > 1 ->
+            ?assert(is_true(Outcome, Places)),
+            handed_on(Deeds, Wanted, Tries - 1);
+        Other ->
+            ?assertEqual(Wanted, Other)
+    end.
 
 %% Whatever happens to each of many puts at once, none is done twice, and each has a true answer.
 at_most_once_test_() ->
