@@ -3,7 +3,10 @@ package antientropy
 // #include <antientropy.h>
 import "C"
 
-import "runtime"
+import (
+	"runtime"
+	"sync"
+)
 
 // Bounds are the bounds of an exchange.
 type Bounds struct {
@@ -87,7 +90,7 @@ type Progress struct {
 // renewal or a migration ends it.
 //
 // It has the lock of its replica. After [Exchange.Close] its calls are refused as [ErrEmpty]. A copy is the same
-// exchange.
+// exchange. One that is only collected is closed when its replica opens the next one, or by [Replica.DropSessions].
 type Exchange struct {
 	at *exchange
 }
@@ -108,8 +111,43 @@ func (r *Replica) Exchange(partner uint16, offer []byte, bounds Bounds) (*Exchan
 	})
 }
 
-// exchange opens an exchange at the moment that the replica keeps. The garbage collector closes it, once no copy is
-// used. The caller holds the lock.
+// An orphans has the exchanges of a replica that were collected, and not closed. It has a lock of its own, since the
+// garbage collector doesn't wait for that of the replica.
+type orphans struct {
+	lock    sync.Mutex
+	handles []C.struct_antientropy_exchange
+}
+
+// add adds an exchange.
+func (o *orphans) add(handle C.struct_antientropy_exchange) {
+	o.lock.Lock()
+	defer o.lock.Unlock()
+	o.handles = append(o.handles, handle)
+}
+
+// take returns all, and keeps none.
+func (o *orphans) take() []C.struct_antientropy_exchange {
+	o.lock.Lock()
+	defer o.lock.Unlock()
+	handles := o.handles
+	o.handles = nil
+	return handles
+}
+
+// closeOrphans closes the exchanges that were collected. The caller holds the lock.
+func (r *replica) closeOrphans() {
+	handles := r.orphans.take()
+	for i := range handles {
+		C.antientropy_exchange_close(&handles[i], &r.handle)
+		C.antientropy_exchange_free(&handles[i])
+	}
+	if len(handles) > 0 {
+		C.antientropy_drop_sessions(&r.handle)
+	}
+}
+
+// exchange opens an exchange at the moment that the replica keeps. The garbage collector leaves it to the replica, once
+// no copy is used. The caller holds the lock.
 func (r *replica) exchange(partner uint16, offer []byte, bounds Bounds) (*Exchange, error) {
 	within := C.struct_antientropy_bounds{
 		asks:  C.uint64_t(bounds.Asks),
@@ -118,13 +156,21 @@ func (r *replica) exchange(partner uint16, offer []byte, bounds Bounds) (*Exchan
 		lost:  C.uint64_t(bounds.Lost),
 	}
 	made := &exchange{replica: r}
+	r.closeOrphans()
 	number := C.antientropy_exchange_open(&r.handle, &made.handle, C.uint64_t(partner), bytesAt(offer),
 		C.size_t(len(offer)), &within)
 	if err := check(number); err != nil {
 		return nil, err
 	}
-	runtime.SetFinalizer(made, (*exchange).close)
+	runtime.SetFinalizer(made, (*exchange).leave)
 	return &Exchange{made}, nil
+}
+
+// leave leaves an exchange that isn't closed to its replica.
+func (e *exchange) leave() {
+	if e.handle.held {
+		e.replica.orphans.add(e.handle)
+	}
 }
 
 // locked takes the lock, which its caller gives back. An exchange that no call made holds nothing.

@@ -3,7 +3,9 @@ package antientropy_test
 import (
 	"bytes"
 	"fmt"
+	"runtime"
 	"testing"
+	"time"
 
 	"antientropy"
 )
@@ -73,6 +75,20 @@ func TestBytesOfSessions(t *testing.T) {
 	check(exchange.Close())
 	size.Sessions = 0
 	equal(t, must(r.Bytes()), size)
+}
+
+// The collector changes no replica: the next exchange of a replica closes those that were collected.
+func TestCollectedExchanges(t *testing.T) {
+	_, offer := offered()
+	r := newReplica()
+	for n := 0; n < 100; n++ {
+		opened(r, offer)
+		for must(r.Count()).OpenSessions > 32 { // at most 64 may be open
+			runtime.GC()
+			time.Sleep(time.Millisecond)
+			check(r.DropSessions())
+		}
+	}
 }
 
 // crowdedPair returns a replica that lacks 20 keys of a partner's, and the leaf of another key, which is crowded

@@ -118,7 +118,8 @@ func TestEachLockIsHeldToTheEnd(t *testing.T) {
 		held := regexp.MustCompile(`held := \S+\.`+take+`\(\)\n\s+defer held\.lock\.`+give+`\(\)`).FindAllString(source, -1)
 		equal(t, []any{len(locks) > 25, len(held)}, []any{true, len(locks)})
 	}
-	equal(t, []int{strings.Count(source, ".Lock()"), strings.Count(source, ".RLock()")}, []int{5, 2})
+	// five handles, and two methods of orphans
+	equal(t, []int{strings.Count(source, ".Lock()"), strings.Count(source, ".RLock()")}, []int{5 + 2, 2})
 }
 
 func TestEnumsOfTheHeader(t *testing.T) {

@@ -25,8 +25,9 @@ type Replica struct {
 
 // A replica is what a [Replica] and its copies share.
 type replica struct {
-	lock   sync.RWMutex // goroutines read at once
-	handle C.struct_antientropy_replica
+	lock    sync.RWMutex // goroutines read at once
+	handle  C.struct_antientropy_replica
+	orphans orphans
 }
 
 // Counts are the counts of a replica.
@@ -121,6 +122,7 @@ func (r *replica) owned() *Replica {
 func (r *replica) close() {
 	held := r.locked()
 	defer held.lock.Unlock()
+	held.closeOrphans()
 	C.antientropy_free(&held.handle)
 }
 
@@ -159,6 +161,7 @@ func (r *Replica) Migrate() error {
 func (r *Replica) DropSessions() error {
 	held := r.at.locked()
 	defer held.lock.Unlock()
+	held.closeOrphans()
 	return check(C.antientropy_drop_sessions(&held.handle))
 }
 
