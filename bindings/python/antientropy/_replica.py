@@ -81,11 +81,13 @@ class Replica(Rows):
             self._free_call(self._at)
 
     def _close_orphans_held(self) -> None:
+        if not self._orphans:
+            return
         while self._orphans:
             orphan = byref(self._orphans.pop())
             self._library.exchange_close(orphan, self._at)
             self._library.exchange_free(orphan)
-            self._library.drop_sessions(self._at)
+        self._library.drop_sessions(self._at)
 
     def renew(self, limit: int = _LIMIT) -> Replica:
         """Returns a new replica with the versions that are held: one entry for each, and no sessions.
