@@ -1,0 +1,10 @@
+pub mod PartLaws
+pub mod PlaceLaws
+pub mod MessageLaws
+pub mod StepLaws
+pub mod ReadLaws
+pub mod WayLaws
+pub mod RebuildLaws
+pub mod RunLaws
+pub mod LengthLaws
+pub mod TrueLaws

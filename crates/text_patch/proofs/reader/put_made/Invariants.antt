@@ -1,0 +1,9 @@
+use Rattle.std.proofs.Common.{◌≡◌, ◌++◌, ℕ, List, length}
+use Rattle.text_patch.proofs.WayLaws.{IsOnTheWay}
+use Rattle.text_patch.proofs.reader.put_made.Given as goal
+
+abbrev pub invariant-steps : goal.invariant-steps
+invariant-steps l = (done : List ℕ) × IsOnTheWay l.parts l.from l.rest l.steps done × (l.out.items ≡ l.initial.out.items ++ done)
+
+abbrev pub decreases-steps : goal.decreases-steps
+decreases-steps l = length l.rest

@@ -1,0 +1,5 @@
+pub mod Parts
+pub mod Marks
+pub mod Steps
+pub mod Patches
+pub mod Messages

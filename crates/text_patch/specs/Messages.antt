@@ -1,0 +1,28 @@
+-- The bytes of outlines and patches: this project's profile. Numbers have their highest byte first.
+use Rattle.std.specs.Prelude.{◌≡◌, ◌<◌, ◌^◌, ℕ, List, ◌∷◌, ◌++◌, length}
+use Rattle.std.specs.Int.{w32, w64, to_be_bytes}
+use Rattle.tree_nodes.specs.Nodes.{IsNode}
+use Rattle.walk_messages.specs.Messages.{node_bytes}
+use Rattle.walk_messages.specs.declared.message.Ask.{Ask}
+use Rattle.text_patch.specs.Marks.{MarkList, AreMarks}
+
+-- an ask with the marks of the parts that the asker has
+unfoldable pub outline_text : Ask → MarkList → List ℕ
+outline_text a m = 4 ∷ to_be_bytes w32 a.offer ++ node_bytes a.node ++ m.width ∷ to_be_bytes w32 m.count ++ m.bytes
+
+-- an answer to it
+unfoldable pub patch_text : Ask → List ℕ → List ℕ
+patch_text a steps = 5 ∷ to_be_bytes w32 a.offer ++ node_bytes a.node ++ to_be_bytes w64 (length steps) ++ steps
+
+-- the number of the offer has its width, and the node is one of a tree
+pub record IsHead (a : Ask) : Type 0 where
+  pub number : a.offer < 2 ^ 32
+  pub node : IsNode 3 a.node
+
+-- the bytes are those of an outline
+abbrev pub IsOutlineOf : List ℕ → Ask → MarkList → Type 0
+IsOutlineOf bytes a m = IsHead a × AreMarks m × (outline_text a m ≡ bytes)
+
+-- the bytes are those of a patch
+abbrev pub IsPatchOf : List ℕ → Ask → List ℕ → Type 0
+IsPatchOf bytes a steps = IsHead a × (patch_text a steps ≡ bytes)
