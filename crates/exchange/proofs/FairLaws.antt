@@ -7,7 +7,7 @@ use Rattle.exchange.specs.declared.standing.Standing.{Standing}
 use Rattle.exchange.specs.declared.standing.Standing.TheVariants.{Unasked, OnWay, Lost, Left, Settled}
 use Rattle.exchange.specs.declared.report.End.{End}
 use Rattle.exchange.specs.Standings.{is_on_way, is_asked, is_lost, standing_of, may_ask, may_take, is_sent}
-use Rattle.exchange.specs.Courses.{Course, IsFair, is_over, with_lost, gone_on}
+use Rattle.exchange.specs.Courses.{Course, IsFair, is_over, with_lost, retracted, gone_on}
 use Rattle.exchange.specs.Asks.{after_ask}
 use Rattle.exchange.specs.Answers.{with_bad, at_node, after_wrong, after_refused, after_taken, stop_by}
 use Rattle.range_state.specs.declared.event.AnswerTaken.{AnswerTaken}
@@ -36,6 +36,7 @@ fair_ask x n Unasked bytes fair going stop at may =
       bad = fair.bad;
       lost = omega (arith, m.len, fair.lost);
       refused = omega (arith, m.ways_most, fair.going stop);
+      sent = omega (arith, m.way, fair.sent);
       going = λ _. fair.going stop;
     }
 fair_ask x n Lost bytes fair going stop at may =
@@ -47,6 +48,7 @@ fair_ask x n Lost bytes fair going stop at may =
       bad = fair.bad;
       lost = omega (arith, m.len, fair.lost);
       refused = omega (arith, m.ways_most, fair.going stop);
+      sent = omega (arith, m.way, fair.sent);
       going = λ _. fair.going stop;
     }
 fair_ask x n (OnWay b) bytes fair going stop at may = absurd (cc)
@@ -85,6 +87,7 @@ fair_end x n (OnWay bytes) b fair at may ends =
       bad = fair.bad;
       lost = omega (arith, m.len, fair.lost);
       refused = omega (arith, m.way, m.len, fair.refused, way);
+      sent = omega (arith, m.way, way, fair.sent);
       going = fair.going;
     }
 fair_end x n Lost b fair at may ends =
@@ -97,6 +100,7 @@ fair_end x n Lost b fair at may ends =
       bad = fair.bad;
       lost = omega (arith, m.len, fair.lost);
       refused = omega (arith, m.way, m.len, fair.refused, way);
+      sent = omega (arith, m.way, way, fair.sent);
       going = fair.going;
     }
 fair_end x n Unasked b fair at may ends = absurd (cc)
@@ -113,11 +117,11 @@ fair_ended x n b fair may ends = by (standing_of x.standings n) refl may
 
 -- a session has failed
 pub fair_failed : (x : Course) (e : Option End) → IsFair x → IsFair (record x { end = e })
-fair_failed x e fair = record { nodes = fair.nodes; again = fair.again; most = fair.most; bad = fair.bad; lost = fair.lost; refused = fair.refused; going = fair.going }
+fair_failed x e fair = record { nodes = fair.nodes; again = fair.again; most = fair.most; bad = fair.bad; lost = fair.lost; refused = fair.refused; sent = fair.sent; going = fair.going }
 
 -- one more bad answer
 pub fair_bad : (x : Course) → IsFair x → Goes x → IsFair (with_bad x)
-fair_bad x fair going = record { nodes = fair.nodes; again = omega (arith, fair.again); most = fair.most; bad = omega (arith, going.bad); lost = fair.lost; refused = fair.refused; going = fair.going }
+fair_bad x fair going = record { nodes = fair.nodes; again = omega (arith, fair.again); most = fair.most; bad = omega (arith, going.bad); lost = fair.lost; refused = fair.refused; sent = fair.sent; going = fair.going }
 
 -- an answer of another digest
 pub fair_wrong : (x : Course) (n : Node) → IsFair x → Goes x → IsFair (after_wrong x n)
@@ -130,6 +134,7 @@ fair_wrong x n fair going =
       bad = omega (arith, going.bad);
       lost = omega (arith, l.len, fair.lost);
       refused = omega (arith, l.way, l.len, fair.refused);
+      sent = omega (arith, l.way, fair.sent);
       going = fair.going;
     }
 
@@ -144,13 +149,35 @@ fair_lost x n fair going =
       bad = fair.bad;
       lost = omega (arith, l.len, going.lost);
       refused = omega (arith, l.way, l.len, fair.refused);
+      sent = omega (arith, l.way, fair.sent);
       going = fair.going;
     }
+
+-- the ask for a node was taken back, that was on its way
+pub fair_retracted : (x : Course) (n : Node) → IsFair x → is_sent (standing_of x.standings n) ≡ true → IsFair (retracted x n)
+fair_retracted x n fair sent =
+    let l = losing x.standings n in let way : one (is_sent (standing_of x.standings n)) ≡ 1 = ap one sent in
+    record {
+      nodes = omega (arith, l.len, fair.nodes);
+      again = omega (arith, l.asked, l.lost, l.way, fair.again, fair.sent, way);
+      most = omega (arith, l.len, fair.most);
+      bad = fair.bad;
+      lost = omega (arith, l.len, fair.lost);
+      refused = omega (arith, l.way, l.len, fair.refused);
+      sent = omega (arith, l.way, fair.sent, way);
+      going = fair.going;
+    }
+
+-- there is one
+pub retractable : (x : Course) (n : Node) → IsFair x → is_sent (standing_of x.standings n) ≡ true → 1 ≤ x.tally.asks
+retractable x n fair sent =
+    let l = losing x.standings n in let way : one (is_sent (standing_of x.standings n)) ≡ 1 = ap one sent in
+    omega (arith, l.way, fair.sent, way)
 
 -- asks are sent again
 pub fair_on : (x : Course) → IsFair x → Goes x → IsFair (gone_on x)
 fair_on x fair going =
-    record { nodes = fair.nodes; again = omega (arith, fair.again); most = fair.most; bad = fair.bad; lost = omega (arith, going.lost, fair.refused); refused = omega (arith, fair.refused); going = λ _. refl }
+    record { nodes = fair.nodes; again = omega (arith, fair.again); most = fair.most; bad = fair.bad; lost = omega (arith, going.lost, fair.refused); refused = omega (arith, fair.refused); sent = fair.sent; going = λ _. refl }
 
 stopped : (s : Option Stop) (cause : Stop) → stop_by s cause ≡ None → ⊥
 stopped None cause e = absurd (cc)
@@ -167,6 +194,7 @@ fair_refused x n cause fair =
       bad = fair.bad;
       lost = omega (arith, l.len, fair.lost);
       refused = omega (arith, l.way, l.len, fair.refused, few);
+      sent = omega (arith, l.way, fair.sent);
       going = λ none. absurd (stopped x.stop cause none);
     }
 
@@ -174,4 +202,4 @@ fair_refused x n cause fair =
 pub fair_taken : (x : Course) (n : Node) (leaf : Bool) (len : ℕ) (taken : AnswerTaken) → IsFair x → may_take (standing_of x.standings n) ≡ true → IsFair (after_taken x n leaf len taken)
 fair_taken x n leaf len taken fair may =
     let f = fair_ended x n Settled fair may settled in
-    record { nodes = f.nodes; again = f.again; most = f.most; bad = f.bad; lost = f.lost; refused = f.refused; going = f.going }
+    record { nodes = f.nodes; again = f.again; most = f.most; bad = f.bad; lost = f.lost; refused = f.refused; sent = f.sent; going = f.going }

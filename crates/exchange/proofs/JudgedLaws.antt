@@ -1,9 +1,9 @@
 -- What a verdict says of the session.
-use Rattle.std.proofs.Common.{◌≡◌, ◌<◌, ℕ, List, length, set, Bool, refl, sym, subst, ap, ◌∙◌}
+use Rattle.std.proofs.Common.{◌≡◌, ◌<◌, ℕ, List, length, set, Bool, true, false, refl, sym, subst, ap, ◌∙◌}
 use Rattle.std.proofs.lemmas.List.{length-set, get_or-set_same}
 use Rattle.std.proofs.lemmas.Option.{slice_get_within, slice_get-get_or}
 use Rattle.std.proofs.Common.{inl, inr}
-use Rattle.std.specs.Prelude.{slice_get, Option, Some, None, Result, Ok, Err}
+use Rattle.std.specs.Prelude.{slice_get, Option, Some, None, Result, Ok, Err, if◌then◌else◌}
 use Rattle.vclock.specs.declared.refusal.Refusal.{Refusal}
 use Rattle.vclock.specs.declared.refusal.Refusal.TheVariants as refusals
 use Rattle.tree_nodes.specs.Nodes.{Node}
@@ -24,7 +24,7 @@ use Rattle.exchange.specs.declared.report.End.TheVariants as ends
 use Rattle.exchange.specs.declared.verdict.Verdict.{Verdict}
 use Rattle.exchange.specs.Courses.{Course}
 use Rattle.exchange.specs.Answers.{judged, end_by}
-use Rattle.exchange.specs.Exchanges.{IsJudged}
+use Rattle.exchange.specs.Exchanges.{IsJudged, awaits, concluded, judged_in, judged_outline}
 
 -- the record at a place, when its session has walked on
 walked_at : (records : List Record) (place : ℕ) (r u : Record) → slice_get records place ≡ Some r → slice_get (set records place u) place ≡ Some u
@@ -55,11 +55,25 @@ finished_said x n leaf len (Err refusals.JournalFull) before e = absurd (cc)
 finished_said x n leaf len (Err refusals.NoMemory) before e = absurd (cc)
 finished_said x n leaf len (Err other) before e = absurd (cc)
 
-pub finished_with : (x y : Exchange) (c : Course) (s t : State) (seat : ℕ) (r : Record) (a : Answer) (v : Verdict) → slice_get s.records (place_of x.session s.records) ≡ Some r → IsJudged x c s seat r a v y t → c.end ≡ None → y.course.end ≡ Some ends.Finished → (u : Record) × (slice_get t.records (place_of x.session s.records) ≡ Some u) × (u.session.state ≡ states.Finished)
-finished_with x y c s t seat r a v there j before finished =
+-- the same of the exchange
+finished_in : (x : Exchange) (n : Node) (leaf : Bool) (len : ℕ) (said : Result AnswerTaken Refusal) → x.course.end ≡ None → (concluded x n leaf len said).1.course.end ≡ Some ends.Finished → (taken : AnswerTaken) × (said ≡ Ok taken) × (taken.state ≡ states.Finished)
+finished_in x n leaf len said before e = by (awaits x n) said e
+  where
+    of_outline : (said : Result AnswerTaken Refusal) → (judged_outline x n leaf len said).1.course.end ≡ Some ends.Finished → (taken : AnswerTaken) × (said ≡ Ok taken) × (taken.state ≡ states.Finished)
+    of_outline (Ok taken) e = finished_said x.course n leaf len (Ok taken) before e
+    of_outline (Err refusals.WrongDigest) e = absurd (cc)
+    of_outline (Err refusals.BadMessage) e = absurd (cc)
+    of_outline (Err other) e = finished_said x.course n leaf len (Err other) before e
+
+    by : (b : Bool) (said : Result AnswerTaken Refusal) → (if b then judged_outline x n leaf len said else judged_in x n leaf len said).1.course.end ≡ Some ends.Finished → (taken : AnswerTaken) × (said ≡ Ok taken) × (taken.state ≡ states.Finished)
+    by true said e = of_outline said e
+    by false said e = finished_said x.course n leaf len said before e
+
+pub finished_with : (x y : Exchange) (s t : State) (seat : ℕ) (r : Record) (a : Answer) (v : Verdict) → slice_get s.records (place_of x.session s.records) ≡ Some r → IsJudged x s seat r a v y t → x.course.end ≡ None → y.course.end ≡ Some ends.Finished → (u : Record) × (slice_get t.records (place_of x.session s.records) ≡ Some u) × (u.session.state ≡ states.Finished)
+finished_with x y s t seat r a v there j before finished =
     let text : TakenText = record { node = a.node; text = a.text } in
     let place = place_of x.session s.records in
-    let ok = finished_said c a.node (is_leaf r.session.own a.node) (length a.text) j.said before (ap (λ (e : Exchange). e.course.end) (sym j.course) ∙ finished) in
+    let ok = finished_in x a.node (is_leaf r.session.own a.node) (length a.text) j.said before (ap (λ (e : Exchange). e.course.end) (sym j.exchange) ∙ finished) in
     elim j.takes [
       | inl none ↦ absurd (cc)
       | inr takes ↦

@@ -6,3 +6,6 @@ pub mod TrueLaws
 pub mod EstimateLaws
 pub mod JudgedLaws
 pub mod DryLaws
+pub mod OpenLaws
+pub mod OutlineLaws
+pub mod OnceLaws

@@ -16,8 +16,8 @@ use Rattle.exchange.specs.declared.exchange.Exchange.{Exchange}
 use Rattle.exchange.specs.Standings.{standing_of, may_take, was_asked}
 use Rattle.exchange.specs.Courses.{Course}
 use Rattle.exchange.specs.Asks.{is_leaf}
-use Rattle.exchange.specs.Answers.{Sorted, sorted, sorted_at, with_bad, IsDueBy, IsVerdictBy, IsRead, judged}
-use Rattle.exchange.specs.Exchanges.{on, going_in, TakesText, TakesFor, TakesSorted, Takes}
+use Rattle.exchange.specs.Answers.{Sorted, sorted, sorted_at, with_bad, IsDueBy, IsVerdictBy, IsRead}
+use Rattle.exchange.specs.Exchanges.{on, going_in, concluded, TakesText, TakesFor, TakesSorted}
 
 -- an answer of another offer
 pub sorts_other : (x : Course) (a : Answer) → nat_eq a.offer x.offer.offer ≡ false → IsVerdictBy (sorted x (Some a)) verdicts.Late x
@@ -76,16 +76,16 @@ sorted_may x y None parts is = absurd is
 sorted_may x y (Some a) parts is = ours_may x y a parts (nat_eq a.offer x.offer.offer) is
 
 -- an answer that is due is taken
-takes_sorted : (x : Exchange) (s t : State) (seat : ℕ) (r : Record) (p : Sorted × Course) (parts : Node × List ℕ) (y z : Course) (leaf : Bool) (said : Result AnswerTaken Refusal) (v : Verdict) → IsDueBy p parts y → TakesText s seat x.session (record { node = parts.0; text = parts.1 }) said t → leaf ≡ is_leaf r.session.own parts.0 → v ≡ (judged y parts.0 leaf (length parts.1) said).0 → z ≡ (judged y parts.0 leaf (length parts.1) said).1 → TakesSorted x s seat r p v (on x z) t
-takes_sorted x s t seat r (Ok a, c) parts y z leaf said v due takes leaf_is verdict counts = record {
+takes_sorted : (x z : Exchange) (s t : State) (seat : ℕ) (r : Record) (p : Sorted × Course) (parts : Node × List ℕ) (y : Course) (leaf : Bool) (said : Result AnswerTaken Refusal) (v : Verdict) → IsDueBy p parts y → TakesText s seat x.session (record { node = parts.0; text = parts.1 }) said t → leaf ≡ is_leaf r.session.own parts.0 → v ≡ (concluded (on x y) parts.0 leaf (length parts.1) said).0 → z ≡ (concluded (on x y) parts.0 leaf (length parts.1) said).1 → TakesSorted x s seat r p v z t
+takes_sorted x z s t seat r (Ok a, c) parts y leaf said v due takes leaf_is verdict exchange = record {
   said = said;
   takes = subst (λ (q : Node × List ℕ). TakesText s seat x.session (record { node = q.0; text = q.1 }) said t) due.0 takes;
-  verdict = verdict ∙ (ap (λ l. (judged y parts.0 l (length parts.1) said).0) leaf_is ∙ (λ i. (judged (due.1 i) (due.0 i).0 (is_leaf r.session.own (due.0 i).0) (length (due.0 i).1) said).0));
-  course = ap (on x) (counts ∙ (ap (λ l. (judged y parts.0 l (length parts.1) said).1) leaf_is ∙ (λ i. (judged (due.1 i) (due.0 i).0 (is_leaf r.session.own (due.0 i).0) (length (due.0 i).1) said).1)));
+  verdict = verdict ∙ (ap (λ l. (concluded (on x y) parts.0 l (length parts.1) said).0) leaf_is ∙ (λ i. (concluded (on x (due.1 i)) (due.0 i).0 (is_leaf r.session.own (due.0 i).0) (length (due.0 i).1) said).0));
+  exchange = exchange ∙ (ap (λ l. (concluded (on x y) parts.0 l (length parts.1) said).1) leaf_is ∙ (λ i. (concluded (on x (due.1 i)) (due.0 i).0 (is_leaf r.session.own (due.0 i).0) (length (due.0 i).1) said).1));
 }
-takes_sorted x s t seat r (Err w, c) parts y z leaf said v due takes leaf_is verdict counts = absurd due
+takes_sorted x z s t seat r (Err w, c) parts y leaf said v due takes leaf_is verdict exchange = absurd due
 
-pub takes_due : (x : Exchange) (s t : State) (seat : ℕ) (bytes : List ℕ) (r : Record) (read : Option Answer) (parts : Node × List ℕ) (y z : Course) (leaf : Bool) (said : Result AnswerTaken Refusal) (v : Verdict) → going_in x s ≡ Some r → IsRead bytes read → IsDueBy (sorted x.course read) parts y → TakesText s seat x.session (record { node = parts.0; text = parts.1 }) said t → leaf ≡ is_leaf r.session.own parts.0 → v ≡ (judged y parts.0 leaf (length parts.1) said).0 → z ≡ (judged y parts.0 leaf (length parts.1) said).1 → Takes x s seat bytes v (on x z) t
-takes_due x s t seat bytes r read parts y z leaf said v going is due takes leaf_is verdict counts =
-    subst (λ (o : Option Record). TakesFor x s seat bytes o v (on x z) t) (sym going)
-    (record { read = read; is = is; taken = takes_sorted x s t seat r (sorted x.course read) parts y z leaf said v due takes leaf_is verdict counts })
+pub takes_due : (x z : Exchange) (s t : State) (seat : ℕ) (bytes : List ℕ) (r : Record) (read : Option Answer) (parts : Node × List ℕ) (y : Course) (leaf : Bool) (said : Result AnswerTaken Refusal) (v : Verdict) → going_in x s ≡ Some r → IsRead bytes read → IsDueBy (sorted x.course read) parts y → TakesText s seat x.session (record { node = parts.0; text = parts.1 }) said t → leaf ≡ is_leaf r.session.own parts.0 → v ≡ (concluded (on x y) parts.0 leaf (length parts.1) said).0 → z ≡ (concluded (on x y) parts.0 leaf (length parts.1) said).1 → TakesFor x s seat bytes (going_in x s) v z t
+takes_due x z s t seat bytes r read parts y leaf said v going is due takes leaf_is verdict exchange =
+    subst (λ (o : Option Record). TakesFor x s seat bytes o v z t) (sym going)
+    (record { read = read; is = is; taken = takes_sorted x z s t seat r (sorted x.course read) parts y leaf said v due takes leaf_is verdict exchange })

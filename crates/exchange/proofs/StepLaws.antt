@@ -26,9 +26,9 @@ use Rattle.exchange.specs.Standings.{is_on_way, is_lost, standing_of, may_ask, m
 use Rattle.exchange.specs.Courses.{Course, IsFair, is_over, unasked, with_lost, after_loss, gone_on, after_go_on, closed_end}
 use Rattle.exchange.specs.Asks.{next_in, fitting, has_room, estimate, is_leaf, after_ask}
 use Rattle.exchange.specs.Answers.{sorted, sorted_at, with_bad, judged}
-use Rattle.exchange.specs.Steps.{Step, Asks, Loses, GoesOn, Closes, Sorts, Judges, after, May, MayAll, after_all, at_start}
+use Rattle.exchange.specs.Steps.{Step, Asks, Loses, Retracts, GoesOn, Closes, Sorts, Judges, after, May, MayAll, after_all, at_start}
 use Rattle.exchange.proofs.StandingLaws.{one, losing, first_may}
-use Rattle.exchange.proofs.FairLaws.{goes, fair_asked, fair_ended, fair_failed, fair_bad, fair_wrong, fair_lost, fair_on, fair_refused, fair_taken, settled, left}
+use Rattle.exchange.proofs.FairLaws.{goes, fair_asked, fair_ended, fair_failed, fair_bad, fair_wrong, fair_lost, fair_retracted, fair_on, fair_refused, fair_taken, settled, left}
 
 -- the node of the next ask may be asked, and asks go on
 pub record IsNext (x : Course) (n : Node) : Type 0 where
@@ -132,6 +132,7 @@ follow_judged x n leaf len (Err e) fair over may = same x fair
 pub follow : (x : Course) (step : Step) → IsFair x → May x step → Follows x (after x step)
 follow x (Asks w) fair may = follow_ask x w fair
 follow x (Loses n) fair may = follow_loss x n fair
+follow x (Retracts n) fair may = record { fair = fair_retracted x n fair may; bounds = refl; nodes = (losing x.standings n).len }
 follow x GoesOn fair may = follow_on x fair
 follow x Closes fair may = record { fair = fair_failed x (closed_end x.end) fair; bounds = refl; nodes = refl }
 follow x (Sorts read) fair may = follow_sorted x read fair may
@@ -163,6 +164,7 @@ at_start_fair offer bounds f =
       bad = omega arith;
       lost = omega arith;
       refused = omega (arith, way);
+      sent = omega (arith, way);
       going = λ _. refl;
     }
 

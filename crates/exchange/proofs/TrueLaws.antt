@@ -1,7 +1,7 @@
 -- With a true partner, only nodes at which the trees differ are asked.
-use Rattle.std.proofs.Common.{◌≡◌, ℕ, ◌+◌, ◌≤◌, List, [], ◌∷◌, zero, suc, length, set, Bool, true, false, not, refl, ap, sym, subst, ◌∙◌, arith}
+use Rattle.std.proofs.Common.{◌≡◌, ℕ, ◌+◌, ◌≤◌, List, [], ◌∷◌, zero, suc, length, set, Bool, true, false, not, refl, ap, subst, arith}
 use Rattle.std.specs.Prelude.{nat_eq, Option, Some, None, slice_get, Result, Ok, Err, if◌then◌else◌}
-use Rattle.std.specs.List.{sum_by, count_by}
+use Rattle.std.specs.List.{count_by}
 use Rattle.std.proofs.lemmas.List.Sums.{sum_by-cons, sum_by-le-sum_by, count_by-le-length}
 use Rattle.std.proofs.lemmas.Option.{same_Some}
 use Rattle.vclock.specs.declared.refusal.Refusal.{Refusal}
@@ -23,10 +23,10 @@ use Rattle.exchange.specs.declared.verdict.Verdict.TheVariants as verdicts
 use Rattle.exchange.specs.Standings.{is_asked, standing_of, with_standing, was_asked, may_ask, may_take, is_sent, lost_in, first_askable}
 use Rattle.exchange.specs.Courses.{Course, IsFair, is_over, unasked, with_lost, after_loss, gone_on, after_go_on}
 use Rattle.exchange.specs.Asks.{next_in, after_ask}
-use Rattle.exchange.specs.Answers.{sorted, sorted_at, with_bad, judged}
-use Rattle.exchange.specs.Steps.{Step, Asks, Loses, GoesOn, Closes, Sorts, Judges, after, May, MayAll, after_all, at_start}
+use Rattle.exchange.specs.Answers.{sorted, sorted_at, judged}
+use Rattle.exchange.specs.Steps.{Step, Asks, Loses, Retracts, GoesOn, Closes, Sorts, Judges, after, May, MayAll, after_all, at_start}
 use Rattle.exchange.specs.TruePartners.{IsTrueWalk, IsTrueStep, AreTrueSteps, AsksFew}
-use Rattle.exchange.proofs.StandingLaws.{one, moved, losing}
+use Rattle.exchange.proofs.StandingLaws.{one, moved}
 use Rattle.exchange.proofs.StepLaws.{next_is, next_first, follow, none_counted, at_start_fair}
 
 -- ---- nodes that were never asked
@@ -181,6 +181,7 @@ module _ (own other : RowMap) where
   among_step : (x : Course) (step : Step) → May x step → IsTrueStep own other step → Among x.standings (differ own other) → Among (after x step).standings (differ own other)
   among_step x (Asks w) may is among = among_asks x w is among
   among_step x (Loses n) may is among = among_loss x n among
+  among_step x (Retracts n) may is among = among_lost x.standings n (differ own other) among
   among_step x GoesOn may is among = among_on x among
   among_step x Closes may is among = among
   among_step x (Sorts read) may is among = among_sorted x read among

@@ -45,6 +45,7 @@ pub record IsFair (x : Course) : Type 0 where
   pub bad : x.tally.bad ≤ x.bounds.bad + 1
   pub lost : x.tally.lost ≤ x.bounds.lost + 1 + length x.standings
   pub refused : x.tally.refused + ways x.standings ≤ length x.standings
+  pub sent : ways x.standings ≤ x.tally.asks
   pub going : x.stop ≡ None → x.tally.refused ≡ 0
 
 -- it is over: it has ended, or too many answers were bad, or too many asks were lost
@@ -73,6 +74,10 @@ with_lost x n = record x { standings = lost_in x.standings n; tally = record x.t
 -- the ask for a node, if it is on its way, is lost
 abbrev pub after_loss : Course → Node → Course
 after_loss x n = if is_over x then x else if is_sent (standing_of x.standings n) then with_lost x n else x
+
+-- the ask for a node that is on its way is taken back, and may be sent again
+abbrev pub retracted : Course → Node → Course
+retracted x n = record x { standings = lost_in x.standings n; tally = record x.tally { asks = x.tally.asks - 1 } }
 
 -- asks are sent again, and the answers that were refused count as lost
 abbrev pub gone_on : Course → Course

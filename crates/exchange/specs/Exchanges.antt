@@ -1,5 +1,5 @@
 -- Exchanges: a session of a range with a partner, as its owner carries it on.
-use Rattle.std.specs.Prelude.{◌≡◌, ◌⊎◌, ℕ, Bool, ◌&&◌, ◌==◌, bytes_eq, length, List, [], Option, Some, None, option_map, Result, Ok, Err, is_none, if◌then◌else◌}
+use Rattle.std.specs.Prelude.{◌≡◌, ◌⊎◌, ℕ, Bool, true, false, ◌&&◌, ◌==◌, bytes_eq, length, List, [], Option, Some, None, option_map, Result, Ok, Err, is_none, if◌then◌else◌}
 use Rattle.vclock.specs.Outcome.{Outcome, gives, DoesOrNoMemory, ◌>>=◌, ◌>>◌}
 use Rattle.vclock.specs.declared.refusal.Refusal.{Refusal}
 use Rattle.vclock.specs.declared.refusal.Refusal.TheVariants as refusals
@@ -22,8 +22,12 @@ use Rattle.exchange.specs.declared.report.Report.{Report}
 use Rattle.exchange.specs.declared.verdict.Verdict.{Verdict}
 use Rattle.exchange.specs.declared.verdict.Verdict.TheVariants as verdicts
 use Rattle.exchange.specs.declared.exchange.Exchange.{Exchange}
-use Rattle.exchange.specs.Standings.{left_in}
-use Rattle.exchange.specs.Courses.{Course, begun, level, unasked, report_of, is_over}
+use Rattle.text_patch.specs.Messages.{IsPatchOf}
+use Rattle.text_patch.specs.Patches.{Rebuilds}
+use Rattle.exchange.specs.declared.outlining.Outlining.TheVariants.{Sent}
+use Rattle.exchange.specs.Outlines.{no_outlines, unsent, outlining_of, is_out, with_outlining, after_miss, after_text, outline_for}
+use Rattle.exchange.specs.Standings.{left_in, standing_of, is_sent}
+use Rattle.exchange.specs.Courses.{Course, begun, level, unasked, report_of, is_over, after_loss, retracted}
 use Rattle.exchange.specs.Asks.{is_leaf, next_in, ask_for, after_ask}
 use Rattle.exchange.specs.Answers.{IsRead, sorted, judged}
 
@@ -49,11 +53,11 @@ record_in x s = if_of x (record_of x.session s.records)
 
 -- an exchange that has nothing to ask
 abbrev pub level_with : ℕ → Offer → Bounds → Exchange
-level_with partner offer bounds = record { partner = partner; local_root = offer.root; session = 0; course = level offer bounds }
+level_with partner offer bounds = record { partner = partner; local_root = offer.root; session = 0; course = level offer bounds; outlines = no_outlines }
 
 -- an exchange of the session with a number, which compares these rows
 abbrev pub begun_with : ℕ → Offer → Bounds → RowMap → ℕ → Exchange
-begun_with partner offer bounds own id = record { partner = partner; local_root = root_of own; session = id; course = begun offer bounds (unasked own.format) }
+begun_with partner offer bounds own id = record { partner = partner; local_root = root_of own; session = id; course = begun offer bounds (unasked own.format); outlines = unsent own.format }
 
 -- the exchange of a new session, and the state with it
 abbrev pub beginning : State → ℕ → Offer → Bounds → Outcome Exchange State
@@ -81,40 +85,114 @@ abbrev pub asks_of : Exchange → Option Record → Option Ask × Exchange
 asks_of x None = (None, x)
 asks_of x (Some r) = (ask_for x.course (next_in x.course r.session), on x (after_ask x.course (next_in x.course r.session)))
 
+-- an outline of a node, if there is one, is sent in place of its ask
+abbrev pub outlined : Exchange → Node → Option (List ℕ) → Outcome (Option (List ℕ)) Exchange
+outlined x n None = gives None x
+outlined x n (Some bytes) = gives (Some bytes) (record x { outlines = with_outlining x.outlines n Sent })
+
+-- with at most so many bytes
+abbrev pub outlines_of : Exchange → Option Record → Node → ℕ → Outcome (Option (List ℕ)) Exchange
+outlines_of x None n room = gives None x
+outlines_of x (Some r) n room = outlined x n (outline_for x.outlines x.course r.session n room)
+
+-- ---- outlines on their way
+
+-- the ask for a node is on its way, and was sent as an outline
+abbrev pub awaits : Exchange → Node → Bool
+awaits x n = is_out (outlining_of x.outlines n) && is_sent (standing_of x.course.standings n)
+
+-- the outline of a node brought no text: the ask counts as nothing, and is sent again as one
+abbrev pub missed : Exchange → Node → Exchange
+missed x n = record x { course = retracted x.course n; outlines = after_miss x.outlines n }
+
+-- it brought a text that its session was offered
+abbrev pub ended : Exchange → Node → Exchange
+ended x n = record x { outlines = after_text x.outlines n }
+
+-- the ask for a node, if it is on its way, is lost
+abbrev pub lost_for : Exchange → Node → Exchange
+lost_for x n = if is_over x.course then x else if awaits x n then missed x n else on x (after_loss x.course n)
+
 -- ---- taking
 
 -- a session takes a text, if there is memory for it
 abbrev pub TakesText : State → ℕ → ℕ → TakenText → Result AnswerTaken Refusal → State → Type 0
 TakesText s seat id t said new = ((said ≡ Err refusals.NoMemory) × (new ≡ s)) ⊎ TakesAnswer s seat id t said new
 
+-- the verdict on an answer for a node, whose text has that length, by what its session said of it
+abbrev pub judged_in : Exchange → Node → Bool → ℕ → Result AnswerTaken Refusal → Verdict × Exchange
+judged_in x n leaf len said = ((judged x.course n leaf len said).0, on x (judged x.course n leaf len said).1)
+
+-- the same of an answer to an outline: it counts as nothing if it brought another text or none
+abbrev pub judged_outline : Exchange → Node → Bool → ℕ → Result AnswerTaken Refusal → Verdict × Exchange
+judged_outline x n leaf len (Err refusals.WrongDigest) = (verdicts.Late, missed x n)
+judged_outline x n leaf len (Err refusals.BadMessage) = (verdicts.Late, missed x n)
+judged_outline x n leaf len said = judged_in (ended x n) n leaf len said
+
+abbrev pub concluded : Exchange → Node → Bool → ℕ → Result AnswerTaken Refusal → Verdict × Exchange
+concluded x n leaf len said = if awaits x n then judged_outline x n leaf len said else judged_in x n leaf len said
+
 -- an answer that is due is offered to the session, and judged by what it says; any other has its verdict already
-pub record IsJudged (x : Exchange) (c : Course) (s : State) (seat : ℕ) (r : Record) (a : Answer) (v : Verdict) (y : Exchange) (t : State) : Type 0 where
+pub record IsJudged (x : Exchange) (s : State) (seat : ℕ) (r : Record) (a : Answer) (v : Verdict) (y : Exchange) (t : State) : Type 0 where
   pub said : Result AnswerTaken Refusal
   pub takes : TakesText s seat x.session (record { node = a.node; text = a.text }) said t
-  pub verdict : v ≡ (judged c a.node (is_leaf r.session.own a.node) (length a.text) said).0
-  pub course : y ≡ on x (judged c a.node (is_leaf r.session.own a.node) (length a.text) said).1
+  pub verdict : v ≡ (concluded x a.node (is_leaf r.session.own a.node) (length a.text) said).0
+  pub exchange : y ≡ (concluded x a.node (is_leaf r.session.own a.node) (length a.text) said).1
 
 abbrev pub TakesSorted : Exchange → State → ℕ → Record → Result Answer Verdict × Course → Verdict → Exchange → State → Type 0
-TakesSorted x s seat r (Ok a, c) v y t = IsJudged x c s seat r a v y t
+TakesSorted x s seat r (Ok a, c) v y t = IsJudged (on x c) s seat r a v y t
 TakesSorted x s seat r (Err w, c) v y t = (v ≡ w) × (y ≡ on x c) × (t ≡ s)
 
--- bytes for a session of the range
-pub record TakesBytes (x : Exchange) (s : State) (seat : ℕ) (bytes : List ℕ) (r : Record) (v : Verdict) (y : Exchange) (t : State) : Type 0 where
-  pub read : Option Answer
-  pub is : IsRead bytes read
-  pub taken : TakesSorted x s seat r (sorted x.course read) v y t
+-- the text that a patch makes is taken as an answer's; a patch that makes none has its verdict
+abbrev pub TakesRebuilt : Exchange → State → ℕ → Record → Ask → Result (List ℕ) Refusal → Verdict → Exchange → State → Type 0
+TakesRebuilt x s seat r a (Ok text) v y t = IsJudged x s seat r (record { offer = a.offer; node = a.node; text = text }) v y t
+TakesRebuilt x s seat r a (Err e) v y t = (v ≡ (concluded x a.node (is_leaf r.session.own a.node) 0 (Err e)).0) × (y ≡ (concluded x a.node (is_leaf r.session.own a.node) 0 (Err e)).1) × (t ≡ s)
+
+-- the text is made of the local parts
+pub record TakesSteps (x : Exchange) (s : State) (seat : ℕ) (r : Record) (a : Ask) (steps : List ℕ) (v : Verdict) (y : Exchange) (t : State) : Type 0 where
+  pub rebuilt : Result (List ℕ) Refusal
+  pub is : Rebuilds r.session.own a.node steps rebuilt
+  pub taken : TakesRebuilt x s seat r a rebuilt v y t
 
 -- the record of the session, if the exchange isn't over and the range has it
 abbrev pub going_in : Exchange → State → Option Record
 going_in x s = if is_over x.course then None else record_in x s
 
--- bytes are late if there is no such session
+-- a patch is late if no outline for it is on its way
+abbrev pub TakesAwaited : Bool → Exchange → State → ℕ → Record → Ask → List ℕ → Verdict → Exchange → State → Type 0
+TakesAwaited true x s seat r a steps v y t = TakesSteps x s seat r a steps v y t
+TakesAwaited false x s seat r a steps v y t = (v ≡ verdicts.Late) × (y ≡ x) × (t ≡ s)
+
+-- or there is no such session
+abbrev pub TakesPatch : Exchange → State → ℕ → Ask → List ℕ → Option Record → Verdict → Exchange → State → Type 0
+TakesPatch x s seat a steps None v y t = (v ≡ verdicts.Late) × (y ≡ x) × (t ≡ s)
+TakesPatch x s seat a steps (Some r) v y t = TakesAwaited ((a.offer == x.course.offer.offer) && awaits x a.node) x s seat r a steps v y t
+
+-- other bytes for a session of the range
+pub record TakesBytes (x : Exchange) (s : State) (seat : ℕ) (bytes : List ℕ) (r : Record) (v : Verdict) (y : Exchange) (t : State) : Type 0 where
+  pub read : Option Answer
+  pub is : IsRead bytes read
+  pub taken : TakesSorted x s seat r (sorted x.course read) v y t
+
+-- they are late if there is no such session
 abbrev pub TakesFor : Exchange → State → ℕ → List ℕ → Option Record → Verdict → Exchange → State → Type 0
 TakesFor x s seat bytes None v y t = (v ≡ verdicts.Late) × (y ≡ x) × (t ≡ s)
 TakesFor x s seat bytes (Some r) v y t = TakesBytes x s seat bytes r v y t
 
+-- the bytes of a patch are taken
+pub record TakesPatched (x : Exchange) (s : State) (seat : ℕ) (bytes : List ℕ) (v : Verdict) (y : Exchange) (t : State) : Type 0 where
+  pub ask : Ask
+  pub steps : List ℕ
+  pub is : IsPatchOf bytes ask steps
+  pub taken : TakesPatch x s seat ask steps (going_in x s) v y t
+
+-- bytes that aren't a patch are taken
+pub record TakesOther (x : Exchange) (s : State) (seat : ℕ) (bytes : List ℕ) (v : Verdict) (y : Exchange) (t : State) : Type 0 where
+  pub other : (a : Ask) (steps : List ℕ) → IsPatchOf bytes a steps → ⊥
+  pub taken : TakesFor x s seat bytes (going_in x s) v y t
+
 abbrev pub Takes : Exchange → State → ℕ → List ℕ → Verdict → Exchange → State → Type 0
-Takes x s seat bytes v y t = TakesFor x s seat bytes (going_in x s) v y t
+Takes x s seat bytes v y t = TakesPatched x s seat bytes v y t ⊎ TakesOther x s seat bytes v y t
 
 -- ---- reporting and closing
 

@@ -2,6 +2,7 @@ pub mod Standings
 pub mod Courses
 pub mod Asks
 pub mod Answers
+pub mod Outlines
 pub mod Exchanges
 pub mod Steps
 pub mod TruePartners

@@ -8,16 +8,18 @@ use Rattle.walk_messages.specs.declared.message.Offer.{Offer}
 use Rattle.sync_session.specs.Walks.{Walk}
 use Rattle.range_state.specs.declared.event.AnswerTaken.{AnswerTaken}
 use Rattle.exchange.specs.declared.bounds.Bounds.{Bounds}
-use Rattle.exchange.specs.Standings.{standing_of, may_take}
-use Rattle.exchange.specs.Courses.{Course, is_over, begun, unasked, after_loss, after_go_on, closed}
+use Rattle.exchange.specs.Standings.{standing_of, may_take, is_sent}
+use Rattle.exchange.specs.Courses.{Course, is_over, begun, unasked, after_loss, retracted, after_go_on, closed}
 use Rattle.exchange.specs.Asks.{next_in, after_ask}
 use Rattle.exchange.specs.Answers.{sorted, judged}
 
--- a call of the owner: for the next ask of a session at any point of its walk, of a lost ask, or to go on or to close;
+-- a call of the owner: for the next ask of a session at any point of its walk, of a lost ask, or to go on or to close; an
+-- ask that is taken back, since it was an outline that brought no text;
 -- and the answer of a partner, which is sorted, and judged by what its session said, if it was due
 pub data Step : Type 0 where
   Asks : Walk → Step
   Loses : Node → Step
+  Retracts : Node → Step
   GoesOn : Step
   Closes : Step
   Sorts : Option Answer → Step
@@ -27,15 +29,18 @@ pub data Step : Type 0 where
 abbrev pub after : Course → Step → Course
 after x (Asks w) = after_ask x (next_in x w)
 after x (Loses n) = after_loss x n
+after x (Retracts n) = retracted x n
 after x GoesOn = after_go_on x
 after x Closes = closed x
 after x (Sorts read) = (sorted x read).1
 after x (Judges n leaf len said) = (judged x n leaf len said).1
 
--- a step is possible: no answer is sorted or judged when the course is over, and only a due one is judged
+-- a step is possible: no answer is sorted or judged when the course is over, only a due one is judged, and only an ask
+-- that is on its way is taken back
 abbrev pub May : Course → Step → Type 0
 May x (Sorts read) = is_over x ≡ false
 May x (Judges n leaf len said) = (is_over x ≡ false) × (may_take (standing_of x.standings n) ≡ true)
+May x (Retracts n) = is_sent (standing_of x.standings n) ≡ true
 May x (Asks w) = Unit {0}
 May x (Loses n) = Unit {0}
 May x GoesOn = Unit {0}

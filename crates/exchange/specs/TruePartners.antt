@@ -1,12 +1,12 @@
 -- Exchanges with a true partner: each text that it sends is one of its own.
-use Rattle.std.specs.Prelude.{◌≡◌, ◌≤◌, ℕ, ◌+◌, true, List, length}
+use Rattle.std.specs.Prelude.{◌≡◌, ◌≤◌, ℕ, ◌+◌, true, List}
 use Rattle.std.specs.List.{AllByRecursion}
 use Rattle.tree_nodes.specs.Nodes.{Node, contains_node}
 use Rattle.snapshot.specs.RowMaps.{RowMap}
 use Rattle.sync_session.specs.Walks.{Walk, IsPartners}
 use Rattle.sync_session.specs.Differing.{IsTraced, IsHonest}
 use Rattle.exchange.specs.declared.tally.Tally.{Tally}
-use Rattle.exchange.specs.Steps.{Step, Asks, Loses, GoesOn, Closes, Sorts, Judges}
+use Rattle.exchange.specs.Steps.{Step, Asks, Loses, Retracts, GoesOn, Closes, Sorts, Judges}
 
 -- a walk that compares these rows with those of a true partner
 pub record IsTrueWalk (own other : RowMap) (w : Walk) : Type 0 where
@@ -20,6 +20,7 @@ pub record IsTrueWalk (own other : RowMap) (w : Walk) : Type 0 where
 abbrev pub IsTrueStep : RowMap → RowMap → Step → Type 0
 IsTrueStep own other (Asks w) = IsTrueWalk own other w
 IsTrueStep own other (Loses n) = Unit {0}
+IsTrueStep own other (Retracts n) = Unit {0}
 IsTrueStep own other GoesOn = Unit {0}
 IsTrueStep own other Closes = Unit {0}
 IsTrueStep own other (Sorts read) = Unit {0}

@@ -3,8 +3,8 @@ ghost use Rattle.std.specs.Prelude.{◌≡◌, ◌+◌, ◌<◌, ◌^◌, true, 
 ghost use Rattle.vclock.specs.declared.format.Format.{Format};
 ghost use Rattle.walk_messages.specs.declared.message.Answer.{Answer};
 ghost use Rattle.exchange.specs.declared.verdict.Verdict.TheVariants as verdicts;
-ghost use Rattle.exchange.specs.Standings.{ways_bytes, standing_of, may_take};
-ghost use Rattle.exchange.specs.Courses.{is_over, begun, unasked, level, after_loss, after_go_on, closed, report_by_state, bounded_report};
+ghost use Rattle.exchange.specs.Standings.{ways_bytes, standing_of, may_take, is_sent};
+ghost use Rattle.exchange.specs.Courses.{is_over, begun, unasked, level, after_loss, retracted, after_go_on, closed, report_by_state, bounded_report};
 ghost use Rattle.exchange.specs.Asks.{is_leaf, estimate, has_room, next_in, ask_for, after_ask};
 ghost use Rattle.exchange.specs.Answers.{IsRead, IsDueBy, IsVerdictBy, sorted, end_by, after_refused, judged};
 
@@ -215,6 +215,16 @@ impl Course {
         if !self.is_over() && self.standings.lose(node) {
             self.tally.lost += 1;
         }
+    }
+
+    /// Takes back the ask for a node that is on its way, so that another one may be sent: it was an outline, and brought
+    /// no text.
+    pub(crate) fn retract(&mut self, node: NodeAt)
+        requires { is_sent (standing_of self.old.standings node) ≡ true }
+        ensures { self.new ≡ retracted self.old node }
+    {
+        let _was_sent = self.standings.lose(node);
+        self.tally.asks -= 1;
     }
 
     /// Lets asks be sent again after there was no room for an answer.

@@ -1,21 +1,35 @@
 //! Exchanges.
-ghost use Rattle.std.specs.Prelude.{◌≡◌, slice_get, option_map};
+ghost use Rattle.std.specs.Prelude.{◌≡◌, ◌≤◌, ◌&&◌, ⊤, None, length, true, false, slice_get, option_map, MatchOption, MatchResult};
+ghost use Rattle.vclock.specs.Answer.{Answers};
+ghost use Rattle.vclock.specs.Outcome.{Does};
+ghost use Rattle.tree_nodes.specs.Nodes.{tree_depth};
 ghost use Rattle.range_state.specs.Sessions.{foreign_fault};
-ghost use Rattle.exchange.specs.Standings.{ways, ways_bytes};
-ghost use Rattle.exchange.specs.Courses.{IsFair, after_loss, after_go_on, closed};
-ghost use Rattle.exchange.specs.Exchanges.{on, is_of, record_in, going_in, level_with, opening, OpensUnless, asks_of, TakesText, Takes, report_in, left_of, after_close};
+ghost use Rattle.exchange.specs.Standings.{ways, ways_bytes, standing_of, is_sent, may_take};
+ghost use Rattle.exchange.specs.Courses.{IsFair, is_over, unasked, after_go_on, closed};
+ghost use Rattle.exchange.specs.Outlines.{unsent, may_outline, pays, outline_for};
+ghost use Rattle.exchange.specs.Exchanges.{on, is_of, record_in, going_in, level_with, opening, OpensUnless, asks_of, outlines_of, awaits, missed, lost_for, concluded, TakesText, TakesPatch, TakesFor, Takes, report_in, left_of, after_close};
 
 use crate::bounds::Bounds;
 use crate::course::{Course, is_leaf};
+use crate::outlines::{Outlines, pays, salt};
 use crate::report::Report;
 use crate::standings::Standings;
 use crate::tally::Tally;
 use crate::verdict::Verdict;
 use range_state::{AnswerTaken, RangeState, Record};
+use snapshot::Snapshot;
 use std::alloc::Global;
-use tree_nodes::{Digest, NodeAt, Text, hash};
-use vclock::Refusal;
+use sync_session::Session;
+use text_patch::{outline, parts_of, patch_parts, rebuild};
+use tree_nodes::{Digest, NodeAt, Text, hash, tree_depth};
+use vclock::{Format, Refusal};
 use walk_messages::{Ask, Offer};
+
+/// The width of a mark in an outline, in bytes: two different rows of a leaf share one in some 350 leaves of 220 rows.
+const WIDTH: u8 = 3;
+
+/// The number of bytes of an outline before its marks.
+const HEAD_LEN: usize = 13;
 
 /// A session of a range with a partner, as its owner carries it on: which asks are on their way, which answers were
 /// bad, and when it ends. It starts no thread and sends no message: its owner sends the asks that `next` returns, hands
@@ -30,6 +44,7 @@ pub struct Exchange {
     local_root: Digest,
     session: u64,
     course: Course,
+    outlines: Outlines,
 }
 
 impl Exchange {
@@ -39,6 +54,7 @@ impl Exchange {
     /// Refused, in order: OtherFormat, OtherRange, Dirty (there is no moment, or some node of it has no digest),
     /// SessionsFull (64 sessions are open, or there are 1,024 records), NoMemory, which may replace the two before it.
     /// On error the range is unchanged.
+    #[tactic(auto, using(crate::proofs::OpenLaws::opens_refused))]
     pub fn open(
         alloc: Global,
         state: &mut RangeState,
@@ -55,13 +71,14 @@ impl Exchange {
         if local_root == offer.root {
             return Ok(Exchange::level(alloc, partner, offer, bounds));
         }
-        let standings = Standings::unasked(alloc, own.format())?;
+        let (standings, outlines) = untouched(alloc, own.format())?;
         let session = state.open_session_at_moment(alloc, partner, offer)?;
         Ok(Exchange {
             partner,
             local_root,
             session,
             course: Course::new(offer, bounds, standings),
+            outlines,
         })
     }
 
@@ -75,6 +92,7 @@ impl Exchange {
             local_root,
             session: 0,
             course: Course::level(alloc, offer, bounds),
+            outlines: Outlines::none(alloc),
         }
     }
 
@@ -95,8 +113,74 @@ impl Exchange {
         self.course.next(record.session())
     }
 
-    /// Takes a partner's answer, as bytes, and judges it by the node that it names. Answers may arrive in any order.
-    /// The range changes as `take_answer` changes it, or not at all. An answer of an exchange that is over is late.
+    /// Returns the bytes of an outline to send in place of the ask for a node, which `next` has returned: the ask with
+    /// marks of the parts of the node's text that the local snapshot has. Returns `None` if a patch isn't likely to be
+    /// smaller than the text, an outline was sent for the node before, three in a row brought no text (the partner may not
+    /// know them), the outline has more bytes than `room`, or no ask for the node is on its way. Refused: NoMemory. Then the
+    /// exchange is unchanged, and the ask may be sent.
+    ///
+    /// An outline that brings no text, since it was lost or its answer was bad, counts as nothing: the ask is sent next.
+    pub fn outline(
+        &mut self,
+        alloc: Global,
+        state: &RangeState,
+        node: NodeAt,
+        room: usize,
+    ) -> Result<Option<Text>, Refusal>
+        ensures outline { Does result self.old self.new (outlines_of self.old (record_in self.old state.now) node room) }
+        ensures fits { MatchResult result (λ outline. MatchOption outline ⊤ (λ bytes. length bytes ≤ room)) (λ _. ⊤) }
+    {
+        let Some(record) = self.find(state) else {
+            return Ok(None);
+        };
+        let Some(bytes) = self.outline_of(alloc, record.session(), node, room)? else {
+            return Ok(None);
+        };
+        self.outlines.send(node);
+        Ok(Some(bytes))
+    }
+
+    /// Returns the outline of a node, if one may be sent and pays.
+    #[tactic(auto, using(crate::proofs::OutlineLaws::outline_len))]
+    fn outline_of(
+        &self,
+        alloc: Global,
+        session: &Session,
+        node: NodeAt,
+        room: usize,
+    ) -> Result<Option<Text>, Refusal>
+        ensures result { Answers result None (λ bytes. bytes ≡ outline_for self.now.outlines self.now.course session.now node room) }
+        ensures may { MatchResult result (λ outline. MatchOption outline ⊤ (λ _. may_outline self.now.outlines node ≡ true)) (λ _. ⊤) }
+        ensures fits { MatchResult result (λ outline. MatchOption outline ⊤ (λ bytes. length bytes ≤ room)) (λ _. ⊤) }
+    {
+        let own = session.own();
+        if node.depth > tree_depth(own.format()) || !self.may_outline(own, node) {
+            return Ok(None);
+        }
+        let Some(salt) = salt(session, node) else {
+            return Ok(None);
+        };
+        let parts = parts_of(alloc, own, node)?;
+        if HEAD_LEN + WIDTH as usize * parts.len() > room {
+            return Ok(None);
+        }
+        let ask = Ask {
+            offer: self.course.offer.offer,
+            node,
+        };
+        Ok(Some(Text::from(outline(alloc, ask, &salt, WIDTH, &parts)?)))
+    }
+
+    /// Returns true if the ask for a node is on its way, and an outline may be sent in its place, and pays.
+    fn may_outline(&self, own: &Snapshot, node: NodeAt) -> bool
+        requires { node.depth ≤ tree_depth own.now.format }
+        ensures { result ≡ (is_sent (standing_of self.now.course.standings node) && (may_outline self.now.outlines node && pays own.now node)) }
+    {
+        self.course.standings.is_sent(node) && self.outlines.may_send(node) && pays(own, node)
+    }
+
+    /// Takes a partner's answer or patch, as bytes, and judges it by the node that it names. Answers may arrive in any
+    /// order. The range changes as `take_answer` changes it, or not at all. An answer of an exchange that is over is late.
     pub fn take(
         &mut self,
         alloc: Global,
@@ -106,24 +190,25 @@ impl Exchange {
     ) -> Verdict
         ensures { Takes self.old state.old seat answer.now result self.new state.new }
     {
-        let Some(record) = self.going(state) else {
-            return Verdict::Late;
-        };
-        let (node, text) = match self.course.sort(answer) {
-            Ok(due) => due,
-            Err(verdict) => return verdict,
-        };
-        let is_leaf = is_leaf(record.session().own(), node);
-        let said = take_text(alloc, state, seat, self.session, node, text);
-        self.course.judge(node, is_leaf, text.len(), said)
+        match patch_parts(alloc, answer) {
+            Some((ask, steps)) => self.take_patch(alloc, state, seat, ask, steps),
+            None => self.take_answer(alloc, state, seat, answer),
+        }
     }
 
     /// Counts the ask for a node as lost, if it is on its way: its link was lost, say, or its time is over. It may be
-    /// sent again then. Doesn't allocate.
+    /// sent again then. An outline that was lost counts as nothing. Doesn't allocate.
     pub fn lose(&mut self, node: NodeAt)
-        ensures { self.new ≡ on self.old (after_loss self.old.course node) }
+        ensures { self.new ≡ lost_for self.old node }
     {
-        self.course.lose(node);
+        if self.course.is_over() {
+            return;
+        }
+        if self.awaits(node) {
+            self.miss(node);
+        } else {
+            self.course.lose(node);
+        }
     }
 
     /// Lets asks be sent again after there was no room for an answer. Each ask whose answer was refused counts as lost.
@@ -191,6 +276,97 @@ impl Exchange {
         self.course.standings.ways_bytes()
     }
 
+    /// Takes the bytes of what isn't a patch.
+    fn take_answer(
+        &mut self,
+        alloc: Global,
+        state: &mut RangeState,
+        seat: u16,
+        answer: &[u8],
+    ) -> Verdict
+        ensures { TakesFor self.old state.old seat answer.now (going_in self.old state.old) result self.new state.new }
+    {
+        let Some(record) = self.going(state) else {
+            return Verdict::Late;
+        };
+        let (node, text) = match self.course.sort(answer) {
+            Ok(due) => due,
+            Err(verdict) => return verdict,
+        };
+        let is_leaf = is_leaf(record.session().own(), node);
+        let said = take_text(alloc, state, seat, self.session, node, text);
+        self.conclude(node, is_leaf, text.len(), said)
+    }
+
+    /// Takes the steps of a patch: the text that they make of the local parts is offered to the session.
+    fn take_patch(
+        &mut self,
+        alloc: Global,
+        state: &mut RangeState,
+        seat: u16,
+        ask: Ask,
+        steps: &[u8],
+    ) -> Verdict
+        ensures { TakesPatch self.old state.old seat ask steps.now (going_in self.old state.old) result self.new state.new }
+    {
+        let Some(record) = self.going(state) else {
+            return Verdict::Late;
+        };
+        if ask.offer != self.course.offer.offer || !self.awaits(ask.node) {
+            return Verdict::Late;
+        }
+        let own = record.session().own();
+        let is_leaf = is_leaf(own, ask.node);
+        match rebuild(alloc, own, ask.node, steps) {
+            Ok(text) => {
+                let len = text.as_slice().len();
+                let said = state.take_answer(alloc, seat, self.session, ask.node, hash(text));
+                self.conclude(ask.node, is_leaf, len, said)
+            }
+            Err(refusal) => self.conclude(ask.node, is_leaf, 0, Err(refusal)),
+        }
+    }
+
+    /// Returns the verdict on an answer for a node by what its session said, and counts it. An answer to an outline that
+    /// brought another text, or none, counts as nothing.
+    fn conclude(
+        &mut self,
+        node: NodeAt,
+        is_leaf: bool,
+        len: usize,
+        said: Result<AnswerTaken, Refusal>,
+    ) -> Verdict
+        requires going { is_over self.old.course ≡ false }
+        requires due { may_take (standing_of self.old.course.standings node) ≡ true }
+        ensures verdict { result ≡ (concluded self.old node is_leaf len said).0 }
+        ensures exchange { self.new ≡ (concluded self.old node is_leaf len said).1 }
+    {
+        if self.awaits(node) {
+            if let Err(Refusal::WrongDigest | Refusal::BadMessage) = &said {
+                self.miss(node);
+                return Verdict::Late;
+            }
+            self.outlines.end(node);
+        }
+        self.course.judge(node, is_leaf, len, said)
+    }
+
+    /// Returns true if the ask for a node is on its way, and was sent as an outline.
+    fn awaits(&self, node: NodeAt) -> bool
+        ensures { result ≡ awaits self.now node }
+    {
+        self.outlines.is_out(node) && self.course.standings.is_sent(node)
+    }
+
+    /// Takes back the ask for a node, whose outline brought no text.
+    fn miss(&mut self, node: NodeAt)
+        requires { awaits self.old node ≡ true }
+        ensures { self.new ≡ missed self.old node }
+    {
+        self.outlines.miss(node);
+        self.course.retract(node);
+    }
+
     /// Returns the record of the session, if the exchange isn't over and the range has it.
     fn going<'a>(&self, state: &'a RangeState) -> Option<&'a Record>
         ensures { option_map (λ r. r.now) result ≡ going_in self.now state.now }
@@ -223,6 +399,15 @@ impl Exchange {
     }
 }
 
+/// Makes the standings and the outlines of a tree none of whose nodes was asked. Refused: NoMemory.
+fn untouched(alloc: Global, format: Format) -> Result<(Standings, Outlines), Refusal>
+    ensures { Answers result None (λ both. both ≡ (unasked format, unsent format)) }
+{
+    let standings = Standings::unasked(alloc, format)?;
+    let outlines = Outlines::unsent(alloc, format)?;
+    Ok((standings, outlines))
+}
+
 /// Hands a text to a session.
 fn take_text(
     alloc: Global,
@@ -246,6 +431,7 @@ impl Drop for Exchange {
             local_root: _local_root,
             session: _session,
             course: _course,
+            outlines: _outlines,
         } = self;
     }
 }

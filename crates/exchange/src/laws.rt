@@ -21,6 +21,8 @@ ghost use Rattle.exchange.specs.declared.verdict.Verdict.TheVariants as verdicts
 ghost use Rattle.exchange.specs.Standings.{standing_of, is_sent, was_left};
 ghost use Rattle.exchange.specs.Courses.{Course};
 ghost use Rattle.exchange.specs.Asks.{next_in};
+ghost use Rattle.exchange.specs.Outlines.{Outlines, outlining_of, outline_for};
+ghost use Rattle.exchange.specs.declared.outlining.Outlining.TheVariants as outlining;
 ghost use Rattle.exchange.specs.Exchanges.{IsJudged};
 ghost use Rattle.exchange.specs.Steps.{Step, MayAll, after_all, at_start};
 ghost use Rattle.exchange.specs.TruePartners.{AreTrueSteps, AsksFew};
@@ -47,17 +49,23 @@ pub fn no_node_is_on_its_way_twice()
         → (is_sent (standing_of x.standings n) ≡ false) × (was_left (standing_of x.standings n) ≡ false) }
 {}
 
+/// An outline is sent only for a node for which none was sent before.
+pub fn no_node_is_outlined_twice()
+    ensures { (o : Outlines) (x : Course) (w : Walk) (n : Node) (room : ℕ) (bytes : List ℕ)
+        → outline_for o x w n room ≡ Some bytes → outlining_of o n ≡ Some outlining.Never }
+{}
+
 /// A leaf is left only for its own true text, in which a key is crowded.
 pub fn a_leaf_is_left_for_its_own_text()
-    ensures { (x y : Exchange) (c : Course) (s t : State) (seat : ℕ) (r : Record) (a : Answer)
-        → slice_get s.records (place_of x.session s.records) ≡ Some r → IsJudged x c s seat r a verdicts.Left y t
+    ensures { (x y : Exchange) (s t : State) (seat : ℕ) (r : Record) (a : Answer)
+        → slice_get s.records (place_of x.session s.records) ≡ Some r → IsJudged x s seat r a verdicts.Left y t
         → IsLeafFault s seat r (record { node = a.node; text = a.text }) refusals.Crowded }
 {}
 
 /// An exchange that an answer finishes has a session that is finished.
 pub fn a_finished_exchange_has_a_finished_session()
-    ensures { (x y : Exchange) (c : Course) (s t : State) (seat : ℕ) (r : Record) (a : Answer) (v : Verdict)
-        → slice_get s.records (place_of x.session s.records) ≡ Some r → IsJudged x c s seat r a v y t → c.end ≡ None
+    ensures { (x y : Exchange) (s t : State) (seat : ℕ) (r : Record) (a : Answer) (v : Verdict)
+        → slice_get s.records (place_of x.session s.records) ≡ Some r → IsJudged x s seat r a v y t → x.course.end ≡ None
         → y.course.end ≡ Some ends.Finished
         → (u : Record) × (slice_get t.records (place_of x.session s.records) ≡ Some u)
         × (u.session.state ≡ states.Finished) }

@@ -23,6 +23,8 @@ pub mod dry;
 mod estimate;
 pub mod exchange;
 pub mod laws;
+mod outlines;
+mod outlining;
 pub mod report;
 pub mod standing;
 mod standings;

@@ -105,11 +105,18 @@ impl Standings {
         ensures was { result ≡ is_sent (standing_of self.old node) }
         ensures now { self.new ≡ lost_in self.old node }
     {
-        let is_sent = matches!(self.get(node), Some(Standing::OnWay(_)));
+        let is_sent = self.is_sent(node);
         if is_sent {
             self.end(node, Standing::Lost);
         }
         is_sent
+    }
+
+    /// Returns true if an ask for a node is on its way.
+    pub(crate) fn is_sent(&self, node: NodeAt) -> bool
+        ensures { result ≡ is_sent (standing_of self.now node) }
+    {
+        matches!(self.get(node), Some(Standing::OnWay(_)))
     }
 
     /// Returns the first of some nodes that may be asked, if any.
@@ -156,7 +163,7 @@ impl Standings {
 }
 
 /// Returns the number of nodes of a tree.
-fn node_count(format: Format) -> usize
+pub(crate) fn node_count(format: Format) -> usize
     ensures { result ≡ node_count format }
 {
     match format {

@@ -14,6 +14,8 @@ mod migrations;
 #[cfg(test)]
 mod moments;
 #[cfg(test)]
+mod patches;
+#[cfg(test)]
 mod range_sessions;
 #[cfg(test)]
 mod range_trees;

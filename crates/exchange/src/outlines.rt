@@ -1,0 +1,170 @@
+//! The outlines of an exchange.
+ghost use Rattle.std.specs.Prelude.{◌≡◌, ◌≤◌, ◌<◌, Some, None, true, option_map};
+ghost use Rattle.vclock.specs.Answer.{Answers};
+ghost use Rattle.tree_nodes.specs.Nodes.{tree_depth};
+ghost use Rattle.sync_session.specs.Walks.{expected, taken_at, child_digest};
+ghost use Rattle.exchange.specs.declared.outlining.Outlining.TheVariants as outlining;
+ghost use Rattle.exchange.specs.Outlines.{unsent, no_outlines, outlining_of, is_out, may_outline, with_outlining, after_miss, after_text, pays, salt_in};
+
+use crate::course::is_leaf;
+use crate::outlining::Outlining;
+use crate::standings::node_count;
+use snapshot::Snapshot;
+use std::alloc::Global;
+use std::marker::Model;
+use sync_session::{Session, Taken};
+use tree_nodes::{Digest, NodeAt};
+use vclock::{Format, Refusal};
+
+/// The number of outlines in a row without a text after which none is sent any more: the partner may not know them.
+const MISSES_MAX: u8 = 3;
+
+/// The length in bytes up to which a leaf isn't outlined: its text costs about as much as a patch.
+const SMALL_LEAF: u64 = 255;
+
+/// The length of a digest, in bytes.
+const DIGEST_LEN: usize = 32;
+
+/// How far the outline of each node is, by its place, and how many in a row brought no text.
+pub(crate) struct Outlines {
+    nodes: Vec<Outlining>,
+    misses: u8,
+}
+
+impl Model for Outlines {
+    ghost use Rattle.exchange.specs.declared.outlining.Outlining.TheVariants as outlining;
+    ghost use Rattle.exchange.specs.Outlines.{Outlines};
+
+    ghost Value = { Outlines };
+
+    ghost view = { λ o. record { nodes = o.nodes.items; misses = o.misses } };
+}
+
+impl Outlines {
+    /// Makes the outlines of no nodes.
+    pub(crate) fn none(alloc: Global) -> Outlines
+        ensures { result ≡ no_outlines }
+    {
+        Outlines {
+            nodes: Vec::new(alloc),
+            misses: 0,
+        }
+    }
+
+    /// Makes the outlines of a tree for none of whose nodes one was sent. Refused: NoMemory.
+    pub(crate) fn unsent(alloc: Global, format: Format) -> Result<Outlines, Refusal>
+        ensures { Answers result None (λ outlines. outlines ≡ unsent format) }
+    {
+        let mut nodes = Vec::new(alloc);
+        nodes.resize(node_count(format), Outlining::Never)?;
+        Ok(Outlines { nodes, misses: 0 })
+    }
+
+    /// Returns true if an outline may be sent for a node.
+    pub(crate) fn may_send(&self, node: NodeAt) -> bool
+        ensures { result ≡ may_outline self.now node }
+    {
+        self.misses < MISSES_MAX && matches!(self.get(node), Some(Outlining::Never))
+    }
+
+    /// Returns true if an outline of a node is on its way.
+    pub(crate) fn is_out(&self, node: NodeAt) -> bool
+        ensures { result ≡ is_out (outlining_of self.now node) }
+    {
+        matches!(self.get(node), Some(Outlining::Sent))
+    }
+
+    /// Records that an outline of a node was sent.
+    pub(crate) fn send(&mut self, node: NodeAt)
+        requires { may_outline self.old node ≡ true }
+        ensures { self.new ≡ with_outlining self.old node outlining.Sent }
+    {
+        self.nodes[node.place()] = Outlining::Sent;
+    }
+
+    /// Records that the outline of a node brought no text.
+    pub(crate) fn miss(&mut self, node: NodeAt)
+        requires { is_out (outlining_of self.old node) ≡ true }
+        ensures { self.new ≡ after_miss self.old node }
+    {
+        self.nodes[node.place()] = Outlining::Ended;
+        self.misses = self.misses.saturating_add(1).min(MISSES_MAX);
+    }
+
+    /// Records that the outline of a node brought a text. Three misses stay.
+    pub(crate) fn end(&mut self, node: NodeAt)
+        requires { is_out (outlining_of self.old node) ≡ true }
+        ensures { self.new ≡ after_text self.old node }
+    {
+        self.nodes[node.place()] = Outlining::Ended;
+        self.misses = if self.misses < MISSES_MAX {
+            0
+        } else {
+            MISSES_MAX
+        };
+    }
+
+    /// Returns how far the outline of a node is, if the tree has the node.
+    fn get(&self, node: NodeAt) -> Option<Outlining>
+        ensures { result ≡ outlining_of self.now node }
+    {
+        self.nodes.get(node.place()).copied()
+    }
+}
+
+/// Returns true if an outline of a node pays: a patch is likely to be smaller than the text.
+pub(crate) fn pays(own: &Snapshot, node: NodeAt) -> bool
+    requires { node.depth ≤ tree_depth own.now.format }
+    ensures { result ≡ pays own.now node }
+{
+    if is_leaf(own, node) {
+        own.rows(node.index).rows_len() > SMALL_LEAF
+    } else {
+        own.digest_at(node.child(0)) != own.digest_at(node.child(1))
+    }
+}
+
+/// Returns the digest that a session expects at a node.
+pub(crate) fn salt(session: &Session, node: NodeAt) -> Option<Digest>
+    ensures { result ≡ salt_in (expected session.now.root session.now.taken node) }
+{
+    match node.parent() {
+        None => Some(session.root()),
+        Some(above) => digest_in(text_of(session.taken(), above)?, node.index % 16),
+    }
+}
+
+/// Returns the digest of a child in the text of an inner node.
+#[tactic(auto, using(crate::proofs::OutlineLaws::no_digest))]
+fn digest_in(text: &[u8], child: u16) -> Option<Digest>
+    requires { child < 16 }
+    ensures { result ≡ salt_in (Some (child_digest text.now child)) }
+{
+    let start = DIGEST_LEN * usize::from(child) + 1;
+    if text.len() < start + DIGEST_LEN {
+        return None;
+    }
+    Digest::try_from(&text[start..start + DIGEST_LEN]).ok()
+}
+
+/// Returns the text that was taken for a node, if any.
+fn text_of(taken: &[Taken], node: NodeAt) -> Option<&[u8]>
+    ensures { option_map (λ t. t.now) result ≡ taken_at taken.now node }
+{
+    for entry in taken {
+        if entry.node() == node {
+            return Some(entry.text().text());
+        }
+    }
+    None
+}
+
+impl Drop for Outlines {
+    /// Keeps the fields out of the proofs of callers that drop an exchange.
+    fn drop(self) {
+        let Outlines {
+            nodes: _nodes,
+            misses: _misses,
+        } = self;
+    }
+}
