@@ -5,6 +5,7 @@
 pub mod draws;
 pub mod leaves;
 pub mod messages;
+pub mod patches;
 pub mod plain;
 pub mod random;
 pub mod slots;

@@ -94,13 +94,29 @@ pub fn key_bytes(key: u64) -> &'static [u8] {
     }
 }
 
+/// The letter of a long value.
+pub const LONG: u8 = b'l';
+
+/// The bytes of a long value.
+static LONG_BYTES: [u8; 300] = [LONG; 300];
+
+/// Returns the bytes of the value that a letter stands for.
+fn value_bytes(letter: Option<u8>) -> &'static [u8] {
+    match letter {
+        None => b"",
+        Some(b'x') => b"x",
+        Some(b'y') => b"y",
+        Some(_) => &LONG_BYTES,
+    }
+}
+
 /// Returns the first bits of a key's number, from which a range and a leaf are taken.
 fn front(key: u64) -> u32 {
     let digest = Md5::digest(key_bytes(key));
     u32::from_be_bytes([digest[0], digest[1], digest[2], digest[3]])
 }
 
-/// A version: the counter of each node, 0 if it has not counted, and a value of one byte or no value.
+/// A version: the counter of each node, 0 if it has not counted, and a value that a letter stands for, or no value.
 #[derive(Clone, Copy, PartialEq, Eq)]
 pub struct PlainVersion {
     pub counters: [u64; NODES],
@@ -157,10 +173,10 @@ impl PlainVersion {
         }
         text.push(self.pair_count())?;
         self.put_pairs(text)?;
-        match self.value {
-            None => text.extend_from_slice(&[0, 0, 0, 0])?,
-            Some(byte) => text.extend_from_slice(&[0, 0, 0, 1, byte])?,
-        }
+        let value = value_bytes(self.value);
+        let len = u32::try_from(value.len()).unwrap_or(u32::MAX);
+        text.extend_from_slice(&len.to_be_bytes())?;
+        text.extend_from_slice(value)?;
         Ok(())
     }
 
@@ -202,10 +218,7 @@ impl PlainVersion {
 
     /// Returns the value.
     pub fn value(&self, alloc: Global) -> Result<Bytes, Trouble> {
-        match self.value {
-            None => Ok(Bytes::copy_of(alloc, b"")?),
-            Some(byte) => Ok(Bytes::copy_of(alloc, &[byte])?),
-        }
+        Ok(Bytes::copy_of(alloc, value_bytes(self.value))?)
     }
 
     /// Returns the version in the range's type.
@@ -229,12 +242,9 @@ impl PlainVersion {
 
     /// Returns true if a range's version equals this one.
     pub fn is(&self, version: &Version) -> bool {
-        let value = version.value.as_slice();
-        let same_value = match self.value {
-            None => value.is_empty(),
-            Some(byte) => value == [byte].as_slice(),
-        };
-        same_value && version.kind == self.kind && self.has_clock(&version.clock)
+        version.value.as_slice() == value_bytes(self.value)
+            && version.kind == self.kind
+            && self.has_clock(&version.clock)
     }
 }
 

@@ -120,6 +120,26 @@ impl Tree {
         }
         Ok(text)
     }
+
+    /// Returns the parts of a node's text after its first byte: the rows of a leaf, or the digests of an inner node's
+    /// children.
+    pub fn parts(&self, alloc: Global, node: NodeAt) -> Result<Vec<Vec<u8>>, Trouble> {
+        let mut parts = Vec::new(alloc);
+        if node.depth == leaf_depth(self.format) {
+            for row in &self.rows {
+                if row.leaf == node.index {
+                    let mut text = Vec::new(alloc);
+                    put_row(self.format, row, &mut text)?;
+                    parts.push(text)?;
+                }
+            }
+            return Ok(parts);
+        }
+        for digest in self.text(alloc, node)?.get(1..).unwrap_or(&[]).chunks(32) {
+            parts.push(Vec::from_slice(alloc, digest)?)?;
+        }
+        Ok(parts)
+    }
 }
 
 /// Returns the rows of a range.

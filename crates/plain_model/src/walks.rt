@@ -68,7 +68,7 @@ impl Walk {
 
     /// Returns the digest that is expected at a node: the offered one at the root, and otherwise the one in the text of
     /// the node above.
-    fn expected(&self, node: NodeAt) -> Option<&[u8]> {
+    pub fn expected(&self, node: NodeAt) -> Option<&[u8]> {
         if node.depth == 0 {
             return Some(&self.partner.root);
         }

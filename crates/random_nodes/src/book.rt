@@ -14,11 +14,16 @@ const INNER_LEN: u64 = 513;
 /// The maximum number of asks on their way with one for a leaf, while no leaf was taken.
 const FIRST_LEAVES: u64 = 16;
 
+/// The number of outlines in a row without a text after which none is sent.
+const MISSES: u64 = 3;
+
 /// How far the ask for a node is.
 #[derive(Clone, Copy, PartialEq, Eq)]
 pub(crate) enum Way {
     /// It is on its way. Its answer is expected to have so many bytes.
     Open(u64),
+    /// It is on its way as an outline.
+    Outlined(u64),
     Lost,
     Left,
     Settled,
@@ -29,6 +34,8 @@ pub(crate) enum Way {
 struct Asked {
     node: NodeAt,
     way: Way,
+    /// True if an outline of it was sent at any time.
+    was_outlined: bool,
 }
 
 /// An answer that a session took: the numbers of its new and of its known versions, and the session's state after it.
@@ -54,6 +61,8 @@ pub(crate) enum Ruling {
 pub(crate) struct Book {
     bounds: Bounds,
     asked: Vec<Asked>,
+    /// The number of outlines in a row that brought no text.
+    misses: u64,
     pub(crate) tally: Tally,
     is_stopped: bool,
     end: Option<Report>,
@@ -65,6 +74,7 @@ impl Book {
         Book {
             bounds,
             asked: Vec::new(alloc),
+            misses: 0,
             tally: Tally {
                 asks: 0,
                 bad: 0,
@@ -98,7 +108,11 @@ impl Book {
                 return Ok(());
             }
         }
-        self.asked.push(Asked { node, way })?;
+        self.asked.push(Asked {
+            node,
+            way,
+            was_outlined: false,
+        })?;
         Ok(())
     }
 
@@ -106,7 +120,7 @@ impl Book {
     pub(crate) fn on_way(&self) -> (u64, u64) {
         let (mut count, mut bytes) = (0u64, 0u64);
         for asked in &self.asked {
-            if let Way::Open(size) = asked.way {
+            if let Way::Open(size) | Way::Outlined(size) = asked.way {
                 count = count.wrapping_add(1);
                 bytes = bytes.wrapping_add(size);
             }
@@ -186,7 +200,7 @@ impl Book {
 
     /// Takes the ask for a node as lost if it is on its way. Returns true if it was.
     fn miss(&mut self, node: NodeAt) -> Result<bool, Trouble> {
-        let is_open = matches!(self.way(node), Some(Way::Open(_)));
+        let is_open = matches!(self.way(node), Some(Way::Open(_) | Way::Outlined(_)));
         if is_open {
             self.set(node, Way::Lost)?;
         }
@@ -195,10 +209,57 @@ impl Book {
 
     /// Counts the ask for a node as lost, if it is on its way.
     pub(crate) fn lose(&mut self, node: NodeAt) -> Result<(), Trouble> {
-        if !self.is_over() && self.miss(node)? {
+        if !self.is_over() && !self.miss_outline(node)? && self.miss(node)? {
             self.tally.lost = self.tally.lost.wrapping_add(1);
         }
         Ok(())
+    }
+
+    /// Returns true if an outline of a node may be sent: its ask is on its way, and no outline of it was ever sent.
+    pub(crate) fn may_outline(&self, node: NodeAt) -> bool {
+        for asked in &self.asked {
+            if asked.node == node {
+                let is_plain = matches!(asked.way, Way::Open(_)) && !asked.was_outlined;
+                return is_plain && self.misses < MISSES;
+            }
+        }
+        false
+    }
+
+    /// Sends an outline in place of an ask that is on its way.
+    pub(crate) fn outline(&mut self, node: NodeAt) {
+        for place in 0..self.asked.len() {
+            if self.asked[place].node == node
+                && let Way::Open(size) = self.asked[place].way
+            {
+                self.asked[place].way = Way::Outlined(size);
+                self.asked[place].was_outlined = true;
+            }
+        }
+    }
+
+    /// Returns true if the ask for a node is on its way as an outline.
+    pub(crate) fn awaits_patch(&self, node: NodeAt) -> bool {
+        matches!(self.way(node), Some(Way::Outlined(_)))
+    }
+
+    /// Takes back the ask for a node if it is on its way as an outline, which brought no text. Returns true if it was.
+    pub(crate) fn miss_outline(&mut self, node: NodeAt) -> Result<bool, Trouble> {
+        let is_out = self.awaits_patch(node);
+        if is_out {
+            self.set(node, Way::Lost)?;
+            self.tally.asks = self.tally.asks.wrapping_sub(1);
+            self.misses = self.misses.wrapping_add(1);
+        }
+        Ok(is_out)
+    }
+
+    /// Begins the count of misses anew if the ask for a node is on its way as an outline, which brought a text. After
+    /// three misses it stays.
+    fn end_outline(&mut self, node: NodeAt) {
+        if self.awaits_patch(node) && self.misses < MISSES {
+            self.misses = 0;
+        }
     }
 
     /// Goes on after there was no room. The asks whose answers were refused count as lost.
@@ -228,6 +289,7 @@ impl Book {
         leaf_len: Option<u64>,
         took: Took,
     ) -> Result<Ruling, Trouble> {
+        self.end_outline(node);
         self.set(node, Way::Settled)?;
         self.tally.accepted = self.tally.accepted.wrapping_add(took.accepted);
         self.tally.known = self.tally.known.wrapping_add(took.known);
@@ -243,6 +305,10 @@ impl Book {
 
     /// Counts an answer that the session didn't take.
     pub(crate) fn refuse(&mut self, node: NodeAt, fault: Fault) -> Result<Ruling, Trouble> {
+        if matches!(fault, Fault::WrongDigest) && self.miss_outline(node)? {
+            return Ok(Ruling::Late);
+        }
+        self.end_outline(node);
         match fault {
             Fault::WrongDigest => {
                 self.miss(node)?;
@@ -320,6 +386,7 @@ impl Drop for Book {
         let Book {
             bounds: _bounds,
             asked: _asked,
+            misses: _misses,
             tally: _tally,
             is_stopped: _is_stopped,
             end: _end,

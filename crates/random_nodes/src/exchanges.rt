@@ -1,15 +1,17 @@
 //! Exchanges of closed nodes with each other, beside the plain program: answers in any order, lost, late, repeated, false
-//! or of another node, with copies, renewals and migrations in between.
+//! or of another node, with copies, renewals and migrations in between. Half of them send outlines, which patches answer.
 ghost use Rattle.std.specs.Prelude.{◌<◌};
 
 use crate::book::{Book, Ruling, Took, Way};
 use crate::mirror::Mirror;
+use crate::outlines::{Outline, outline_of, text_by};
 use crate::pairs::Closed;
 use crate::tally::Tally;
 use crate::walking::{offer_fault, take_text};
 use exchange::{Bounds, Exchange, Report, Stop, Verdict};
 use plain_model::messages::{PlainAnswer, PlainOffer, answer_bytes, read_answer};
-use plain_model::plain::{Fault, KEYS, PlainEntry, key_bytes};
+use plain_model::patches::{patch_as_answer, patch_bytes};
+use plain_model::plain::{Fault, KEYS, LONG, PlainEntry, PlainVersion, key_bytes};
 use plain_model::random::Random;
 use plain_model::trees::Tree;
 use plain_model::trouble::{Trouble, expect};
@@ -32,7 +34,10 @@ const EVENTS: u64 = 60;
 const LAST_ASKS: u64 = 200;
 
 /// The text of each node of a partner that forges.
-const JUNK: &[u8] = b"abc";
+const JUNK: &[u8] = b"\x01bc";
+
+/// The room for most outlines.
+const ROOM: usize = 4_096;
 
 /// A partner's offer, and its tree: none if it forges.
 #[derive(Drop)]
@@ -50,6 +55,17 @@ struct Dialogue {
     session: Option<u64>,
     /// The nodes that were asked, each as often as it was.
     sent: Vec<NodeAt>,
+    /// True if it sends outlines.
+    has_outlines: bool,
+    outlines: Vec<Outline>,
+    patches: Patches,
+}
+
+/// The number of texts that were taken of patches.
+#[derive(Clone, Copy)]
+pub(crate) struct Patches {
+    pub(crate) of_inner: u64,
+    pub(crate) of_leaves: u64,
 }
 
 /// Has a closed node take from another one what it lacks by an exchange with random events, and compares all that it
@@ -61,6 +77,7 @@ pub(crate) fn exchange_with(
     there: &mut Closed,
     tally: &mut Tally,
 ) -> Result<(), Trouble> {
+    feed(alloc, random, here, there)?;
     let partner = Partner::draw(alloc, random, &there.mirror)?;
     here.range.hold(alloc)?;
     if let Some(mut dialogue) = open(alloc, random, here, &partner)? {
@@ -68,10 +85,10 @@ pub(crate) fn exchange_with(
             dialogue.run_event(alloc, random, here, there, &partner)?;
             dialogue.check(alloc, here)?;
         }
-        dialogue.answer_rest(alloc, here, &partner)?;
+        dialogue.answer_rest(alloc, random, here, &partner)?;
         dialogue.check(alloc, here)?;
         let walk = walk_of(&here.mirror, dialogue.session);
-        tally.count_exchange(dialogue.book.report(walk));
+        tally.count_exchange(dialogue.book.report(walk), dialogue.patches);
         dialogue.close(here);
         dialogue.check(alloc, here)?;
     }
@@ -113,45 +130,66 @@ impl Partner {
         }
     }
 
-    /// Returns the true answer for a node.
-    fn answer(&self, alloc: Global, node: NodeAt) -> Result<Vec<u8>, Trouble> {
-        self.claim(alloc, self.offer.offer, node, node)
+    /// Returns the parts of the text for a node, and its digest.
+    fn parts(&self, alloc: Global, node: NodeAt) -> Result<(Vec<Vec<u8>>, Digest), Trouble> {
+        if let Some(tree) = &self.tree {
+            let digest = tree.digest_at(node).unwrap_or([0; 32]);
+            return Ok((tree.parts(alloc, node)?, digest));
+        }
+        let mut parts = Vec::new(alloc);
+        parts.push(Vec::from_slice(alloc, &JUNK[1..])?)?;
+        Ok((parts, self.offer.root))
     }
 
-    /// Returns an answer of an offer for a node that has another node's text.
+    /// Returns the true answer for a node, or the patch for an outline of it.
+    fn answer(
+        &self,
+        alloc: Global,
+        outline: Option<&[u8]>,
+        node: NodeAt,
+    ) -> Result<Vec<u8>, Trouble> {
+        self.claim(alloc, outline, (self.offer.offer, node), node)
+    }
+
+    /// Returns an answer of an offer for a node that has another node's text, or a patch that makes it.
     fn claim(
         &self,
         alloc: Global,
-        offer: u32,
-        node: NodeAt,
+        outline: Option<&[u8]>,
+        (offer, node): (u32, NodeAt),
         of: NodeAt,
     ) -> Result<Vec<u8>, Trouble> {
+        if let Some(outline) = outline {
+            let (parts, salt) = self.parts(alloc, of)?;
+            return patch_bytes(alloc, outline, (offer, node), &salt, &parts);
+        }
         let text = self.text(alloc, of)?;
         let text = text.as_slice();
         answer_bytes(alloc, PlainAnswer { offer, node, text })
     }
 
-    /// Returns a false answer for a node. `other` is another node that was asked.
+    /// Returns a false answer for a node, or a false patch. `other` is another node that was asked.
     fn lie(
         &self,
         alloc: Global,
         random: &mut Random,
+        outline: Option<&[u8]>,
         node: NodeAt,
         other: NodeAt,
     ) -> Result<Vec<u8>, Trouble> {
         let offer = self.offer.offer;
         match random.below(6) {
-            0 => self.answer(alloc, draw_node(random).unwrap_or(node)),
-            1 => self.claim(alloc, offer, node, other),
-            2 => self.claim(alloc, offer.wrapping_add(1), node, node),
+            0 => self.answer(alloc, outline, draw_node(random).unwrap_or(node)),
+            1 => self.claim(alloc, outline, (offer, node), other),
+            2 => self.claim(alloc, outline, (offer.wrapping_add(1), node), node),
             3 => {
-                let mut bytes = self.answer(alloc, node)?;
+                let mut bytes = self.answer(alloc, outline, node)?;
                 let count = random.below(1 + bytes.len() as u64);
                 bytes.truncate(count as usize);
                 Ok(bytes)
             }
             _ => {
-                let mut bytes = self.answer(alloc, node)?;
+                let mut bytes = self.answer(alloc, outline, node)?;
                 let place = random.below(1 + bytes.len() as u64);
                 let change = 1 + random.below(255);
                 if let Some(byte) = bytes.get_mut(place as usize) {
@@ -198,6 +236,12 @@ fn open(
                 book: Book::new(alloc, bounds, end),
                 session,
                 sent: Vec::new(alloc),
+                has_outlines: random.once_in(2),
+                outlines: Vec::new(alloc),
+                patches: Patches {
+                    of_inner: 0,
+                    of_leaves: 0,
+                },
             }))
         }
         (Err(refusal), Some(fault)) => {
@@ -243,15 +287,21 @@ impl Dialogue {
         partner: &Partner,
     ) -> Result<(), Trouble> {
         match random.below(32) {
-            0..=11 => self.ask(alloc, here),
+            0..=11 => self.ask(alloc, random, here),
             12..=19 => match self.draw_sent(random) {
-                Some(node) => self.take(alloc, here, &partner.answer(alloc, node)?),
+                Some(node) => {
+                    let outline = self.draw_outline(random, node);
+                    let reply = partner.answer(alloc, outline, node)?;
+                    self.take(alloc, here, &reply)
+                }
                 None => Ok(()),
             },
             20..=21 => match self.draw_sent(random) {
                 Some(node) => {
                     let other = self.draw_sent(random).unwrap_or(node);
-                    self.take(alloc, here, &partner.lie(alloc, random, node, other)?)
+                    let outline = self.draw_outline(random, node);
+                    let lie = partner.lie(alloc, random, outline, node, other)?;
+                    self.take(alloc, here, &lie)
                 }
                 None => Ok(()),
             },
@@ -260,15 +310,26 @@ impl Dialogue {
                 None => Ok(()),
             },
             25 => match self.draw_sent(random) {
-                Some(node) => self.take_elsewhere(alloc, there, &partner.answer(alloc, node)?),
+                Some(node) => {
+                    let outline = self.draw_outline(random, node);
+                    let reply = partner.answer(alloc, outline, node)?;
+                    self.take_elsewhere(alloc, there, &reply)
+                }
                 None => Ok(()),
             },
-            26..=27 => {
+            26 => {
                 self.exchange.go_on();
                 self.book.go_on();
                 Ok(())
             }
-            28..=29 => copy(alloc, random, here),
+            27 => match self.draw_sent(random).or_else(|| draw_node(random)) {
+                Some(node) => self.outline(alloc, random, here, node),
+                None => Ok(()),
+            },
+            28..=29 => {
+                let (key, version) = draw_copy(random);
+                copy(alloc, here, key, version)
+            }
             30 => {
                 here.range.drop_ended_sessions();
                 here.mirror.drop_ended_sessions(alloc)
@@ -277,8 +338,8 @@ impl Dialogue {
         }
     }
 
-    /// Sends the next ask, if there is one.
-    fn ask(&mut self, alloc: Global, here: &Closed) -> Result<(), Trouble> {
+    /// Sends the next ask, if there is one, or an outline in its place.
+    fn ask(&mut self, alloc: Global, random: &mut Random, here: &Closed) -> Result<(), Trouble> {
         let sent = here.range.next_ask(&mut self.exchange);
         expect(
             self.is_next(alloc, &here.mirror, sent)?,
@@ -286,8 +347,75 @@ impl Dialogue {
         )?;
         if let Some(node) = sent {
             self.sent.push(node)?;
+            self.outline(alloc, random, here, node)?;
         }
         Ok(())
+    }
+
+    /// Sends the outline of a node, if it sends outlines and one is due. Seldom there is little room.
+    fn outline(
+        &mut self,
+        alloc: Global,
+        random: &mut Random,
+        here: &Closed,
+        node: NodeAt,
+    ) -> Result<(), Trouble> {
+        if !self.has_outlines {
+            return Ok(());
+        }
+        let room = if random.once_in(8) {
+            random.below(64) as usize
+        } else {
+            ROOM
+        };
+        let sent = here.range.outline(alloc, &mut self.exchange, node, room)?;
+        match (sent, self.due_outline(alloc, &here.mirror, node, room)?) {
+            (None, None) => Ok(()),
+            (Some(text), Some(bytes)) => {
+                expect(
+                    text.as_slice() == bytes.as_slice(),
+                    "the bytes of an outline",
+                )?;
+                self.book.outline(node);
+                self.outlines.push(Outline { node, bytes })?;
+                Ok(())
+            }
+            _ => Err(Trouble::Differs("whether an outline is sent")),
+        }
+    }
+
+    /// Returns the bytes of the outline of a node that is sent by the definitions, if any.
+    fn due_outline(
+        &self,
+        alloc: Global,
+        here: &Mirror,
+        node: NodeAt,
+        room: usize,
+    ) -> Result<Option<Vec<u8>>, Trouble> {
+        match walk_of(here, self.session) {
+            Some(walk) if self.book.may_outline(node) => {
+                outline_of(alloc, walk, self.exchange.offer_number(), node, room)
+            }
+            _ => Ok(None),
+        }
+    }
+
+    /// Returns the outline that was sent for a node, if any.
+    fn sent_outline(&self, node: NodeAt) -> Option<&[u8]> {
+        for outline in &self.outlines {
+            if outline.node == node {
+                return Some(&outline.bytes);
+            }
+        }
+        None
+    }
+
+    /// Draws whether a node is answered by a patch, and returns its outline if so.
+    fn draw_outline(&self, random: &mut Random, node: NodeAt) -> Option<&[u8]> {
+        if random.once_in(4) {
+            return None;
+        }
+        self.sent_outline(node)
     }
 
     /// Sends the next ask by the definitions. Returns true if it is for this node, or there is none.
@@ -347,20 +475,63 @@ impl Dialogue {
         if self.book.is_over() {
             return Ok(Ruling::Late);
         }
+        if let Some(patch) = patch_as_answer(alloc, bytes)? {
+            return self.rule_patch(alloc, here, id, &patch);
+        }
         let Some(answer) = read_answer(bytes) else {
             return Ok(self.book.count_bad(Fault::BadMessage));
         };
         if answer.offer != self.exchange.offer_number() {
             return Ok(Ruling::Late);
         }
-        let node = answer.node;
-        match self.book.way(node) {
-            None => return Ok(self.book.count_bad(Fault::NotAsked)),
-            Some(Way::Left | Way::Settled) => return Ok(Ruling::Late),
-            Some(Way::Open(_) | Way::Lost) => {}
+        match self.book.way(answer.node) {
+            None => Ok(self.book.count_bad(Fault::NotAsked)),
+            Some(Way::Left | Way::Settled) => Ok(Ruling::Late),
+            Some(Way::Open(_) | Way::Outlined(_) | Way::Lost) => {
+                self.rule_text(alloc, here, id, answer)
+            }
         }
-        let len = answer.text.len() as u64;
-        match take_text(alloc, here, id, SEAT, answer)? {
+    }
+
+    /// Takes a patch by the definitions, which is given with the kind of an answer.
+    fn rule_patch(
+        &mut self,
+        alloc: Global,
+        here: &mut Mirror,
+        id: usize,
+        bytes: &[u8],
+    ) -> Result<Ruling, Trouble> {
+        let (Some(walk), Some(patch)) = (here.walks.get(id), read_answer(bytes)) else {
+            return Err(Trouble::Differs("a patch"));
+        };
+        let PlainAnswer { offer, node, .. } = patch;
+        if offer != self.exchange.offer_number() || !self.book.awaits_patch(node) {
+            return Ok(Ruling::Late);
+        }
+        let Some(text) = text_by(alloc, walk, patch)? else {
+            self.book.miss_outline(node)?;
+            return Ok(Ruling::Late);
+        };
+        let is_leaf = walk.is_leaf(node);
+        let text = text.as_slice();
+        let ruling = self.rule_text(alloc, here, id, PlainAnswer { offer, node, text })?;
+        if let Ruling::Taken(_) = ruling {
+            self.patches.count(is_leaf);
+        }
+        Ok(ruling)
+    }
+
+    /// Takes the text for a node by the definitions.
+    fn rule_text(
+        &mut self,
+        alloc: Global,
+        here: &mut Mirror,
+        id: usize,
+        answer: PlainAnswer<'_>,
+    ) -> Result<Ruling, Trouble> {
+        let PlainAnswer { offer, node, text } = answer;
+        let len = text.len() as u64;
+        match take_text(alloc, here, id, SEAT, PlainAnswer { offer, node, text })? {
             Ok((accepted, known)) => {
                 let Some(walk) = here.walks.get(id) else {
                     return Err(Trouble::Differs("the number of sessions"));
@@ -381,23 +552,41 @@ impl Dialogue {
     fn answer_rest(
         &mut self,
         alloc: Global,
+        random: &mut Random,
         here: &mut Closed,
         partner: &Partner,
     ) -> Result<(), Trouble> {
         for place in 0..self.sent.len() {
             if let Some(node) = self.sent.get(place).copied() {
-                self.take(alloc, here, &partner.answer(alloc, node)?)?;
+                self.take_true(alloc, here, partner, node)?;
             }
         }
         for _ in 0..LAST_ASKS {
             let before = self.sent.len();
-            self.ask(alloc, here)?;
+            self.ask(alloc, random, here)?;
             match self.sent.get(before).copied() {
-                Some(node) => self.take(alloc, here, &partner.answer(alloc, node)?)?,
+                Some(node) => self.take_true(alloc, here, partner, node)?,
                 None => return Ok(()),
             }
         }
         Err(Trouble::Differs("the end of the asks of an exchange"))
+    }
+
+    /// Takes the true answer for a node, or the patch if its ask is on its way as an outline.
+    fn take_true(
+        &mut self,
+        alloc: Global,
+        here: &mut Closed,
+        partner: &Partner,
+        node: NodeAt,
+    ) -> Result<(), Trouble> {
+        let outline = if self.book.awaits_patch(node) {
+            self.sent_outline(node)
+        } else {
+            None
+        };
+        let reply = partner.answer(alloc, outline, node)?;
+        self.take(alloc, here, &reply)
     }
 
     /// Closes the exchange.
@@ -439,6 +628,18 @@ impl Dialogue {
     }
 }
 
+impl Patches {
+    /// Counts a text.
+    fn count(&mut self, is_leaf: bool) {
+        let count = if is_leaf {
+            &mut self.of_leaves
+        } else {
+            &mut self.of_inner
+        };
+        *count = count.wrapping_add(1);
+    }
+}
+
 impl Drop for Dialogue {
     /// Keeps the fields out of the proofs of callers that drop a dialogue.
     fn drop(self) {
@@ -447,13 +648,43 @@ impl Drop for Dialogue {
             book: _book,
             session: _session,
             sent: _sent,
+            has_outlines: _has_outlines,
+            outlines: _outlines,
+            patches: _patches,
         } = self;
     }
 }
 
-/// Has a node accept a random version as a copy.
-fn copy(alloc: Global, random: &mut Random, here: &mut Closed) -> Result<(), Trouble> {
-    let (key, version) = (1 + random.below(KEYS - 1), random.version());
+/// Has one or both of two nodes accept random versions as copies.
+fn feed(
+    alloc: Global,
+    random: &mut Random,
+    here: &mut Closed,
+    there: &mut Closed,
+) -> Result<(), Trouble> {
+    for _ in 0..random.below(8) {
+        let (key, version) = draw_copy(random);
+        if !random.once_in(3) {
+            copy(alloc, here, key, version)?;
+        }
+        if !random.once_in(3) {
+            copy(alloc, there, key, version)?;
+        }
+    }
+    Ok(())
+}
+
+/// Draws a key and a version for it, whose value is often long.
+fn draw_copy(random: &mut Random) -> (u64, PlainVersion) {
+    let (key, mut version) = (1 + random.below(KEYS - 1), random.version());
+    if version.value.is_some() && random.once_in(2) {
+        version.value = Some(LONG);
+    }
+    (key, version)
+}
+
+/// Has a node accept a version as a copy.
+fn copy(alloc: Global, here: &mut Closed, key: u64, version: PlainVersion) -> Result<(), Trouble> {
     let wanted = here.mirror.plain.accept(key, &version);
     let sent = version.version(alloc)?;
     let reply = here.range.copy(alloc, SEAT, key_bytes(key), sent);

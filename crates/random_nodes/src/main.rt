@@ -20,6 +20,7 @@ mod loads;
 mod mirror;
 mod moments;
 mod node;
+mod outlines;
 mod pairs;
 mod partner;
 mod points;

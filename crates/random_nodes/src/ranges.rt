@@ -8,7 +8,7 @@ use plain_model::walks::Walk;
 use range_journal::{Journal, Source};
 use range_state::{Accepted, RangeConfig, RangeState, Reconciled, Record, reconcile};
 use std::alloc::Global;
-use tree_nodes::{Digest, NodeAt};
+use tree_nodes::{Digest, NodeAt, Text};
 use vclock::{Format, Refusal};
 use version_set::Version;
 use walk_messages::Offer;
@@ -123,6 +123,17 @@ impl Range {
     /// Returns the node that an exchange asks next.
     pub(crate) fn next_ask(&self, exchange: &mut Exchange) -> Option<NodeAt> {
         Some(exchange.next(&self.state)?.node)
+    }
+
+    /// Returns the outline that an exchange sends in place of an ask, if any.
+    pub(crate) fn outline(
+        &self,
+        alloc: Global,
+        exchange: &mut Exchange,
+        node: NodeAt,
+        room: usize,
+    ) -> Result<Option<Text>, Refusal> {
+        exchange.outline(alloc, &self.state, node, room)
     }
 
     /// Hands an answer to an exchange.

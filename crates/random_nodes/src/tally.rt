@@ -1,5 +1,6 @@
 //! The counts of the steps, the syncs and the exchanges of lists.
 
+use crate::exchanges::Patches;
 use crate::walking::Outcome;
 use exchange::Report;
 use std::fmt;
@@ -24,6 +25,9 @@ struct Exchanges {
     spent: u64,
     failed: u64,
     gone: u64,
+    /// The texts that were taken of patches, of inner nodes and of leaves.
+    inner_patches: u64,
+    leaf_patches: u64,
 }
 
 impl Tally {
@@ -42,6 +46,8 @@ impl Tally {
                 spent: 0,
                 failed: 0,
                 gone: 0,
+                inner_patches: 0,
+                leaf_patches: 0,
             },
         }
     }
@@ -64,9 +70,11 @@ impl Tally {
         *count = count.wrapping_add(1);
     }
 
-    /// Counts an exchange by its report before it was closed.
-    pub(crate) fn count_exchange(&mut self, report: Report) {
+    /// Counts an exchange by its report before it was closed, and its patches.
+    pub(crate) fn count_exchange(&mut self, report: Report, patches: Patches) {
         let exchanges = &mut self.exchanges;
+        exchanges.inner_patches = exchanges.inner_patches.wrapping_add(patches.of_inner);
+        exchanges.leaf_patches = exchanges.leaf_patches.wrapping_add(patches.of_leaves);
         let count = match report {
             Report::Finished => &mut exchanges.finished,
             Report::Left | Report::Waiting => &mut exchanges.left,
@@ -99,6 +107,8 @@ impl Tally {
         exchanges.spent = exchanges.spent.wrapping_add(more.spent);
         exchanges.failed = exchanges.failed.wrapping_add(more.failed);
         exchanges.gone = exchanges.gone.wrapping_add(more.gone);
+        exchanges.inner_patches = exchanges.inner_patches.wrapping_add(more.inner_patches);
+        exchanges.leaf_patches = exchanges.leaf_patches.wrapping_add(more.leaf_patches);
     }
 }
 
@@ -121,6 +131,11 @@ impl fmt::Display for Tally {
             exchanges.spent,
             exchanges.failed,
             exchanges.gone
+        )?;
+        write!(
+            f,
+            "; patches of {} inner nodes and {} leaves",
+            exchanges.inner_patches, exchanges.leaf_patches
         )
     }
 }

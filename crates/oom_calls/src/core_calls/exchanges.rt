@@ -8,7 +8,8 @@ use std::alloc::Global;
 use std::io;
 use std::sync::Arc;
 use std::thread::Threads;
-use tree_nodes::Text;
+use text_patch::{outline, outline_parts, parts_of, patch, patch_parts, rebuild};
+use tree_nodes::{NodeAt, Text};
 use vclock::Refusal;
 use walk_messages::{Answer, Ask, Message, encode};
 
@@ -35,7 +36,8 @@ pub(crate) fn show_all<R: Print + AllocGlobal + Threads + Sync>(
         rt,
         "DryExchange::open and DryExchange::take",
         take_dry(alloc, both),
-    )
+    )?;
+    show(rt, "outline, patch and rebuild", take_patch(alloc, both))
 }
 
 /// Opens an exchange, and returns the number of the range's sessions.
@@ -82,6 +84,26 @@ fn take_dry(alloc: Global, both: &Snapshots) -> Result<u64, Refusal> {
         }
     }
     Ok(exchange.tally().asks)
+}
+
+/// Makes the outline of the root, the partner's patch for it, and the text that this makes. Returns the length of the
+/// text.
+fn take_patch(alloc: Global, both: &Snapshots) -> Result<u64, Refusal> {
+    let ask = Ask {
+        offer: 1,
+        node: NodeAt::root(),
+    };
+    let parts = parts_of(alloc, &both.own, ask.node)?;
+    let outline = outline(alloc, ask, &both.partner.root(), 3, &parts)?;
+    let Some((ask, marks)) = outline_parts(alloc, &outline) else {
+        return Err(Refusal::BadMessage);
+    };
+    let patch = patch(alloc, &both.partner, ask, &marks)?;
+    let Some((ask, steps)) = patch_parts(alloc, &patch) else {
+        return Err(Refusal::BadMessage);
+    };
+    let text = rebuild(alloc, &both.own, ask.node, steps)?;
+    Ok(text.as_slice().len() as u64)
 }
 
 /// Returns a partner's answer to an ask, as bytes.
