@@ -1,8 +1,8 @@
 /* Exchanges with a partner: the loop of a sync. A replica takes all that a partner has; a partner that answers each ask
  * for a leaf with the text of the first leaf, which is crowded, leaves that leaf alone (of a leaf that isn't asked for
- * yet, such an answer would count as bad); and a sync under a deadline goes on later, after a put, in one session. The
- * program prints how far each exchange is, and ends with status 1 if a call returns another number than the one wanted.
- * */
+ * yet, such an answer would count as bad); a partner sends patches, lies in each of them, or refuses outlines, and the
+ * replica takes all that it has; and a sync under a deadline goes on later, after a put, in one session. The program
+ * prints how far each exchange is, and ends with status 1 if a call returns another number than the one wanted. */
 #include "antientropy.h"
 
 #include <stdio.h>
@@ -10,12 +10,12 @@
 #include <string.h>
 
 enum { FORMAT = 2, LIMIT = 10000, PARTNER = 2, OFFER = 7, KEYS = 40, ROOM = 1 << 16, DEPTH_AT = 5, LEAF_DEPTH = 3 };
-enum { MANY = 100000, DIFFER = 1100 };
+enum { MANY = 100000, DIFFER = 1100, VALUE = 300, OUTLINE = 4, PATCH = 5 };
 
 static const char *const reports[] = {"finished",      "waiting", "left",   "stopped", "too many bad",
                                       "too many lost", "failed",  "closed", "gone"};
 static const struct antientropy_bounds bounds = {.asks = 8, .bytes = ROOM, .bad = 2, .lost = 4};
-static uint8_t offer[ANTIENTROPY_OFFER_LEN], ask[ANTIENTROPY_ASK_LEN], answer[ROOM];
+static uint8_t offer[ANTIENTROPY_OFFER_LEN], ask[ANTIENTROPY_ASK_ROOM], answer[ROOM];
 
 /* Ends the program if a call was refused. */
 static void ok(const char *call, uint32_t got)
@@ -149,21 +149,21 @@ static void sync_crowded(const struct antientropy_snapshot *offered)
     struct antientropy_verdict verdict;
     struct antientropy_node node;
     char key[16];
-    uint64_t len, crowded_len, leaf = first_leaf(key, sizeof key), count = 0;
+    uint64_t sent, len, crowded_len, leaf = first_leaf(key, sizeof key), count = 0;
     const uint8_t of_leaf[] = {2, 0, 0, 0, OFFER, LEAF_DEPTH, (uint8_t)(leaf >> 8), (uint8_t)leaf};
     ok("serve", antientropy_serve(offered, OFFER, of_leaf, sizeof of_leaf, crowded, sizeof crowded, &crowded_len));
     fill(&replica, 1, 0);
     crowd(&replica, key);
     ok("exchange_open", antientropy_exchange_open(&replica, &exchange, PARTNER, offer, sizeof offer, &bounds));
-    while (ok("exchange_next", antientropy_exchange_next(&exchange, &replica, ask, sizeof ask, &len)), len > 0) {
+    while (ok("exchange_next", antientropy_exchange_next(&exchange, &replica, ask, sizeof ask, &sent)), sent > 0) {
         if (ask[DEPTH_AT] == LEAF_DEPTH) {
             ok("exchange_take", antientropy_exchange_take(&exchange, &replica, crowded, crowded_len, &verdict));
         } else {
-            ok("serve", antientropy_serve(offered, OFFER, ask, len, answer, sizeof answer, &len));
+            ok("serve", antientropy_serve(offered, OFFER, ask, sent, answer, sizeof answer, &len));
             ok("exchange_take", antientropy_exchange_take(&exchange, &replica, answer, len, &verdict));
         }
         if (verdict.verdict == ANTIENTROPY_VERDICT_LATE)
-            ok("exchange_lose", antientropy_exchange_lose(&exchange, ask, sizeof ask));
+            ok("exchange_lose", antientropy_exchange_lose(&exchange, ask, sent));
     }
     show("one crowded leaf", &exchange, &replica);
     while (antientropy_exchange_left(&exchange, &replica, count, &node) == ANTIENTROPY_OK)
@@ -173,19 +173,20 @@ static void sync_crowded(const struct antientropy_snapshot *offered)
     antientropy_free(&replica);
 }
 
-/* Makes a replica that is whole, with 100,000 keys. Of 1,100 of them it holds this version, and of the others the first
- * one. */
-static void fill_many(struct antientropy_replica *replica, uint64_t version)
+/* Makes a replica that is whole, with some keys, whose values have so many bytes. Of each one after so many, up to
+ * 1,100 keys, it holds this version, and of the others the first one. */
+static void fill_versions(struct antientropy_replica *replica, unsigned keys, unsigned after, size_t bytes,
+                          uint64_t version)
 {
-    static const uint8_t value[100];
+    static const uint8_t value[VALUE];
     struct antientropy_pair clock = {100, 1};
     char key[16];
     uint64_t taken, left;
     ok("new", antientropy_new(replica, FORMAT, 0, 0, 2 * MANY));
-    for (unsigned n = 0; n < MANY; n++) {
-        clock.counter = n % 90 == 0 && n / 90 < DIFFER ? version : 1;
+    for (unsigned n = 0; n < keys; n++) {
+        clock.counter = n % after == 0 && n / after < DIFFER ? version : 1;
         ok("accept", antientropy_accept(replica, (const uint8_t *)key, (size_t)snprintf(key, sizeof key, "key-%u", n),
-                                        &clock, 1, ANTIENTROPY_LIVE, value, sizeof value, &taken));
+                                        &clock, 1, ANTIENTROPY_LIVE, value, bytes, &taken));
     }
     ok("hold", antientropy_hold(replica));
     do
@@ -193,7 +194,46 @@ static void fill_many(struct antientropy_replica *replica, uint64_t version)
     while (left > 0);
 }
 
-/* A sync that stops at a deadline after each 100 asks, and goes on in the same session after a put. */
+/* What a partner does with outlines: it serves them, changes a byte of each patch, or is of a version before them. */
+enum partner { SERVES, LIES, REFUSES };
+
+/* A sync with a partner that has another version of ten keys, each in a leaf of its own. An outline is sent for each of
+ * these leaves, since a row has over 255 bytes. Without a text from the first three of them no more are sent. */
+static void sync_by_outlines(const char *name, enum partner does)
+{
+    struct antientropy_replica replica = {0}, partner = {0};
+    struct antientropy_snapshot offered = {0};
+    struct antientropy_exchange exchange = {0};
+    struct antientropy_verdict verdict;
+    unsigned patches = 0, without = 0;
+    uint64_t len, answer_len;
+    fill_versions(&partner, KEYS, 4, VALUE, 2);
+    offer_now(&partner, &offered);
+    fill_versions(&replica, KEYS, 4, VALUE, 1);
+    ok("exchange_open", antientropy_exchange_open(&replica, &exchange, PARTNER, offer, sizeof offer, &bounds));
+    while (ok("exchange_next", antientropy_exchange_next(&exchange, &replica, ask, sizeof ask, &len)), len > 0) {
+        if (ask[0] == OUTLINE && does == REFUSES) {
+            ok("exchange_lose", antientropy_exchange_lose(&exchange, ask, len));
+            without++;
+            continue;
+        }
+        ok("serve", antientropy_serve(&offered, OFFER, ask, len, answer, sizeof answer, &answer_len));
+        if (answer[0] == PATCH && does == LIES)
+            answer[answer_len - 1] ^= 1;
+        ok("exchange_take", antientropy_exchange_take(&exchange, &replica, answer, answer_len, &verdict));
+        without += verdict.verdict == ANTIENTROPY_VERDICT_LATE;
+        patches += answer[0] == PATCH && ask[DEPTH_AT] == LEAF_DEPTH && verdict.accepted == 1;
+    }
+    show(name, &exchange, &replica);
+    printf("  leaves by patches %u, outlines without a text %u\n", patches, without);
+    end(&exchange, &replica);
+    antientropy_snapshot_free(&offered);
+    antientropy_free(&partner);
+    antientropy_free(&replica);
+}
+
+/* A sync that stops at a deadline after each 100 asks, and goes on in the same session after a put. Patches travel in
+ * place of texts of 3 MB. */
 static void sync_by_ticks(void)
 {
     struct antientropy_replica replica = {0}, partner = {0};
@@ -203,9 +243,9 @@ static void sync_by_ticks(void)
     struct antientropy_counts counts;
     char key[16];
     uint64_t bytes = sizeof offer, ticks = 0;
-    fill_many(&partner, 2);
+    fill_versions(&partner, MANY, 90, 100, 2);
     offer_now(&partner, &offered);
-    fill_many(&replica, 1);
+    fill_versions(&replica, MANY, 90, 100, 1);
     ok("exchange_open", antientropy_exchange_open(&replica, &exchange, PARTNER, offer, sizeof offer, &bounds));
     do {
         bytes += sync_some(&exchange, &replica, &offered, 100);
@@ -215,7 +255,7 @@ static void sync_by_ticks(void)
     } while (progress.report == ANTIENTROPY_REPORT_WAITING);
     show("by ticks", &exchange, &replica);
     ok("count", antientropy_count(&replica, &counts));
-    printf("  sessions %llu, %s 4.0 MB\n", (unsigned long long)counts.sessions, bytes <= 4000000 ? "at most" : "over");
+    printf("  sessions %llu, %s 0.4 MB\n", (unsigned long long)counts.sessions, bytes <= 400000 ? "at most" : "over");
     end(&exchange, &replica);
     antientropy_snapshot_free(&offered);
     antientropy_free(&partner);
@@ -230,6 +270,9 @@ int main(void)
     offer_now(&partner, &offered);
     sync_all(&offered);
     sync_crowded(&offered);
+    sync_by_outlines("by patches", SERVES);
+    sync_by_outlines("lies in patches", LIES);
+    sync_by_outlines("outlines refused", REFUSES);
     sync_by_ticks();
     antientropy_snapshot_free(&offered);
     antientropy_free(&partner);

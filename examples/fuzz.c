@@ -2,18 +2,19 @@
  *
  *     fuzz [MUTATIONS]     (100,000 for each call, if no number is given)
  *
- * Each call must refuse them, except that an ask or rows may be good ones, and leave the replica unchanged, with equal
- * counts and equal rows. An empty replica that refuses rows must stay empty. Prints the number of bytes and mutations,
- * and ends with status 1 at the first call that does otherwise. */
+ * Each call must refuse them, except that an ask, an outline or rows may be good ones, and leave the replica unchanged,
+ * with equal counts and equal rows. An empty replica that refuses rows must stay empty. A mutated patch may end its
+ * outline, which counts as nothing. Prints the number of bytes and mutations, and ends with status 1 at the first call
+ * that does otherwise. */
 #include "antientropy.h"
 
 #include <stdio.h>
 #include <stdlib.h>
 #include <string.h>
 
-enum { ROOM = 1 << 16, HOSTILE = 16 << 20, KEYS = 200, NUMBER = 7, SEED = 20260101 };
+enum { ROOM = 1 << 16, HOSTILE = 16 << 20, KEYS = 200, NUMBER = 7, SEED = 20260101, LEAF_DEPTH = 3, PATCH = 5 };
 
-static uint8_t out[ROOM], before[KEYS][256], after[ROOM];
+static uint8_t out[ROOM], before[KEYS][512], after[ROOM];
 static uint64_t before_len[KEYS];
 static uint32_t state = SEED;
 
@@ -43,12 +44,12 @@ static size_t key_of(unsigned n, uint8_t *key)
     return (size_t)snprintf((char *)key, 16, "key %u", n);
 }
 
-static void fill(struct antientropy_replica *replica, uint64_t node, unsigned step)
+static void fill(struct antientropy_replica *replica, uint64_t node, unsigned first, unsigned step)
 {
     struct antientropy_pair none[1] = {{0, 0}};
     struct antientropy_receipt receipt;
     uint8_t key[16];
-    for (unsigned n = 0; n < KEYS; n += step)
+    for (unsigned n = first; n < KEYS; n += step)
         must("put", antientropy_put(replica, node, key, key_of(n, key), none, 0, ANTIENTROPY_LIVE, key, 3, &receipt));
     must("rehash", antientropy_rehash(replica));
 }
@@ -91,8 +92,8 @@ static void prepare(void)
     uint64_t session = 0, left;
     must("new", antientropy_new(&replica, 2, 0, 0, 1000));
     must("new", antientropy_new(&partner, 2, 0, 0, 1000));
-    fill(&replica, 1, 2);
-    fill(&partner, 2, 1);
+    fill(&replica, 1, 0, 2);
+    fill(&partner, 2, 0, 1);
     must("snapshot", antientropy_snapshot(&partner, &offered));
     must("offer", antientropy_offer(&offered, NUMBER, offer, sizeof offer, &offer_len));
     must("hold", antientropy_hold(&replica));
@@ -105,6 +106,70 @@ static void prepare(void)
     must("serve", antientropy_serve(&offered, NUMBER, ask, ask_len, answer, sizeof answer, &answer_len));
     for (uint64_t leaf = 0; rows_len < 60; leaf++)
         must("rows", antientropy_rows(&offered, leaf, rows, sizeof rows, &rows_len));
+}
+
+/* A replica that lacks one version of the partner's, in a leaf with a long row, and an exchange of it that awaits a
+ * patch of the node at a depth above that row; its outline, and the patch. */
+static struct antientropy_replica asker;
+static struct antientropy_exchange awaiting;
+static unsigned awaited;
+static uint8_t outline[ANTIENTROPY_ASK_ROOM], patch[ROOM];
+static uint64_t outline_len, patch_len;
+
+static void prepare_asker(void)
+{
+    struct antientropy_pair none[1] = {{0, 0}};
+    struct antientropy_receipt receipt;
+    uint8_t key[16];
+    uint64_t left;
+    must("new", antientropy_new(&asker, 2, 0, 0, 1000));
+    must("put", antientropy_put(&asker, 3, key, key_of(0, key), none, 0, ANTIENTROPY_LIVE, out, 300, &receipt));
+    fill(&asker, 2, 1, 1);
+    must("hold", antientropy_hold(&asker));
+    must("hash_moment", antientropy_hash_moment(&asker, 10000, &left));
+}
+
+/* Lets a new exchange take the texts above the awaited node, and send the outline of that. */
+static void await_patch(void)
+{
+    struct antientropy_verdict verdict;
+    uint64_t len;
+    antientropy_exchange_close(&awaiting, &asker);
+    antientropy_exchange_free(&awaiting);
+    must("drop_sessions", antientropy_drop_sessions(&asker));
+    must("exchange_open", antientropy_exchange_open(&asker, &awaiting, 2, offer, offer_len, &bounds));
+    for (unsigned depth = 0; depth < awaited; depth++) {
+        must("exchange_next", antientropy_exchange_next(&awaiting, &asker, outline, ANTIENTROPY_ASK_LEN, &len));
+        must("serve", antientropy_serve(&offered, NUMBER, outline, len, out, sizeof out, &len));
+        must("exchange_take", antientropy_exchange_take(&awaiting, &asker, out, len, &verdict));
+    }
+    must("exchange_next", antientropy_exchange_next(&awaiting, &asker, outline, sizeof outline, &outline_len));
+}
+
+/* Passes a patch, which makes another text than the awaited one, or none. It may end the outline. */
+static void bring_patch(const uint8_t *bytes, size_t len)
+{
+    struct antientropy_verdict verdict;
+    struct antientropy_progress progress;
+    must("exchange_take", antientropy_exchange_take(&awaiting, &asker, bytes, len, &verdict));
+    if (verdict.verdict != ANTIENTROPY_VERDICT_BAD && verdict.verdict != ANTIENTROPY_VERDICT_LATE)
+        fail("the verdict on a patch", (uint32_t)verdict.verdict);
+    must("exchange_report", antientropy_exchange_report(&awaiting, &asker, &progress));
+    if (progress.lost > 0)
+        fail("an outline counts as lost", 0);
+    if (progress.on_way == 0)
+        await_patch();
+}
+
+/* Passes an outline, which may be a good one. Its answer is a patch then. */
+static void bring_outline(const uint8_t *bytes, size_t len)
+{
+    uint64_t need;
+    uint32_t got = antientropy_serve(&offered, NUMBER, bytes, len, out, sizeof out, &need);
+    if (got != ANTIENTROPY_OK && got != ANTIENTROPY_BAD_MESSAGE && got != ANTIENTROPY_GONE)
+        fail("serve of an outline", got);
+    if (got == ANTIENTROPY_OK && out[0] != bytes[0] + 1)
+        fail("the kind of an answer", out[0]);
 }
 
 /* Passes an offer, which must open no session: it is refused, if only because there are 64. Its parts can be read
@@ -233,6 +298,32 @@ static void mutations(unsigned count, const uint8_t *message, size_t len, void (
     }
 }
 
+/* Passes mutations of the outline of a node of the asker to the partner, and of its patch to the asker. Both stay as
+ * they are. The patch itself is taken then. */
+static void mutate_patches(unsigned count, unsigned depth)
+{
+    struct antientropy_counts counts;
+    struct antientropy_verdict verdict;
+    uint64_t len;
+    awaited = depth;
+    await_patch();
+    must("serve", antientropy_serve(&offered, NUMBER, outline, outline_len, patch, sizeof patch, &patch_len));
+    if (patch[0] != PATCH)
+        fail("no patch", depth);
+    remember(&partner, &counts);
+    mutations(count, outline, outline_len, bring_outline);
+    compare(&partner, &counts);
+    must("serve", antientropy_serve(&offered, NUMBER, outline, outline_len, out, sizeof out, &len));
+    if (len != patch_len || memcmp(out, patch, len) != 0)
+        fail("the patch changed", depth);
+    remember(&asker, &counts);
+    mutations(count, patch, patch_len, bring_patch);
+    compare(&asker, &counts);
+    must("exchange_take", antientropy_exchange_take(&awaiting, &asker, patch, patch_len, &verdict));
+    if (verdict.verdict != ANTIENTROPY_VERDICT_TAKEN || verdict.accepted != (depth == LEAF_DEPTH))
+        fail("the verdict on the true patch", (uint32_t)verdict.verdict);
+}
+
 int main(int argc, char **argv)
 {
     unsigned count = argc > 1 ? (unsigned)strtoul(argv[1], NULL, 10) : 100000;
@@ -245,7 +336,7 @@ int main(int argc, char **argv)
         for (size_t n = 0; n < len; n++)
             out[n] = (uint8_t)next();
         if (len > 0 && next() % 2 == 0)
-            out[0] = (uint8_t)(next() % 3 + 1);
+            out[0] = (uint8_t)(next() % 5 + 1);
         uint8_t *own = malloc(len > 0 ? len : 1);
         if (own == NULL)
             fail("malloc", 0);
@@ -264,9 +355,14 @@ int main(int argc, char **argv)
     mutations(count, rows, rows_len, bring_rows);
     bring_rows(rows, rows_len);
     compare(&replica, &counts);
+    prepare_asker();
+    mutate_patches(count / 2, 0);
+    mutate_patches(count / 2, LEAF_DEPTH);
     printf("mutated messages and rows, %u for each call: refused, and nothing changed\n", count);
     antientropy_exchange_free(&exchange);
+    antientropy_exchange_free(&awaiting);
     antientropy_snapshot_free(&offered);
+    antientropy_free(&asker);
     antientropy_free(&replica);
     antientropy_free(&partner);
     return 0;

@@ -1,7 +1,8 @@
 /* Each growth of memory in a run of the library is refused in turn. The call must return NO_MEMORY and leave the counts
- * of the replicas as they were. Made again, it must do its work, so that each run gives the same bytes. It is linked
- * with -Wl,--wrap=malloc,--wrap=realloc. It prints each call that was refused a growth, such as "antientropy_put
- * NO_MEMORY", and the number of growths on standard error. It ends with status 1 if something differs. */
+ * of the replicas as they were. Made again, it must do its work, so that each run gives the same bytes. An exchange
+ * must send an ask if there is no memory for an outline, and refuse what there is no memory to take. It is linked with
+ * -Wl,--wrap=malloc,--wrap=realloc. It prints each call that was refused a growth, such as "antientropy_put NO_MEMORY",
+ * and the number of growths on standard error. It ends with status 1 if something differs. */
 #include "antientropy.h"
 
 #include <stdio.h>
@@ -27,10 +28,13 @@ void *__wrap_realloc(void *at, size_t size);
 /* Growths of this run so far, and the one that is refused: 0 for none. */
 static unsigned long growths, refuse;
 static int inside;
+/* 1 if this run has lacked the memory for an outline or a patch: it sends an ask then, and makes no call again. */
+static int asked;
 
 static char seen[CALLS][NAME];
 static int seen_count;
 static uint8_t log_bytes[LOG], first_log[LOG], out[ROOM], text[ROOM];
+static uint8_t ask[ANTIENTROPY_ASK_ROOM];
 static size_t log_len, first_len;
 static struct antientropy_replica a, b;
 static struct antientropy_hints hints;
@@ -80,19 +84,25 @@ static void begin(void)
     inside = 1;
 }
 
-/* True if a call was refused for memory. The counts must be as before: only a rehash may have made nodes clean. */
-static int refused(const char *name, uint32_t number)
+/* The counts must be as before a call: only a rehash may have made nodes clean. */
+static void unchanged(const char *name)
 {
     struct counts now;
-    inside = 0;
-    if (number != ANTIENTROPY_NO_MEMORY)
-        return 0;
     count(&now);
     if (strcmp(name, "antientropy_rehash") == 0)
         for (int n = 0; n < 2; n++)
             now.of[n].dirty = before.of[n].dirty;
     if (memcmp(&now, &before, sizeof now) != 0)
         fail(name);
+}
+
+/* True if a call was refused for memory. It must have changed nothing. */
+static int refused(const char *name, uint32_t number)
+{
+    inside = 0;
+    if (number != ANTIENTROPY_NO_MEMORY)
+        return 0;
+    unchanged(name);
     int n = 0;
     while (n < seen_count && strcmp(seen[n], name) != 0)
         n++;
@@ -124,7 +134,49 @@ static void hash_moment(struct antientropy_replica *replica)
     while (left > 0);
 }
 
-/* Holds a moment of each replica, and opens a session and an exchange at the one of b. */
+/* Sends what an exchange of replica b asks next. Returns 1 if that is an outline, or the ask in its place. */
+static int send_next(struct antientropy_exchange *exchange, uint64_t *len)
+{
+    unsigned long start = growths;
+    inside = 1;
+    uint32_t number = antientropy_exchange_next(exchange, &b, ask, sizeof ask, len);
+    inside = 0;
+    int lacked = start < refuse && refuse <= growths;
+    if (number != ANTIENTROPY_OK || (lacked && *len != ANTIENTROPY_ASK_LEN))
+        fail("antientropy_exchange_next");
+    asked |= lacked;
+    return lacked || *len > ANTIENTROPY_ASK_LEN;
+}
+
+/* Lets an exchange of replica b take what replica a has, by patches where it can. */
+static void take_patches(struct antientropy_exchange *exchange, const struct antientropy_snapshot *snapshot)
+{
+    struct antientropy_progress progress;
+    struct antientropy_verdict verdict;
+    uint64_t len, outlines = 0;
+    size_t start = log_len;
+    while (outlines += (uint64_t)send_next(exchange, &len), len > 0) {
+        DO("antientropy_serve", antientropy_serve(snapshot, OFFER, ask, len, out, ROOM, &need));
+        begin();
+        antientropy_exchange_take(exchange, &b, out, need, &verdict);
+        inside = 0;
+        if (verdict.cause == ANTIENTROPY_NO_MEMORY) {
+            unchanged("antientropy_exchange_take");
+            asked = 1;
+            antientropy_exchange_go_on(exchange);
+        } else if (verdict.verdict != ANTIENTROPY_VERDICT_TAKEN) {
+            fail("the verdict");
+        }
+    }
+    antientropy_exchange_report(exchange, &b, &progress);
+    if (outlines == 0 || progress.report != ANTIENTROPY_REPORT_FINISHED)
+        fail("the exchange");
+    log_len = start; /* without the numbers of `antientropy_serve`: it is called once more for an ask after a patch */
+    add(&outlines, sizeof outlines);
+    add(&progress.accepted, sizeof progress.accepted);
+}
+
+/* Holds a moment of each replica, and opens a session and an exchange at the one of b, which takes all. */
 static void hold(void)
 {
     static const struct antientropy_bounds bounds = {.asks = 1, .bytes = ROOM, .bad = 1, .lost = 1};
@@ -144,6 +196,7 @@ static void hold(void)
     hash_moment(&b);
     DO("antientropy_open_at_moment", antientropy_open_at_moment(&b, 1, offer, sizeof offer, &session));
     DO("antientropy_exchange_open", antientropy_exchange_open(&b, &exchange, 1, offer, sizeof offer, &bounds));
+    take_patches(&exchange, &snapshot);
     DO("antientropy_drop_moment", antientropy_drop_moment(&b));
     antientropy_cancel(&b, session);
     antientropy_exchange_close(&exchange, &b);
@@ -157,7 +210,7 @@ static void sync(void)
     struct antientropy_snapshot snapshot = {0}, shared = {0};
     struct antientropy_offer_parts parts;
     struct antientropy_taken taken = {0};
-    uint8_t ask[ANTIENTROPY_ASK_LEN], offer[ANTIENTROPY_OFFER_LEN];
+    uint8_t offer[ANTIENTROPY_OFFER_LEN];
     uint64_t session, len;
     DO("antientropy_rehash_some", antientropy_rehash_some(&a, 2, &len));
     add(&len, sizeof len);
@@ -218,6 +271,7 @@ static void run(void)
     uint64_t taken, order;
     log_len = 0;
     growths = 0;
+    asked = 0;
     DO("antientropy_new", antientropy_new(&a, 1, 0, 0, 1000));
     DO("antientropy_new_seeded", antientropy_new_seeded(&b, 1, 0, 0, 1000, 1, 2));
     for (int n = 0; n < KEYS; n++)
@@ -225,7 +279,8 @@ static void run(void)
     DO("antientropy_accept", antientropy_accept(&b, key, 2, six, 6, ANTIENTROPY_LIVE, key, 2, &taken));
     sync();
     put(&a, 1, KEYS, six, 1);
-    put(&b, 2, KEYS, six, 1);
+    put(&b, 2, KEYS, six, 6);
+    put(&b, 3, KEYS, six, 6);
     hold();
     DO("antientropy_compare", antientropy_compare(six, 6, six + 1, 5, &order));
     DO("antientropy_merge", antientropy_merge(six, 6, six + 1, 5, merged, ANTIENTROPY_CLOCK_MAX, &need));
@@ -261,7 +316,7 @@ int main(void)
         run();
         if (log_len != first_len || memcmp(log_bytes, first_log, log_len) != 0)
             fail("another result");
-        if (growths <= total)
+        if (growths <= total && !asked)
             fail("no call was made again");
     }
     for (int n = 0; n < seen_count; n++)

@@ -123,6 +123,67 @@ static void sessions(void)
     antientropy_free(&other);
 }
 
+/* Accepts a version of one more key of leaf 0 at a replica, and a newer one at its partner. */
+static void add_row(struct antientropy_replica *replica, struct antientropy_replica *partner)
+{
+    static unsigned n;
+    struct antientropy_pair first = {1, 1}, next = {1, 2};
+    struct antientropy_spot spot;
+    uint8_t key[16];
+    size_t size;
+    do {
+        size = (size_t)snprintf((char *)key, sizeof key, "%u", n++);
+        is("place", antientropy_place(1, 0, key, size, &spot) == ANTIENTROPY_OK);
+    } while (spot.leaf != 0);
+    is("accept", antientropy_accept(replica, key, size, &first, 1, ANTIENTROPY_LIVE, value, 1, &taken)
+                     == ANTIENTROPY_OK);
+    is("accept", antientropy_accept(partner, key, size, &next, 1, ANTIENTROPY_LIVE, value, 1, &taken)
+                     == ANTIENTROPY_OK);
+}
+
+/* Returns the length of what an exchange sends for leaf 0, which alone differs, with the room for asks. */
+static uint64_t leaf_ask(struct antientropy_replica *replica, struct antientropy_replica *partner)
+{
+    static const struct antientropy_bounds bounds = {.asks = 1, .bytes = 1, .bad = 0, .lost = 0};
+    struct antientropy_exchange exchange = {0};
+    struct antientropy_snapshot snapshot = {0};
+    struct antientropy_verdict verdict;
+    uint8_t offer[ANTIENTROPY_OFFER_LEN], ask[ANTIENTROPY_ASK_ROOM];
+    uint64_t ask_len;
+    is("rehash", antientropy_rehash(replica) == ANTIENTROPY_OK && antientropy_rehash(partner) == ANTIENTROPY_OK);
+    is("hold", antientropy_hold(replica) == ANTIENTROPY_OK);
+    is("hash_moment", antientropy_hash_moment(replica, ANTIENTROPY_NODES_1, &len) == ANTIENTROPY_OK && len == 0);
+    is("snapshot", antientropy_snapshot(partner, &snapshot) == ANTIENTROPY_OK);
+    is("offer", antientropy_offer(&snapshot, 1, offer, sizeof offer, &len) == ANTIENTROPY_OK);
+    is("exchange_open",
+       antientropy_exchange_open(replica, &exchange, 1, offer, sizeof offer, &bounds) == ANTIENTROPY_OK);
+    for (unsigned depth = 0;; depth++) {
+        is("exchange_next", antientropy_exchange_next(&exchange, replica, ask, sizeof ask, &ask_len) == ANTIENTROPY_OK);
+        if (depth == 2)
+            break;
+        is("serve", antientropy_serve(&snapshot, 1, ask, ask_len, bytes, sizeof bytes, &len) == ANTIENTROPY_OK);
+        is("exchange_take", antientropy_exchange_take(&exchange, replica, bytes, len, &verdict) == ANTIENTROPY_OK);
+    }
+    antientropy_exchange_free(&exchange);
+    antientropy_snapshot_free(&snapshot);
+    return ask_len;
+}
+
+/* The room for asks: the outline of a leaf of 1,361 rows fits into it, and that of one more doesn't. */
+static void outlines(void)
+{
+    struct antientropy_replica replica = {0}, partner = {0};
+    is("new", antientropy_new(&replica, 1, 0, 0, 2000) == ANTIENTROPY_OK);
+    is("new", antientropy_new(&partner, 1, 0, 0, 2000) == ANTIENTROPY_OK);
+    for (unsigned rows = 0; rows < 1361; rows++)
+        add_row(&replica, &partner);
+    is("ASK_ROOM", leaf_ask(&replica, &partner) == ANTIENTROPY_ASK_ROOM);
+    add_row(&replica, &partner);
+    is("ASK_ROOM + 1", leaf_ask(&replica, &partner) == ANTIENTROPY_ASK_LEN);
+    antientropy_free(&replica);
+    antientropy_free(&partner);
+}
+
 /* Numbers that a narrower type would cut to small ones: nodes, partners and leaves. */
 static void replica_numbers(void)
 {
@@ -266,6 +327,7 @@ int main(void)
     formats();
     greatest_row();
     sessions();
+    outlines();
     replica_numbers();
     hint_numbers();
     lengths();

@@ -83,6 +83,7 @@ extern "C" {
 #define ANTIENTROPY_ROOT_LEN 32
 #define ANTIENTROPY_OFFER_LEN 39
 #define ANTIENTROPY_ASK_LEN 8
+#define ANTIENTROPY_ASK_ROOM 4096         /* room for an ask, and for the outline of a leaf of up to 1,361 rows */
 #define ANTIENTROPY_ROW_MAX 4215427       /* the text of a row */
 #define ANTIENTROPY_ENTRY_MAX 66122       /* the text of an entry */
 #define ANTIENTROPY_HINTS_MAX 10000       /* pending hints of a carrier */
@@ -852,10 +853,10 @@ static inline uint32_t antientropy_offer(const struct antientropy_snapshot *snap
  * offer), NO_MEMORY, which may be returned instead. */
 uint32_t antientropy_read_offer(const uint8_t *offer, size_t offer_len, struct antientropy_offer_parts *parts);
 
-/* Returns the answer to an ask for the offer of that number. The answer of a leaf has no fixed limit: one row alone can
- * have 4,215,427 bytes. Refused, in order: EMPTY, BAD_MESSAGE (the bytes aren't an ask), GONE (it is for another
- * offer), BAD_MESSAGE (the node isn't in the tree), NO_MEMORY, SMALL. NO_MEMORY may be returned instead of the first
- * BAD_MESSAGE. */
+/* Returns the answer to an ask for the offer of that number, or the patch for an outline. The answer of a leaf has no
+ * fixed limit: one row alone can have 4,215,427 bytes. Refused, in order: EMPTY, BAD_MESSAGE (the bytes are neither),
+ * GONE (it is for another offer), BAD_MESSAGE (the node isn't in the tree), NO_MEMORY, SMALL. NO_MEMORY may be returned
+ * instead of the first BAD_MESSAGE. */
 static inline uint32_t antientropy_serve(const struct antientropy_snapshot *snapshot, uint32_t number,
                                          const uint8_t *ask, size_t ask_len, uint8_t *out, size_t out_len,
                                          uint64_t *need)
@@ -978,9 +979,13 @@ uint32_t antientropy_exchange_open(struct antientropy_replica *replica, struct a
                                    uint64_t partner, const uint8_t *offer, size_t offer_len,
                                    const struct antientropy_bounds *bounds);
 
-/* Returns the next ask to send: 8 bytes. `need` is 0 if there is none now: each outstanding node is on its way or was
- * left, the bounds leave no room, asks have stopped, or the exchange is over. It takes no memory. A refused call sends
- * no ask; after SMALL `need` is 8.
+/* Returns the next ask to send: 8 bytes, or an outline in its place: the ask with marks of the parts of the node's text
+ * that the replica has, so that the partner sends only what it lacks. An outline is sent if a patch is likely to be
+ * smaller than the text, and it fits into the room: ANTIENTROPY_ASK_ROOM is enough for most leaves, and with a room of
+ * ANTIENTROPY_ASK_LEN none is sent. One that brings no text counts as nothing, and the node is asked plainly; after
+ * three in a row no more are sent, since the partner may not know them. Without memory for an outline the ask is sent.
+ * `need` is 0 if there is none now: each outstanding node is on its way or was left, the bounds leave no room, asks have
+ * stopped, or the exchange is over. A refused call sends no ask; after SMALL `need` is 8.
  * Refused, in order: EMPTY (the exchange or the replica), SMALL (the room is below 8 bytes, though there is no ask). */
 static inline uint32_t antientropy_exchange_next(struct antientropy_exchange *exchange,
                                                  const struct antientropy_replica *replica, uint8_t *out,
@@ -990,15 +995,15 @@ static inline uint32_t antientropy_exchange_next(struct antientropy_exchange *ex
     return antientropy_share_exchange_next(exchange, &share, out, out_len, need);
 }
 
-/* Takes a partner's answer, and returns the verdict on it. Answers may arrive in any order, late or twice. The partner
- * isn't trusted: any bytes may be handed in. The replica changes as antientropy_take changes it, or not at all.
+/* Takes a partner's answer or patch, and returns the verdict on it. Answers may arrive in any order, late or twice. The
+ * partner isn't trusted: any bytes may be handed in. The replica changes as antientropy_take changes it, or not at all.
  * Refused: EMPTY (the exchange or the replica). */
 uint32_t antientropy_exchange_take(struct antientropy_exchange *exchange, struct antientropy_replica *replica,
                                    const uint8_t *answer, size_t answer_len, struct antientropy_verdict *verdict);
 
-/* Counts an ask as lost if it is on its way, so that it may be sent again: its link was lost, say, or its time is over.
- * An ask for another offer changes nothing.
- * Refused, in order: EMPTY, BAD_MESSAGE (the bytes aren't an ask). */
+/* Counts an ask or an outline as lost if it is on its way, so that an ask may be sent again: its link was lost, say, its
+ * time is over, or the partner refused it. One for another offer changes nothing.
+ * Refused, in order: EMPTY, BAD_MESSAGE (the bytes are neither). */
 uint32_t antientropy_exchange_lose(struct antientropy_exchange *exchange, const uint8_t *ask, size_t ask_len);
 
 /* Lets asks be sent again after there was no room for an answer (STOPPED). Each ask whose answer was refused for that

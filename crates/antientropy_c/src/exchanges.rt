@@ -3,7 +3,7 @@ ghost use Rattle.std.specs.Prelude.{◌≡◌, length, nat_le, false, Result, �
 ghost use Rattle.vclock.specs.declared.refusal.Refusal.{Refusal};
 ghost use Rattle.exchange.specs.Courses.{after_go_on, closed};
 ghost use Rattle.exchange.specs.Exchanges.{on, record_in, after_close};
-ghost use Rattle.c_calls.specs.Exchanges.{bounds_from, BeginsUnless, WritesNext, TakesTold, Loses};
+ghost use Rattle.c_calls.specs.Exchanges.{bounds_from, BeginsUnless, WritesNext, TakesTold, LosesBytes};
 ghost use Rattle.c_calls.specs.Hands.{HandsNothing};
 ghost use Rattle.c_calls.specs.Numbers.{Returns};
 ghost use Rattle.c_calls.specs.Reads.{Reads};
@@ -70,7 +70,8 @@ fn open_into(
     fill(exchange, made)
 }
 
-/// Writes the message of the next ask to send, and stores its length: 0 if there is none now. Doesn't allocate.
+/// Writes the message of the next ask to send, and stores its length: 0 if there is none now. If an outline pays and fits
+/// into the room, it is sent in place of the ask, unless memory runs out.
 ///
 /// Refused, in order: EMPTY (the exchange), EMPTY (the replica), SMALL (the room is below 8 bytes). After SMALL 8 is
 /// stored, and nothing else changes.
@@ -91,24 +92,30 @@ pub extern "C" fn antientropy_share_exchange_next(
     let Some(mut value) = exchange.take(alloc) else {
         return EMPTY;
     };
-    let result = next_of(&mut value, share, out, need);
+    let result = next_of(alloc, &mut value, share, out, need);
     exchange.hold(value);
     result
 }
 
 /// Writes the message of the next ask of an exchange with a replica.
 #[tactic(auto, using(crate::proofs::CallLaws::reads_nothing, crate::proofs::CallLaws::reads_held))]
-fn next_of(exchange: &mut Exchange, share: &mut ReplicaShare, out: &mut [u8], need: &mut u64) -> u32
+fn next_of(
+    alloc: Global,
+    exchange: &mut Exchange,
+    share: &mut ReplicaShare,
+    out: &mut [u8],
+    need: &mut u64,
+) -> u32
     ensures { ReadsState result share.old share.new
         ((exchange.new ≡ exchange.old) × HandsNothing (need.old, out.old) (need.new, out.new))
         (λ s. WritesNext (nat_le 8 (length out.old)) result (need.old, out.old) (need.new, out.new)
         (record_in exchange.old s) exchange.old exchange.new) }
 {
-    let mut call = |kept: &Kept| next(exchange, kept.state(), out, need);
+    let mut call = |kept: &Kept| next(alloc, exchange, kept.state(), out, need);
     read(share, &mut call)
 }
 
-/// Takes the bytes of a partner's answer, and stores the verdict on them. Refused: EMPTY (the exchange or the replica).
+/// Takes the bytes of a partner's answer or patch, and stores the verdict on them. Refused: EMPTY (the exchange or the replica).
 #[unsafe(no_mangle)]
 #[tactic(auto, using(crate::proofs::CallLaws::empty, crate::proofs::CallLaws::held))]
 pub extern "C" fn antientropy_exchange_take(
@@ -131,7 +138,7 @@ pub extern "C" fn antientropy_exchange_take(
     result
 }
 
-/// Takes the bytes of a partner's answer for an exchange with a replica.
+/// Takes the bytes of a partner's answer or patch for an exchange with a replica.
 #[tactic(auto, using(crate::proofs::CallLaws::state_empty, crate::proofs::CallLaws::state_held))]
 fn take_by(
     alloc: Global,
@@ -150,8 +157,8 @@ fn take_by(
     with_state(replica, alloc, &mut call)
 }
 
-/// Counts an ask as lost, by its bytes, if it is on its way. An ask for another offer changes nothing. Refused, in
-/// order: EMPTY, BadMessage (the bytes aren't an ask). On error the exchange is unchanged.
+/// Counts an ask or an outline as lost, by its bytes, if it is on its way. One for another offer changes nothing. Refused,
+/// in order: EMPTY, BadMessage (the bytes are neither). On error the exchange is unchanged.
 #[unsafe(no_mangle)]
 #[tactic(auto, using(crate::proofs::CallLaws::empty, crate::proofs::CallLaws::held, crate::proofs::CallLaws::returns))]
 pub extern "C" fn antientropy_exchange_lose(
@@ -160,8 +167,7 @@ pub extern "C" fn antientropy_exchange_lose(
     ask: &[u8],
 ) -> u32
     ensures { CallsOn result (exchange_in exchange.old) (exchange_in exchange.new) ⊤
-        (λ x y. Returns result (λ (r : Result (Unit {0}) Refusal).
-        Reads ask.now (Loses x r y))) }
+        (λ x y. Returns result (λ (r : Result (Unit {0}) Refusal). LosesBytes x ask.now r y)) }
 {
     let mut call = |exchange: &mut Exchange| {
         let outcome = lose(alloc, exchange, ask);

@@ -10,7 +10,7 @@ ghost use Rattle.antientropy_c.specs.Calls.{ReadsKept};
 ghost use Rattle.c_calls.specs.Reads.{Reads};
 ghost use Rattle.c_calls.specs.Hands.{HandsNothing, HandsOut, HandsOutRight};
 ghost use Rattle.antientropy_c.specs.Offers.{ShowsRows, Publishes};
-ghost use Rattle.c_calls.specs.Offers.{offer_numbered, Serves};
+ghost use Rattle.c_calls.specs.Offers.{offer_numbered, ServesBytes};
 ghost use Rattle.c_calls.specs.Published.{shown_by};
 
 use crate::publication::Publication;
@@ -88,10 +88,10 @@ pub extern "C" fn antientropy_share_offer(
     read(share, &mut call)
 }
 
-/// Writes the message that answers an ask, if it is for the offer with this number.
+/// Writes the message that answers an ask or an outline, if it is for the offer with this number: an answer or a patch.
 ///
-/// Refused, in order: EMPTY, BadMessage (the bytes aren't an ask), Gone (the ask is for another offer), BadMessage (the
-/// tree has no such node), NoMemory, SMALL. If the bytes are an answer, NoMemory may replace BadMessage.
+/// Refused, in order: EMPTY, BadMessage (the bytes are neither), Gone (it is for another offer), BadMessage (the tree has
+/// no such node), NoMemory, SMALL. If the bytes are an answer, NoMemory may replace BadMessage.
 #[unsafe(no_mangle)]
 #[tactic(auto, using(crate::proofs::CallLaws::reads_nothing, crate::proofs::CallLaws::reads_held, crate::proofs::CallLaws::gives))]
 pub extern "C" fn antientropy_share_serve(
@@ -104,7 +104,7 @@ pub extern "C" fn antientropy_share_serve(
 ) -> u32
     ensures { ShowsRows result share.old share.new (HandsNothing (need.old, out.old) (need.new, out.new))
         (λ m. HandsOutRight result (need.old, out.old) (need.new, out.new)
-        (λ r. Reads ask.now (Serves m number r))) }
+        (λ r. ServesBytes m number ask.now r)) }
 {
     let mut call = |rows: &Published| {
         let outcome = serve(alloc, rows.snapshot(), number, ask);

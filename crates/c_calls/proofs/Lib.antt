@@ -9,3 +9,4 @@ pub mod PairLaws
 pub mod PartLaws
 pub mod ReadLaws
 pub mod ReaderLaws
+pub mod SendLaws

@@ -1,5 +1,6 @@
 -- Exchanges, as C runs them.
-use Rattle.std.specs.Prelude.{◌≡◌, ℕ, ◌-◌, ◌^◌, ◌==◌, min, List, [], ◌++◌, length, drop, Bool, true, false, Option, Some, None, Result, Ok, Err, if◌then◌else◌}
+use Rattle.std.specs.Prelude.{◌≡◌, ◌⊎◌, ℕ, ◌-◌, ◌^◌, ◌==◌, min, List, [], ◌++◌, length, drop, Bool, true, false, Option, Some, None, Result, Ok, Err, if◌then◌else◌}
+use Rattle.vclock.specs.Outcome.{Outcome, gives, refuses}
 use Rattle.vclock.specs.Refusal.{cause_number}
 use Rattle.vclock.specs.declared.refusal.Refusal.{Refusal}
 use Rattle.vclock.specs.declared.refusal.Refusal.TheVariants.{BadMessage, JournalFull, NoMemory}
@@ -10,8 +11,9 @@ use Rattle.walk_messages.specs.declared.message.Message.TheVariants as messages
 use Rattle.range_state.specs.State.{State}
 use Rattle.range_state.specs.Sessions.{foreign_fault}
 use Rattle.range_state.specs.declared.«record».Record.{Record}
-use Rattle.exchange.specs.Courses.{after_loss}
-use Rattle.exchange.specs.Exchanges.{on, opening, OpensUnless, asks_of, Takes}
+use Rattle.text_patch.specs.Marks.{MarkList}
+use Rattle.text_patch.specs.Messages.{IsOutlineOf}
+use Rattle.exchange.specs.Exchanges.{opening, OpensUnless, asks_of, outlines_of, lost_for, Takes}
 use Rattle.exchange.specs.declared.bounds.Bounds.{Bounds}
 use Rattle.exchange.specs.declared.exchange.Exchange.{Exchange}
 use Rattle.exchange.specs.declared.report.Stop.{Stop}
@@ -51,18 +53,28 @@ BeginsUnless (Some e) s partner bytes bounds r t = (r ≡ Err e) × (t ≡ s)
 
 -- ---- asking
 
--- the bytes of an ask, or no bytes
-abbrev pub ask_bytes : Option Ask → List ℕ
-ask_bytes None = []
-ask_bytes (Some ask) = message_text (messages.Ask ask)
-
 -- Bytes are written to the front of a buffer. Before and after are the stored number and the buffer.
 abbrev pub Writes : List ℕ → ℕ → ℕ × List ℕ → ℕ × List ℕ → Type 0
 Writes bytes code before after = (code ≡ 0) × (after.0 ≡ length bytes) × (after.1 ≡ bytes ++ drop (length bytes) before.1)
 
--- the ask that is sent now is written, or no bytes; without room for the bytes of an ask no ask is sent
+-- an ask is written, and the exchange is x
+abbrev pub WritesAsk : Ask → ℕ × List ℕ → ℕ × List ℕ → Exchange → Exchange → Type 0
+WritesAsk ask before after x y = Writes (message_text (messages.Ask ask)) 0 before after × (y ≡ x)
+
+-- its outline is written in its place, if there is one and memory suffices
+abbrev pub WritesAsked : Ask → Outcome (Option (List ℕ)) Exchange → ℕ × List ℕ → ℕ × List ℕ → Exchange → Exchange → Type 0
+WritesAsked ask (gives (Some bytes) z) before after x y = (Writes bytes 0 before after × (y ≡ z)) ⊎ WritesAsk ask before after x y
+WritesAsked ask (gives None z) before after x y = WritesAsk ask before after x y
+WritesAsked ask (refuses e) before after x y = WritesAsk ask before after x y
+
+-- the message of an ask that is sent is written, or no bytes
+abbrev pub WritesSent : Option Ask × Exchange → Option Record → ℕ × List ℕ → ℕ × List ℕ → Exchange → Type 0
+WritesSent (Some ask, x) r before after y = WritesAsked ask (outlines_of x r ask.node (length before.1)) before after x y
+WritesSent (None, x) r before after y = Writes [] 0 before after × (y ≡ x)
+
+-- the message of the ask that is sent now is written, or no bytes; without room for the bytes of an ask none is sent
 abbrev pub WritesNext : Bool → ℕ → ℕ × List ℕ → ℕ × List ℕ → Option Record → Exchange → Exchange → Type 0
-WritesNext true code before after r x y = Writes (ask_bytes (asks_of x r).0) code before after × (y ≡ (asks_of x r).1)
+WritesNext true code before after r x y = (code ≡ 0) × WritesSent (asks_of x r) r before after y
 WritesNext false code before after r x y = (code ≡ SMALL) × (after.0 ≡ 8) × (after.1 ≡ before.1) × (y ≡ x)
 
 -- ---- taking
@@ -94,7 +106,7 @@ pub record TakesTold (x : Exchange) (s : State) (bytes : List ℕ) (told : Excha
 
 -- the node of an ask for the exchange's offer is lost; one for another offer changes nothing
 abbrev pub lost_by : Exchange → Ask → Exchange
-lost_by x ask = if ask.offer == x.course.offer.offer then on x (after_loss x.course ask.node) else x
+lost_by x ask = if ask.offer == x.course.offer.offer then lost_for x ask.node else x
 
 -- a decoded message is lost, if it is an ask
 abbrev pub Loses : Exchange → Result (Unit {0}) Refusal → Exchange → Result Message Refusal → Type 0
@@ -102,3 +114,19 @@ Loses x r y (Ok (messages.Ask ask)) = (r ≡ Ok tt) × (y ≡ lost_by x ask)
 Loses x r y (Ok (messages.Offer offer)) = (r ≡ Err BadMessage) × (y ≡ x)
 Loses x r y (Ok (messages.Answer answer)) = (r ≡ Err BadMessage) × (y ≡ x)
 Loses x r y (Err e) = (r ≡ Err BadMessage) × (y ≡ x)
+
+-- an outline is lost as the ask in whose place it was sent
+pub record LosesOutline (x : Exchange) (bytes : List ℕ) (r : Result (Unit {0}) Refusal) (y : Exchange) : Type 0 where
+  pub ask : Ask
+  pub marks : MarkList
+  pub is : IsOutlineOf bytes ask marks
+  pub result : r ≡ Ok tt
+  pub lost : y ≡ lost_by x ask
+
+-- other bytes are lost if they are an ask
+pub record LosesOther (x : Exchange) (bytes : List ℕ) (r : Result (Unit {0}) Refusal) (y : Exchange) : Type 0 where
+  pub other : (ask : Ask) (marks : MarkList) → IsOutlineOf bytes ask marks → ⊥
+  pub loses : Reads bytes (Loses x r y)
+
+abbrev pub LosesBytes : Exchange → List ℕ → Result (Unit {0}) Refusal → Exchange → Type 0
+LosesBytes x bytes r y = LosesOutline x bytes r y ⊎ LosesOther x bytes r y

@@ -1,5 +1,5 @@
--- The messages of an offer, and of the answer to an ask.
-use Rattle.std.specs.Prelude.{◌≡◌, ℕ, ◌==◌, List, Result, Ok, Err, MatchBool}
+-- The messages of an offer, and of the answers to asks and outlines.
+use Rattle.std.specs.Prelude.{◌≡◌, ◌⊎◌, ℕ, ◌==◌, List, Result, Ok, Err, MatchBool}
 use Rattle.vclock.specs.Answer.{Answers}
 use Rattle.vclock.specs.Format.{format_number}
 use Rattle.vclock.specs.declared.refusal.Refusal.{Refusal}
@@ -10,8 +10,14 @@ use Rattle.walk_messages.specs.declared.message.Ask.{Ask}
 use Rattle.walk_messages.specs.declared.message.Offer.{Offer}
 use Rattle.walk_messages.specs.declared.message.Message.{Message}
 use Rattle.walk_messages.specs.declared.message.Message.TheVariants as messages
-use Rattle.snapshot.specs.RowMaps.{RowMap, root_of, text_at}
+use Rattle.snapshot.specs.RowMaps.{RowMap, root_of, text_at, digest_at}
 use Rattle.snapshot.specs.Snapshots.{answer_fault}
+use Rattle.text_patch.specs.Marks.{MarkList}
+use Rattle.text_patch.specs.Messages.{patch_text, IsOutlineOf}
+use Rattle.text_patch.specs.Parts.{parts_at}
+use Rattle.text_patch.specs.Patches.{patch_for}
+use Rattle.text_patch.specs.Steps.{steps_text}
+use Rattle.c_calls.specs.Reads.{Reads}
 
 -- the offer of some rows
 abbrev pub offer_numbered : ℕ → RowMap → Offer
@@ -33,3 +39,29 @@ Serves m number r (Ok (messages.Ask ask)) = ServesAsk m number ask r
 Serves m number r (Ok (messages.Offer offer)) = r ≡ Err BadMessage
 Serves m number r (Ok (messages.Answer answer)) = r ≡ Err BadMessage
 Serves m number r (Err e) = r ≡ Err e
+
+-- the salt of the marks of a node
+abbrev pub salt_at : RowMap → Ask → List ℕ
+salt_at m ask = digest_at m ask.node.depth ask.node.index
+
+-- an outline for the offer of that number is answered by a patch, and the result for another offer is Gone
+abbrev pub ServesOutline : RowMap → ℕ → Ask → MarkList → Result (List ℕ) Refusal → Type 0
+ServesOutline m number ask marks r = MatchBool (ask.offer == number)
+    (Answers r (answer_fault m ask.node) (λ bytes. bytes ≡ patch_text ask (steps_text (patch_for (salt_at m ask) marks 0 (parts_at m ask.node)))))
+    (r ≡ Err Gone)
+
+-- the bytes are those of an outline
+pub record ServesMarks (m : RowMap) (number : ℕ) (bytes : List ℕ) (r : Result (List ℕ) Refusal) : Type 0 where
+  pub ask : Ask
+  pub marks : MarkList
+  pub is : IsOutlineOf bytes ask marks
+  pub served : ServesOutline m number ask marks r
+
+-- they are those of none
+pub record ServesOther (m : RowMap) (number : ℕ) (bytes : List ℕ) (r : Result (List ℕ) Refusal) : Type 0 where
+  pub other : (ask : Ask) (marks : MarkList) → IsOutlineOf bytes ask marks → ⊥
+  pub served : Reads bytes (Serves m number r)
+
+-- the bytes of an outline or of a message are answered
+unfoldable pub ServesBytes : RowMap → ℕ → List ℕ → Result (List ℕ) Refusal → Type 0
+ServesBytes m number bytes r = ServesMarks m number bytes r ⊎ ServesOther m number bytes r

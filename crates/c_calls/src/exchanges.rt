@@ -1,10 +1,10 @@
 //! Exchanges with other replicas.
-ghost use Rattle.std.specs.Prelude.{◌≡◌, length, nat_le};
+ghost use Rattle.std.specs.Prelude.{◌≡◌, ◌≤◌, length, nat_le};
 ghost use Rattle.walk_messages.specs.Messages.{message_text};
 ghost use Rattle.walk_messages.specs.declared.message.Message.TheVariants as messages;
 ghost use Rattle.range_state.specs.Sessions.{foreign_fault};
-ghost use Rattle.exchange.specs.Exchanges.{opening, OpensUnless, record_in};
-ghost use Rattle.c_calls.specs.Exchanges.{narrowed, bounds_from, unboxed, Begins, BeginsUnless, ask_bytes, WritesNext, stop_number, untaken, verdict_from, TakesTold, Loses, lost_by};
+ghost use Rattle.exchange.specs.Exchanges.{opening, OpensUnless, record_in, outlines_of};
+ghost use Rattle.c_calls.specs.Exchanges.{narrowed, bounds_from, unboxed, Begins, BeginsUnless, Writes, WritesAsked, WritesNext, stop_number, untaken, verdict_from, TakesTold, Loses, LosesBytes, lost_by};
 ghost use Rattle.c_calls.specs.Reads.{Reads};
 ghost use Rattle.c_calls.specs.Sessions.{partner_fault};
 
@@ -12,6 +12,7 @@ use crate::numbers::SMALL;
 use exchange::{Bounds, Exchange, Stop, Verdict};
 use range_state::RangeState;
 use std::alloc::Global;
+use text_patch::outline_parts;
 use vclock::Refusal;
 use vclock::limits::NODE_MAX;
 use walk_messages::{Ask, Message, Offer, decode};
@@ -137,10 +138,17 @@ fn open_boxed(
     Ok(whole)
 }
 
-/// Writes the message of the next ask to send, and stores its length: 0 if there is none now. Doesn't allocate.
+/// Writes the message of the next ask to send, and stores its length: 0 if there is none now. If an outline pays and fits
+/// into the room, it is sent in place of the ask, unless memory runs out.
 ///
 /// Refused: SMALL (the room is below 8 bytes). Then 8 is stored, and nothing else changes.
-pub fn next(exchange: &mut Exchange, state: &RangeState, out: &mut [u8], need: &mut u64) -> u32
+pub fn next(
+    alloc: Global,
+    exchange: &mut Exchange,
+    state: &RangeState,
+    out: &mut [u8],
+    need: &mut u64,
+) -> u32
     ensures { WritesNext (nat_le 8 (length out.old)) result (need.old, out.old) (need.new, out.new)
         (record_in exchange.old state.now) exchange.old exchange.new }
 {
@@ -148,13 +156,39 @@ pub fn next(exchange: &mut Exchange, state: &RangeState, out: &mut [u8], need: &
         *need = ASK_LEN as u64;
         return SMALL;
     }
-    let Some(ask) = exchange.next(state) else {
-        *need = 0;
-        return 0;
-    };
-    *need = ASK_LEN as u64;
-    out[..ASK_LEN].copy_from_slice(&text_of(ask));
+    match exchange.next(state) {
+        Some(ask) => send(alloc, exchange, state, ask, out, need),
+        None => *need = 0,
+    }
     0
+}
+
+/// Writes the outline of an ask that is on its way, if there is one, or the ask.
+fn send(
+    alloc: Global,
+    exchange: &mut Exchange,
+    state: &RangeState,
+    ask: Ask,
+    out: &mut [u8],
+    need: &mut u64,
+)
+    requires { 8 ≤ length out.old }
+    ensures { WritesAsked ask (outlines_of exchange.old (record_in exchange.old state.now) ask.node (length out.old))
+        (need.old, out.old) (need.new, out.new) exchange.old exchange.new }
+{
+    match exchange.outline(alloc, state, ask.node, out.len()) {
+        Ok(Some(outline)) => write(outline.as_slice(), out, need),
+        Ok(None) | Err(_) => write(&text_of(ask), out, need),
+    }
+}
+
+/// Writes bytes to the front of a buffer, and stores their length.
+fn write(bytes: &[u8], out: &mut [u8], need: &mut u64)
+    requires { length bytes.now ≤ length out.old }
+    ensures { Writes bytes.now 0 (need.old, out.old) (need.new, out.new) }
+{
+    *need = bytes.len() as u64;
+    out[..bytes.len()].copy_from_slice(bytes);
 }
 
 /// Returns the message of an ask.
@@ -167,7 +201,7 @@ fn text_of(ask: Ask) -> [u8; ASK_LEN]
     [2, first, second, third, fourth, ask.node.depth, high, low]
 }
 
-/// Takes the bytes of a partner's answer, and returns the verdict on them.
+/// Takes the bytes of a partner's answer or patch, and returns the verdict on them.
 pub fn take(
     alloc: Global,
     exchange: &mut Exchange,
@@ -222,10 +256,23 @@ pub(crate) fn number_of(stop: Stop) -> u64
     cause.number()
 }
 
-/// Counts an ask as lost, by its bytes, if it is on its way. An ask for another offer changes nothing. Refused:
-/// BadMessage (the bytes aren't an ask). Then the exchange is unchanged.
-#[tactic(auto, using(crate::proofs::ReadLaws::reads))]
+/// Counts an ask or an outline as lost, by its bytes, if it is on its way. One for another offer changes nothing. Refused:
+/// BadMessage (the bytes are neither). Then the exchange is unchanged.
 pub fn lose(alloc: Global, exchange: &mut Exchange, bytes: &[u8]) -> Result<(), Refusal>
+    ensures { LosesBytes exchange.old bytes.now result exchange.new }
+{
+    match outline_parts(alloc, bytes) {
+        Some((ask, _)) => {
+            lose_ask(exchange, ask);
+            Ok(())
+        }
+        None => lose_message(alloc, exchange, bytes),
+    }
+}
+
+/// Counts the bytes of a message as lost, if it is an ask.
+#[tactic(auto, using(crate::proofs::ReadLaws::reads))]
+fn lose_message(alloc: Global, exchange: &mut Exchange, bytes: &[u8]) -> Result<(), Refusal>
     ensures { Reads bytes.now (Loses exchange.old result exchange.new) }
 {
     let decoded = decode(alloc, bytes);

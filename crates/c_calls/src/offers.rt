@@ -5,7 +5,7 @@ ghost use Rattle.walk_messages.specs.Messages.{message_text};
 ghost use Rattle.walk_messages.specs.declared.message.Message.TheVariants as messages;
 ghost use Rattle.range_state.specs.Moments.{shown_fault};
 ghost use Rattle.c_calls.specs.Reads.{Reads};
-ghost use Rattle.c_calls.specs.Offers.{offer_numbered, ServesAsk, Serves};
+ghost use Rattle.c_calls.specs.Offers.{offer_numbered, ServesAsk, Serves, ServesOutline, ServesBytes};
 ghost use Rattle.c_calls.specs.Published.{shown_by};
 
 use crate::kept::Kept;
@@ -13,6 +13,7 @@ use crate::published::Published;
 use range_state::LocalRows;
 use snapshot::Snapshot;
 use std::alloc::Global;
+use text_patch::{Marks, outline_parts, patch};
 use tree_nodes::Text;
 use vclock::Refusal;
 use walk_messages::{Answer, Ask, Message, decode, encode};
@@ -39,12 +40,45 @@ pub fn offer(alloc: Global, snapshot: &Snapshot, number: u32) -> Result<Text, Re
     Ok(Text::from(bytes))
 }
 
-/// Writes the message that answers an ask, if it is for the offer with this number.
+/// Writes the message that answers an ask or an outline, if it is for the offer with this number: an answer or a patch.
 ///
-/// Refused, in order: BadMessage (the bytes aren't an ask), Gone (the ask is for another offer), BadMessage (the tree has
-/// no such node), NoMemory. If the bytes are an answer, NoMemory may replace BadMessage.
-#[tactic(auto, using(crate::proofs::ReadLaws::reads))]
+/// Refused, in order: BadMessage (the bytes are neither), Gone (it is for another offer), BadMessage (the tree has no such
+/// node), NoMemory. If the bytes are an answer, NoMemory may replace BadMessage.
+#[tactic(auto, unfolding(crate::specs::Offers::ServesBytes))]
 pub fn serve(alloc: Global, snapshot: &Snapshot, number: u32, bytes: &[u8]) -> Result<Text, Refusal>
+    ensures { ServesBytes snapshot.now number bytes.now result }
+{
+    match outline_parts(alloc, bytes) {
+        Some((ask, marks)) => serve_outline(alloc, snapshot, number, ask, &marks),
+        None => serve_message(alloc, snapshot, number, bytes),
+    }
+}
+
+/// Answers an outline from a snapshot. Refused, in order: Gone, BadMessage, NoMemory.
+fn serve_outline(
+    alloc: Global,
+    snapshot: &Snapshot,
+    number: u32,
+    ask: Ask,
+    marks: &Marks<'_>,
+) -> Result<Text, Refusal>
+    ensures { ServesOutline snapshot.now number ask marks.now result }
+{
+    if ask.offer != number {
+        return Err(Refusal::Gone);
+    }
+    let bytes = patch(alloc, snapshot, ask, marks)?;
+    Ok(Text::from(bytes))
+}
+
+/// Answers the bytes of a message from a snapshot, if it is an ask.
+#[tactic(auto, using(crate::proofs::ReadLaws::reads))]
+fn serve_message(
+    alloc: Global,
+    snapshot: &Snapshot,
+    number: u32,
+    bytes: &[u8],
+) -> Result<Text, Refusal>
     ensures { Reads bytes.now (Serves snapshot.now number result) }
 {
     let decoded = decode(alloc, bytes);
