@@ -1236,7 +1236,8 @@ struct NoLock {
 /// `exchange_beside` and `exchange_at_moment` make it.
 class Exchange {
 public:
-    /// Returns the asks to send now: none if all are on their way, if the bounds leave no room, or if it is over.
+    /// Returns the asks to send now: none if all are on their way, if the bounds leave no room, or if it is over. An ask
+    /// may be an outline, to which the partner sends only what differs.
     Result<std::vector<std::string>> asks(const Replica &replica) {
         std::vector<std::string> asks;
         while (true) {
@@ -1258,7 +1259,7 @@ public:
     }
 
     /// Counts an ask as lost if it is on its way, so that it may be sent again. Refused: BadMessage (the
-    /// bytes aren't an ask).
+    /// bytes aren't an ask or an outline).
     Result<void> lose(std::string_view ask) {
         return detail::done(c::antientropy_exchange_lose(at(), detail::data(ask), ask.size()));
     }

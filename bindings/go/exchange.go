@@ -183,7 +183,8 @@ func (e *exchange) locked() *exchange {
 }
 
 // Asks returns the asks to send now. There is none if each outstanding node is on its way or was left, if the bounds
-// leave no room, or if the exchange has stopped or is over.
+// leave no room, or if the exchange has stopped or is over. An ask may be an outline, to which the partner sends only
+// what differs.
 func (e *Exchange) Asks() ([][]byte, error) {
 	held := e.at.locked()
 	defer held.lock.Unlock()
@@ -221,7 +222,7 @@ func (e *Exchange) Take(answer []byte) (Verdict, error) {
 }
 
 // Lose counts an ask as lost if it is on its way, so that [Exchange.Asks] may return it again. Refused as
-// [ErrBadMessage] if the bytes aren't an ask.
+// [ErrBadMessage] if the bytes aren't an ask or an outline.
 func (e *Exchange) Lose(ask []byte) error {
 	held := e.at.locked()
 	defer held.lock.Unlock()

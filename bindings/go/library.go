@@ -38,6 +38,7 @@ const (
 	RootLen         = C.ANTIENTROPY_ROOT_LEN
 	OfferLen        = C.ANTIENTROPY_OFFER_LEN
 	AskLen          = C.ANTIENTROPY_ASK_LEN
+	AskRoom         = C.ANTIENTROPY_ASK_ROOM  // the outline of a leaf of 1,361 rows
 	RowMax          = C.ANTIENTROPY_ROW_MAX   // the text of a row
 	EntryMax        = C.ANTIENTROPY_ENTRY_MAX // the text of an entry
 	HintsMax        = C.ANTIENTROPY_HINTS_MAX // pending hints of a carrier

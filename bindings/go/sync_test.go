@@ -4,6 +4,8 @@ import (
 	"bytes"
 	"crypto/sha256"
 	"errors"
+	"fmt"
+	"strings"
 	"testing"
 
 	"antientropy"
@@ -119,6 +121,64 @@ func TestALinkThatPanics(t *testing.T) {
 		must(l.sync(b, filled(30), antientropy.DefaultBounds()))
 	}()
 	noSession(t, b)
+}
+
+// longRows returns two replicas that have 2,000 keys with values of 300 bytes. The partner has put 20 of them again.
+func longRows() (asker, partner *antientropy.Replica) {
+	asker, partner = newReplica(), newReplica()
+	value := strings.Repeat("v", 300)
+	for n := 0; n < 2_000; n++ {
+		key := fmt.Sprint("key ", n)
+		put(asker, key, value)
+		put(partner, key, value)
+		if n%100 == 0 {
+			must(partner.Put(1, []byte(key), []byte("new"), clock(1, 1)))
+		}
+	}
+	return asker, partner
+}
+
+// syncLongRows syncs them over a link that changes the patches. It returns the number of bytes of outlines and patches,
+// and of the answers in whose place they are.
+func syncLongRows(t *testing.T, change func(patch []byte) []byte) (sent, answered int) {
+	t.Helper()
+	asker, partner := longRows()
+	l := link{}
+	l.change = func(asks, answers [][]byte) ([][]byte, error) {
+		for i, ask := range asks {
+			if ask[0] == 4 {
+				sent += len(ask) + len(answers[i])
+				answered += len(must(l.snapshot.Serve(1, append([]byte{2}, ask[1:8]...))))
+				answers[i] = change(answers[i])
+			}
+		}
+		return answers, nil
+	}
+	synced := must(l.sync(asker, partner, antientropy.DefaultBounds()))
+	equal(t, []any{synced.Report, synced.Accepted}, []any{antientropy.ReportFinished, uint64(20)})
+	equal(t, []uint64{synced.Bad, synced.Lost}, []uint64{0, 0})
+	return sent, answered
+}
+
+// What both have doesn't travel.
+func TestPatches(t *testing.T) {
+	sent, answered := syncLongRows(t, func(patch []byte) []byte { return patch })
+	if 3*sent >= answered {
+		t.Errorf("outlines and patches have %d bytes, and the answers %d", sent, answered)
+	}
+}
+
+// A partner is asked plainly if it lies in each patch, or refuses the outlines, as one does that doesn't know them.
+func TestOutlinesWithoutATextCountAsNothing(t *testing.T) {
+	lie := func(patch []byte) []byte {
+		patch[len(patch)-1] ^= 1
+		return patch
+	}
+	refuse := func([]byte) []byte { return nil }
+	for _, change := range []func([]byte) []byte{lie, refuse} {
+		sent, _ := syncLongRows(t, change)
+		equal(t, sent > 0, true)
+	}
 }
 
 // Asks stop when the journal is full. What was taken before stays.

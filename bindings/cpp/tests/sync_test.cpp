@@ -234,6 +234,53 @@ void partner_that_lies() {
     CHECK(lost.report == Report::TooManyLost && lost.lost == 6 && lost.bad == 0 && sure(b.count()).entries == 0);
 }
 
+/// A replica with 40 long values. Of each fourth key it holds this version, and of the others the first one.
+Replica versions(std::uint64_t version) {
+    Replica replica = sure(Replica::make());
+    for (int n = 0; n < 40; n++) {
+        const std::uint64_t counter = n % 4 == 0 ? version : 1;
+        sure(replica.accept("key " + std::to_string(n), {{{1, counter}}, Kind::Live, std::string(300, 'v')}));
+    }
+    return replica;
+}
+
+bool is_patch(const std::string &answer) { return answer[0] == 5; }
+
+/// An outline is sent for each leaf that differs: a row has over 255 bytes. One that brings no text isn't counted.
+void patches_are_taken() {
+    Replica a = versions(2), b = versions(1);
+    Snapshot snapshot = sure(a.snapshot());
+    std::uint64_t sent = 0, leaves = 0;
+    const auto counting = [&](const Asks &asks) {
+        auto answers = serve(snapshot, asks);
+        for (const auto &answer : answers) leaves += is_patch(*answer) && (*answer)[5] == 3;
+        sent += asks.size();
+        return answers;
+    };
+    const Synced synced = sure(b.sync(1, sure(snapshot.offer(1)), counting));
+    CHECK(synced.finished() && synced.accepted == 10 && leaves == 10 && synced.asks == sent);
+    CHECK(sure(a.root()) == sure(b.root()));
+}
+
+/// A partner that lies in each patch, and one before outlines, which refuses them.
+void outlines_without_a_text() {
+    for (const bool lies : {true, false}) {
+        Replica a = versions(2), b = versions(1);
+        Snapshot snapshot = sure(a.snapshot());
+        const auto link = [&](const Asks &asks) {
+            auto answers = serve(snapshot, asks);
+            for (auto &answer : answers) {
+                if (!is_patch(*answer)) continue;
+                if (lies) answer->back() ^= 1;
+                else answer.reset();
+            }
+            return answers;
+        };
+        const Synced synced = sure(b.sync(1, sure(snapshot.offer(1)), link));
+        CHECK(synced.finished() && synced.accepted == 10 && synced.bad == 0 && synced.lost == 0);
+    }
+}
+
 /// An offer whose root is the digest of the text "junk": the text has the right digest, but isn't a node's.
 void not_canonical() {
     Replica replica = sure(Replica::make());
@@ -302,6 +349,8 @@ int main() {
                 {"leaf is left for its own answer", leaf_is_left_for_its_own_answer},
                 {"sync under a deadline", sync_under_a_deadline},
                 {"partner that lies", partner_that_lies},
+                {"patches are taken", patches_are_taken},
+                {"outlines without a text", outlines_without_a_text},
                 {"not canonical", not_canonical},
                 {"full journal", full_journal},
                 {"replica is closed meanwhile", replica_is_closed_meanwhile},

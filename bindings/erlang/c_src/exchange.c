@@ -5,7 +5,7 @@
 /* exchange_asks(Exchange) -> {ok, [Ask]} */
 CALL(EXCHANGE, exchange_asks)
 {
-    uint8_t ask[ANTIENTROPY_ASK_LEN];
+    uint8_t ask[ANTIENTROPY_ASK_ROOM];
     uint64_t len;
     ERL_NIF_TERM asks = enif_make_list(env, 0);
     for (;;) {

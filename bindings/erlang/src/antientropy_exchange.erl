@@ -47,7 +47,7 @@
 %% and leaves that were taken.
 
 %% @doc Returns the asks to send now. There are none if all are on their way, the bounds leave no room, or the exchange
-%% has stopped or is over.
+%% has stopped or is over. An ask may be an outline, to which the partner sends only what differs.
 -spec asks(exchange()) -> {ok, [Ask :: binary()]} | antientropy:refused().
 asks(Exchange) ->
     antientropy_nif:exchange_asks(Exchange).

@@ -249,6 +249,39 @@ crowded_leaf_test() ->
 ask_of(Leaf, <<Offer:5/binary, 3, _:16>>) -> <<Offer/binary, 3, Leaf:16>>;
 ask_of(_, Ask) -> Ask.
 
+%% Syncs a replica of 2,000 keys with values of 300 bytes, of which the partner has put 20 again, by a link that changes
+%% patches. Returns the numbers of bytes of outlines and patches, and of the answers in whose place they are.
+sync_long_rows(Change) ->
+    Value = binary:copy(<<"v">>, 300),
+    [A, B] = Pair = [replica(), replica()],
+    [{ok, _} = antientropy:put(Each, 1, key(Number), Value) || Each <- Pair, Number <- lists:seq(1, 2000)],
+    [{ok, _} = antientropy:put(A, 1, key(100 * Number), <<"new">>, #{1 => 1}) || Number <- lists:seq(1, 20)],
+    {Snapshot, Offer} = offered(A),
+    Sent = counters:new(2, []),
+    Serve = fun
+        (<<4, Node:7/binary, _/binary>> = Outline) ->
+            Patch = serve(Snapshot, Outline),
+            ok = counters:add(Sent, 1, byte_size(Outline) + byte_size(Patch)),
+            ok = counters:add(Sent, 2, byte_size(serve(Snapshot, <<2, Node/binary>>))),
+            Change(Patch);
+        (Ask) ->
+            {ok, serve(Snapshot, Ask)}
+    end,
+    {ok, Synced} = antientropy:sync(B, 1, Offer, fun(Asks) -> lists:map(Serve, Asks) end),
+    ?assertMatch(#{report := finished, accepted := 20, bad := 0, lost := 0}, Synced),
+    {counters:get(Sent, 1), counters:get(Sent, 2)}.
+
+%% What both have doesn't travel.
+patches_test() ->
+    {Sent, Answered} = sync_long_rows(fun(Patch) -> {ok, Patch} end),
+    ?assert(3 * Sent < Answered).
+
+%% A partner is asked plainly if it lies in each patch, or refuses the outlines, as one does that doesn't know them.
+outlines_without_a_text_count_as_nothing_test() ->
+    Lie = fun(Patch) -> {ok, support:flip(Patch, byte_size(Patch) - 1)} end,
+    Refuse = fun(_) -> {error, bad_message} end,
+    [?assertNotEqual({0, 0}, sync_long_rows(Change)) || Change <- [Lie, Refuse]].
+
 %% Of 100,000 keys at both 1,100 are newer at the partner. The time for the sync is over after each batch: the replica
 %% puts, and goes on with the same exchange.
 deadline_test_() ->

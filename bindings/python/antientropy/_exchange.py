@@ -42,7 +42,7 @@ class Exchange(Handle):
         self._replica._call_held("exchange_open", self._at, *args)
 
     def asks(self) -> List[bytes]:
-        """Returns the asks to send now.
+        """Returns the asks to send now. One may be an outline, to which the partner sends only what differs.
 
         There is none if each outstanding node is on its way or was left, if the bounds leave no room, or if the
         exchange has stopped or is over.

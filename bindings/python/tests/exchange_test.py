@@ -11,6 +11,7 @@ from antientropy import Bounds, Replica, Report, Source, VerdictKind
 from tests.support import ReplicaCase, crowd, reach, sync, take_all
 
 LEAF_DEPTH = 3
+OUTLINE = 4
 
 
 def ask_for(depth, index):
@@ -218,6 +219,41 @@ class SyncTest(ExchangeCase):
 
         synced = self.b.sync(1, self.offer, lie, Bounds(bad=5))
         self.assertEqual(synced, (Report.TOO_MANY_BAD, 0, 0, 6, 6, 0, []))
+
+    def sync_long_rows(self, change):
+        """Takes 20 of 2,000 keys with values of 300 bytes over a link that changes the patches.
+
+        Returns the number of bytes of outlines and patches, and of the answers in whose place they are.
+        """
+        keys, value = [b"key %d" % n for n in range(2000)], b"v" * 300
+        asker, partner, sent, answered = self.replica(), self.replica(), [], []
+        for replica in asker, partner:
+            replica.put_many(1, ((key, value) for key in keys))
+        partner.put_many(1, ((key, b"new", {1: 1}) for key in keys[::100]))
+        snapshot = self.snapshot_of(partner)
+
+        def answer(asks):
+            for ask in asks:
+                served = snapshot.serve(1, ask)
+                if ask[0] == OUTLINE:
+                    sent.append(len(ask) + len(served))
+                    answered.append(len(snapshot.serve(1, b"\2" + ask[1:8])))
+                    served = change(served)
+                yield served
+
+        synced = asker.sync(1, snapshot.offer(1), answer)
+        self.assertEqual((synced.report, synced.accepted, synced.bad, synced.lost), (Report.FINISHED, 20, 0, 0))
+        return sum(sent), sum(answered)
+
+    def test_patches(self):
+        """What both have doesn't travel."""
+        sent, answered = self.sync_long_rows(lambda patch: patch)
+        self.assertLess(3 * sent, answered)
+
+    def test_outlines_without_a_text_count_as_nothing(self):
+        """A partner is asked plainly if it lies in each patch, or refuses the outlines."""
+        for change in (lambda patch: patch[:-1] + bytes([patch[-1] ^ 1]), lambda patch: None):
+            self.assertGreater(self.sync_long_rows(change), (0, 0))
 
     def test_a_link_that_fails(self):
         def fail(asks):

@@ -2,15 +2,12 @@
 
 use std::iter;
 
-use crate::handle::{fill, written, Owned};
+use crate::handle::{bytes, written, Owned};
 use crate::moment::{at_moment, Access};
 use crate::refusal::{check, found, Refusal};
 use crate::replica::Replica;
 use crate::sys;
 use crate::values::{cause_of, Bounds, Progress, Verdict};
-
-/// Bytes of an ask.
-const ASK_LEN: usize = 8;
 
 /// The loop of a sync, which the program polls: the asks to send, the verdicts on the answers, and how far it is.
 ///
@@ -57,7 +54,8 @@ impl Exchange {
         Ok(exchange)
     }
 
-    /// Returns the asks to send now: none if all are on their way, if the bounds leave no room, or if it is over.
+    /// Returns the asks to send now: none if all are on their way, if the bounds leave no room, or if it is over. An ask
+    /// may be an outline, to which the partner sends only what differs.
     pub fn asks(&mut self, replica: &Replica) -> Result<Vec<Vec<u8>>, Refusal> {
         let next = || self.next(replica).map(|ask| Some(ask).filter(|ask| !ask.is_empty())).transpose();
         iter::from_fn(next).collect()
@@ -67,11 +65,7 @@ impl Exchange {
     fn next(&mut self, replica: &Replica) -> Result<Vec<u8>, Refusal> {
         let (exchange, mut share) = (self.handle.raw(), replica.handle.share());
         // SAFETY: as in `sys`.
-        unsafe {
-            fill::<u8, ASK_LEN>(|out, len, need| {
-                sys::antientropy_share_exchange_next(exchange, &mut share, out, len, need)
-            })
-        }
+        unsafe { bytes(|out, len, need| sys::antientropy_share_exchange_next(exchange, &mut share, out, len, need)) }
     }
 
     /// Takes a partner's answer, which isn't trusted. Answers may arrive in any order, late or twice.
@@ -86,7 +80,7 @@ impl Exchange {
 
     /// Counts an ask as lost if it is on its way, so that it may be sent again.
     ///
-    /// Refused as `BadMessage` if the bytes aren't an ask.
+    /// Refused as `BadMessage` if the bytes aren't an ask or an outline.
     pub fn lose(&mut self, ask: &[u8]) -> Result<(), Refusal> {
         // SAFETY: as in `sys`.
         check(unsafe { sys::antientropy_exchange_lose(self.handle.raw(), ask.as_ptr(), ask.len()) })

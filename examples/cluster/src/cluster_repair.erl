@@ -171,7 +171,8 @@ pull_offered({Range, Partner}, Excess, Offer, {ok, Replica}) ->
     {ok, #{number := Number}} = antientropy:read_offer(Offer),
     Serve = fun(Asks, Bytes) ->
         Arguments = [Range, cluster_ring:here(), Number, Asks],
-        cluster_wire:call(Partner, cluster_range, serve, Arguments, cluster_wire:limit_ms(Bytes + Excess))
+        LimitMs = cluster_wire:limit_ms(iolist_size(Asks) + Bytes + Excess),
+        cluster_wire:call(Partner, cluster_range, serve, Arguments, LimitMs)
     end,
     Bounds = #{bytes => cluster_wire:message_bytes(), bad => 0, lost => ?MOST_LOST},
     Pulled = sync(antientropy:exchange(Replica, Partner, Offer, Bounds), Serve),

@@ -1,7 +1,7 @@
 %% @doc All messages between nodes: calls of a function at another place, over Erlang's distribution.
 %%
 %% A call has an answer in 500 milliseconds, or its place counts as down. So does that of a paused node, of which the
-%% distribution says nothing yet. A call for many bytes has more time ({@link limit_ms/1}).
+%% distribution says nothing yet. A call of many bytes has more time ({@link limit_ms/1}).
 -module(cluster_wire).
 -behaviour(gen_server).
 
@@ -32,7 +32,7 @@ start_link() ->
 limit_ms() ->
     ?LIMIT_MS.
 
-%% @doc Returns the time of a call whose result has some bytes, in milliseconds.
+%% @doc Returns the time of a call that carries some bytes there and back, in milliseconds.
 -spec limit_ms(Bytes :: non_neg_integer()) -> pos_integer().
 limit_ms(Bytes) ->
     ?LIMIT_MS + Bytes div ?BYTES_PER_MS.

@@ -40,6 +40,45 @@ slow_link_test_() ->
         end)
     end).
 
+%% A place is asked plainly if it lies in each patch, or refuses the outlines, as one does that doesn't know them.
+outlines_without_a_text_test_() ->
+    Lie = fun(Patch) ->
+        Most = byte_size(Patch) - 1,
+        <<Before:Most/binary, Last>> = Patch,
+        {ok, <<Before/binary, (Last bxor 1)>>}
+    end,
+    Refuse = fun(_) -> {error, bad_message} end,
+    [room:test([], fun(_) -> outlines_without_a_text(Change) end) || Change <- [Lie, Refuse]].
+
+outlines_without_a_text(Change) ->
+    {ok, Partner} = antientropy:new(cluster_ring:replica_options(?RANGE)),
+    Test = self(),
+    Changed = fun
+        (<<4, _/binary>>, {ok, Patch}) ->
+            Test ! outlined,
+            Change(Patch);
+        (_, Answer) ->
+            Answer
+    end,
+    Other = fun
+        (2, cluster_range, serve, [_, _, _, Asks] = Arguments) ->
+            lists:zipwith(Changed, Asks, serve(serve, 2, Arguments, #{}));
+        (Place, cluster_range, Function, Arguments) ->
+            serve(Function, Place, Arguments, #{2 => Partner})
+    end,
+    Value = binary:copy(<<"v">>, 300),
+    with(Other, fun() ->
+        [{ok, _} = cluster_range:put(?RANGE, room:key(Number), Value, #{}) || Number <- lists:seq(1, 60)],
+        ?assertMatch({ok, #{report := finished}}, pull(2, Partner)),
+        [{ok, _} = antientropy:put(Partner, life(2), room:key(Number), <<"new">>) || Number <- lists:seq(1, 20)],
+        ?assertNot(lists:member({?RANGE, 2}, cluster_repair:round())),
+        ?assertMatch(#{entries := 80, sessions := 0}, cluster_range:counts(?RANGE)),
+        receive
+            outlined -> ok
+        after 0 -> error(no_outline)
+        end
+    end).
+
 %% Runs a test with a range, and with other places that do with a call what a function does.
 with(Other, Test) ->
     ?OFFERED = ets:new(?OFFERED, [named_table, public]),

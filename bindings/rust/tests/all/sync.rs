@@ -4,7 +4,7 @@ use std::panic::{catch_unwind, AssertUnwindSafe};
 
 use antientropy::{Bounds, Refusal, Replica, Report, Synced};
 
-use crate::support::{crowded_pair, filled, replica, serve, sessions, NONE};
+use crate::support::{crowded_pair, filled, live, replica, serve, sessions, NONE};
 
 /// The SHA-256 of `junk`.
 const JUNK: [u8; 32] = [
@@ -19,11 +19,16 @@ fn sync_over(
     replica: &mut Replica,
     partner: &mut Replica,
     bounds: Bounds,
-    change: impl Fn(Answers) -> Answers,
+    mut change: impl FnMut(Answers) -> Answers,
 ) -> Result<Synced, Refusal> {
     let snapshot = partner.snapshot().unwrap();
     let offer = snapshot.offer(1).unwrap();
     replica.sync_within(bounds, 9, &offer, |asks| change(serve(&snapshot, 1, asks)))
+}
+
+fn lie(mut answer: Vec<u8>) -> Vec<u8> {
+    *answer.last_mut().unwrap() ^= 1;
+    answer
 }
 
 #[test]
@@ -45,14 +50,54 @@ fn both_ways() {
 #[test]
 fn a_partner_that_lies() {
     let (mut a, mut b) = (filled(300), replica());
-    let lie = |mut answer: Vec<u8>| {
-        *answer.last_mut().unwrap() ^= 1;
-        answer
-    };
     let lies = |answers: Answers| answers.into_iter().map(|answer| answer.map(lie)).collect();
     let synced = sync_over(&mut b, &mut a, Bounds { bad: 5, ..Bounds::default() }, lies).unwrap();
     assert_eq!((synced.report, synced.bad, synced.asks, synced.lost), (Report::TooManyBad, 6, 6, 0));
     assert_eq!((b.count().unwrap().entries, sessions(&b)), (0, (0, 0)));
+}
+
+/// Returns a replica with 40 long values. Of each fourth key it holds this version, and of the others the first one.
+fn versions(version: u64) -> Replica {
+    let mut replica = replica();
+    for n in 0..40 {
+        let counter = if n % 4 == 0 { version } else { 1 };
+        assert!(replica.accept(format!("key {n}").as_bytes(), &live([(1, counter)], &[b'v'; 300])).unwrap());
+    }
+    replica
+}
+
+fn is_patch(answer: &[u8]) -> bool {
+    answer[0] == 5
+}
+
+/// An outline is sent for each leaf that differs: a row has over 255 bytes. One that brings no text isn't counted.
+#[test]
+fn patches_are_taken() {
+    let (mut a, mut b) = (versions(2), versions(1));
+    let mut answered: Answers = vec![];
+    let noted = |answers: Answers| {
+        answered.extend_from_slice(&answers);
+        answers
+    };
+    let synced = sync_over(&mut b, &mut a, Bounds::default(), noted).unwrap();
+    let leaves = answered.iter().flatten().filter(|answer| is_patch(answer) && answer[5] == 3).count();
+    assert_eq!((synced.report, synced.accepted, leaves), (Report::Finished, 10, 10));
+    assert_eq!((synced.asks, a.root()), (answered.len() as u64, b.root()));
+}
+
+/// A partner that lies in each patch, and one before outlines, which refuses them.
+#[test]
+fn outlines_without_a_text() {
+    for lies in [true, false] {
+        let (mut a, mut b) = (versions(2), versions(1));
+        let link = |answer: Vec<u8>| match is_patch(&answer) {
+            true => lies.then(|| lie(answer)),
+            false => Some(answer),
+        };
+        let over = |answers: Answers| answers.into_iter().map(|answer| answer.and_then(link)).collect();
+        let synced = sync_over(&mut b, &mut a, Bounds::default(), over).unwrap();
+        assert_eq!((synced.report, synced.accepted, synced.bad, synced.lost), (Report::Finished, 10, 0, 0));
+    }
 }
 
 #[test]
