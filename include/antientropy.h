@@ -271,7 +271,7 @@ struct antientropy_verdict {
 struct antientropy_progress {
     uint64_t report;       /* the report */
     uint64_t cause;        /* JOURNAL_FULL or NO_MEMORY if it is STOPPED; otherwise 0 */
-    uint64_t asks;         /* asks that were sent */
+    uint64_t asks;         /* asks that were sent, without outlines that brought no text */
     uint64_t on_way;       /* asks on their way */
     uint64_t bytes_on_way; /* bytes of the answers to them, as far as they can be estimated */
     uint64_t bad;          /* bad answers */

@@ -27,15 +27,15 @@ ghost use Rattle.exchange.specs.Exchanges.{IsJudged};
 ghost use Rattle.exchange.specs.Steps.{Step, MayAll, after_all, at_start};
 ghost use Rattle.exchange.specs.TruePartners.{AreTrueSteps, AsksFew};
 
-/// Whatever a partner sends, and whatever the owner calls, an exchange sends at most as many asks as the tree has
-/// nodes, and the bounds allow bad answers and lost asks.
+/// Whatever a partner sends, and whatever the owner calls, an exchange counts at most as many asks as the tree has
+/// nodes, and the bounds allow bad answers and lost asks. An outline that brought no text isn't counted.
 pub fn asks_are_bounded()
     ensures { (offer : Offer) (bounds : Bounds) (format : Format) (steps : List Step)
         → MayAll (at_start offer bounds format) steps
         → (after_all (at_start offer bounds format) steps).tally.asks ≤ node_count format + bounds.bad + bounds.lost }
 {}
 
-/// With a true partner, an exchange asks only for nodes at which the trees differ: it sends at most as many asks as there
+/// With a true partner, an exchange asks only for nodes at which the trees differ: it counts at most as many asks as there
 /// are such nodes, bad answers, lost asks, and answers that there was no room for.
 pub fn asks_of_a_true_partner_are_few()
     ensures { (offer : Offer) (bounds : Bounds) (own other : RowMap) (steps : List Step)

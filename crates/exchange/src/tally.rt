@@ -9,7 +9,7 @@ use range_state::AnswerTaken;
 /// The counts of an exchange. Those of versions and bytes stop at 2^64 - 1.
 #[derive(Clone, Copy, Debug, PartialEq, Eq)]
 pub struct Tally {
-    /// The number of asks that were sent.
+    /// The number of asks that were sent, without outlines that brought no text.
     pub asks: u64,
     /// The number of bad answers.
     pub bad: u64,
