@@ -9,9 +9,9 @@
 
 /* A session takes each of the 4,369 nodes of a tree of format 2 at most once. Bad answers are counted apart: more than
  * a few mean that the link or the partner is at fault. */
-enum { OFFER = 7, MOST_ASKS = 10000, MOST_BAD = 8, PORTION = 64 };
+enum { OFFER = 7, MOST_ASKS = 10000, MOST_BAD = 8, PORTION = 64, MARK_WIDTH = 3 };
 
-static uint8_t offer[ANTIENTROPY_OFFER_LEN], ask[ANTIENTROPY_ASK_LEN], text[ANTIENTROPY_VALUE_MAX_2];
+static uint8_t offer[ANTIENTROPY_OFFER_LEN], ask[ANTIENTROPY_ASK_ROOM], text[ANTIENTROPY_VALUE_MAX_2];
 
 /* The room of an answer, which grows: the answer of a leaf has no fixed limit. */
 static uint8_t *answer;
@@ -102,6 +102,19 @@ static bool is_bad_answer(uint32_t got)
     return got == ANTIENTROPY_BAD_MESSAGE || got == ANTIENTROPY_NOT_ASKED || got == ANTIENTROPY_WRONG_DIGEST;
 }
 
+/* Writes the message for the outstanding node at a place, and returns the number of its bytes: an outline, so that the
+ * partner sends only what is lacking, or the ask, if the outline doesn't fit or the answer before was bad. */
+static uint64_t message_for(const struct antientropy_replica *replica, uint64_t session, uint64_t place,
+                            uint32_t number, bool was_bad)
+{
+    uint64_t len;
+    uint32_t got = antientropy_outline_at(replica, session, place, number, MARK_WIDTH, ask, sizeof ask, &len);
+    if (got == ANTIENTROPY_OK && !was_bad)
+        return len;
+    want("ask", antientropy_ask_at(replica, session, place, number, ask, sizeof ask, &len), ANTIENTROPY_OK);
+    return len;
+}
+
 /* Answers the ask from a snapshot, and returns the number of bytes. If they don't fit, it makes room and serves
  * again. */
 static uint64_t serve(const struct antientropy_snapshot *offered, uint64_t ask_len)
@@ -126,11 +139,11 @@ static void sync(struct antientropy_replica *replica, struct antientropy_replica
     uint64_t len = offer_now(partner, &offered, OFFER), session, state, accepted = 0;
     unsigned asks, bad = 0, crowded = 0;
     want("read_offer", antientropy_read_offer(offer, len, &parts), ANTIENTROPY_OK);
-    uint32_t got, number = (uint32_t)parts.number;
+    uint32_t got = ANTIENTROPY_OK, number = (uint32_t)parts.number;
     hold(replica);
     want("open", antientropy_open_at_moment(replica, 2, offer, len, &session), ANTIENTROPY_OK);
     for (asks = 0; asks < MOST_ASKS && bad < MOST_BAD; asks++) {
-        want("ask", antientropy_ask_at(replica, session, crowded, number, ask, sizeof ask, &len), ANTIENTROPY_OK);
+        len = message_for(replica, session, crowded, number, is_bad_answer(got));
         if (len == 0)
             break;
         len = serve(&offered, len);

@@ -146,11 +146,21 @@ static void await_patch(void)
     must("exchange_next", antientropy_exchange_next(&awaiting, &asker, outline, sizeof outline, &outline_len));
 }
 
+/* Passes an answer or a patch to a session, which must refuse it. */
+static void bring_answer(const uint8_t *bytes, size_t len)
+{
+    struct antientropy_taken taken;
+    uint32_t got = antientropy_take(&replica, 63, NUMBER, bytes, len, &taken);
+    if (got != ANTIENTROPY_BAD_MESSAGE && got != ANTIENTROPY_NOT_ASKED && got != ANTIENTROPY_WRONG_DIGEST)
+        fail("take", got);
+}
+
 /* Passes a patch, which makes another text than the awaited one, or none. It may end the outline. */
 static void bring_patch(const uint8_t *bytes, size_t len)
 {
     struct antientropy_verdict verdict;
     struct antientropy_progress progress;
+    bring_answer(bytes, len);
     must("exchange_take", antientropy_exchange_take(&awaiting, &asker, bytes, len, &verdict));
     if (verdict.verdict != ANTIENTROPY_VERDICT_BAD && verdict.verdict != ANTIENTROPY_VERDICT_LATE)
         fail("the verdict on a patch", (uint32_t)verdict.verdict);
@@ -216,15 +226,6 @@ static void bring_exchange_answer(const uint8_t *bytes, size_t len)
     must("exchange_take", antientropy_exchange_take(&exchange, &replica, bytes, len, &verdict));
     if (verdict.verdict != ANTIENTROPY_VERDICT_BAD && verdict.verdict != ANTIENTROPY_VERDICT_LATE)
         fail("the verdict", (uint32_t)verdict.verdict);
-}
-
-/* Passes an answer, which must be refused. */
-static void bring_answer(const uint8_t *bytes, size_t len)
-{
-    struct antientropy_taken taken;
-    uint32_t got = antientropy_take(&replica, 63, NUMBER, bytes, len, &taken);
-    if (got != ANTIENTROPY_BAD_MESSAGE && got != ANTIENTROPY_NOT_ASKED && got != ANTIENTROPY_WRONG_DIGEST)
-        fail("take", got);
 }
 
 /* Loads rows of a format into an empty replica, by the call for one leaf if the format is 0. They may be good ones:

@@ -9,7 +9,7 @@
 #include <stdlib.h>
 #include <string.h>
 
-enum { OFFER = 7, CALLS = 40, NAME = 40, LOG = 1 << 16, ROOM = 1 << 14, KEYS = 12 };
+enum { OFFER = 7, CALLS = 48, NAME = 40, LOG = 1 << 16, ROOM = 1 << 14, KEYS = 12 };
 
 /* Makes a call until it isn't refused for memory. */
 #define DO(name, got) \
@@ -225,6 +225,9 @@ static void sync(void)
         DO("antientropy_ask_at", antientropy_ask_at(&b, session, 1, OFFER, out, ROOM, &need));
         if (len == 0)
             break;
+        /* Each second node is asked by an outline, which a patch answers. */
+        if (turn % 2 == 1)
+            DO("antientropy_outline_at", antientropy_outline_at(&b, session, 0, OFFER, 3, ask, sizeof ask, &len));
         DO("antientropy_serve", antientropy_serve(&snapshot, OFFER, ask, len, out, ROOM, &need));
         if (turn == 0)
             DO("antientropy_read_offer", antientropy_read_offer(out, need, &parts));
@@ -240,6 +243,22 @@ static void sync(void)
     DO("antientropy_snapshot_get", antientropy_snapshot_get(&shared, (const uint8_t *)"k\001", 2, out, ROOM, &need));
     add(out, need);
     antientropy_snapshot_free(&shared);
+}
+
+/* Renews replica b beside a put, which the new range accepts later. */
+static void renew_beside(const struct antientropy_pair *context)
+{
+    struct antientropy_renewal renewal = {0};
+    uint64_t left;
+    DO("antientropy_hold", antientropy_hold(&b));
+    hash_moment(&b);
+    DO("antientropy_renewal_begin", antientropy_renewal_begin(&b, 1000, &renewal));
+    put(&b, 2, KEYS + 1, context, 0);
+    DO("antientropy_renewal_build", antientropy_renewal_build(&renewal));
+    DO("antientropy_renewal_catch_up", antientropy_renewal_catch_up(&renewal, &b, 1, &left));
+    add(&left, sizeof left);
+    DO("antientropy_renewal_finish", antientropy_renewal_finish(&renewal, &b));
+    antientropy_renewal_free(&renewal);
 }
 
 /* Keeps hints, renews them, and makes slots. */
@@ -261,7 +280,7 @@ static void keep_hints(const struct antientropy_pair *clock, size_t len)
     antientropy_slots_free(&slots);
 }
 
-/* One run: puts at both, copies, a sync, reads, a renewal, loads, a migration, hints. */
+/* One run: puts at both, copies, a sync, reads, two renewals, loads, a migration, hints. */
 static void run(void)
 {
     struct antientropy_pair six[6] = {{1, 1}, {2, 1}, {3, 1}, {4, 1}, {5, 1}, {6, 1}}, merged[ANTIENTROPY_CLOCK_MAX];
@@ -287,6 +306,7 @@ static void run(void)
     add(merged, need * sizeof *merged);
     DO("antientropy_renew", antientropy_renew(&b, &renewed, 1000));
     antientropy_free(&renewed);
+    renew_beside(six);
     for (int n = 0; n < KEYS / 2; n++) {
         key[1] = (uint8_t)n;
         DO("antientropy_get", antientropy_get(&b, key, 2, text, ROOM, &need));

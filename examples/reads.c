@@ -104,6 +104,7 @@ static void read_session(const struct antientropy_replica *replica, uint64_t ses
     READ(to, antientropy_outstanding(replica, session, &number), &number, sizeof number);
     READ(to, antientropy_ask(replica, session, OFFER, room, ROOM, need), room, *need);
     READ(to, antientropy_ask_at(replica, session, 0, OFFER, room, ROOM, need), room, *need);
+    READ(to, antientropy_outline_at(replica, session, 0, OFFER, 3, room, ROOM, need), room, *need);
 }
 
 static void read_snapshot(const struct antientropy_snapshot *snapshot, const uint8_t *key, size_t key_len,
@@ -123,6 +124,17 @@ static void read_snapshot(const struct antientropy_snapshot *snapshot, const uin
     READ(to, antientropy_offer(snapshot, OFFER, room, ROOM, need), room, *need);
     READ(to, antientropy_serve(snapshot, OFFER, ask, sizeof ask, room, ROOM, need), room, *need);
     READ(to, antientropy_rows(snapshot, leaf, room, ROOM, need), room, *need);
+}
+
+/* Begins a renewal of a replica, lets it catch up, and frees it. */
+static void begin_renewal(const struct antientropy_replica *replica, struct reading *to)
+{
+    struct antientropy_renewal renewal = {0};
+    uint64_t left;
+    READ(to, antientropy_renewal_begin(replica, KEYS, &renewal), NULL, 0);
+    must("renewal_build", antientropy_renewal_build(&renewal));
+    READ(to, antientropy_renewal_catch_up(&renewal, replica, 1, &left), &left, sizeof left);
+    antientropy_renewal_free(&renewal);
 }
 
 /* Makes other handles of those that are read, reads a little of each, and frees it. */
@@ -163,6 +175,7 @@ static uint64_t read_all(const struct handles *of, struct reading *to)
     read_session(&of->replica, of->session, to);
     read_snapshot(&of->snapshot, key, sizeof key - 1, spot.leaf, to);
     make_others(of, to);
+    begin_renewal(&of->replica, to);
     return to->sum;
 }
 

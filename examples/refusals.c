@@ -9,6 +9,9 @@
 
 enum { OFFER = 7, OTHER_OFFER = 8, PAIRS = ANTIENTROPY_CLOCK_MAX + 1, ANSWER_HEAD = 16, ROOM = 1 << 16 };
 
+/* An outline of the root: its head, and a mark of one byte for each child. */
+enum { ROOT_OUTLINE_LEN = 13 + 16 };
+
 #define SEE(name, number, got) SEE_OF("antientropy_" #name, number, got)
 #define SEE_OF(call, number, got) see(call, #number, got, ANTIENTROPY_##number)
 #define OK(got) ok(#got, got)
@@ -17,6 +20,10 @@ enum { OFFER = 7, OTHER_OFFER = 8, PAIRS = ANTIENTROPY_CLOCK_MAX + 1, ANSWER_HEA
 static const uint8_t ABC_DIGEST[32] = {0xba, 0x78, 0x16, 0xbf, 0x8f, 0x01, 0xcf, 0xea, 0x41, 0x41, 0x40,
                                        0xde, 0x5d, 0xae, 0x22, 0x23, 0xb0, 0x03, 0x61, 0xa3, 0x96, 0x17,
                                        0x7a, 0x9c, 0xb4, 0x10, 0xff, 0x61, 0xf2, 0x00, 0x15, 0xad};
+
+/* Patches for the root: without steps, and with a step of a kind that there isn't. */
+static const uint8_t NO_STEPS[] = {5, 0, 0, 0, OFFER, 0, 0, 0, 0, 0, 0, 0, 0, 0, 0, 0};
+static const uint8_t BROKEN_STEP[] = {5, 0, 0, 0, OFFER, 0, 0, 0, 0, 0, 0, 0, 0, 0, 0, 1, 2};
 
 static const uint8_t KEY[] = "cart", VALUE[] = "milk";
 static uint8_t LONG[ANTIENTROPY_VALUE_MAX_2 + 1], out[ROOM];
@@ -145,6 +152,126 @@ static void moments(void)
     OK(antientropy_count(&replica, &counts));
     is("front stays after a drop", counts.front == 2);
     antientropy_snapshot_free(&snapshot);
+    antientropy_free(&replica);
+}
+
+/* Holds a moment of a replica, and hashes it. */
+static void hold(struct antientropy_replica *replica)
+{
+    uint64_t left;
+    OK(antientropy_hold(replica));
+    do
+        OK(antientropy_hash_moment(replica, 1000, &left));
+    while (left > 0);
+}
+
+/* Begins a renewal of a replica, and makes the new range. */
+static void build(struct antientropy_replica *replica, uint64_t limit, struct antientropy_renewal *renewal)
+{
+    hold(replica);
+    OK(antientropy_renewal_begin(replica, limit, renewal));
+    OK(antientropy_renewal_build(renewal));
+}
+
+/* The making of a renewal of a replica with two versions. */
+static void begins(struct antientropy_replica *replica, struct antientropy_renewal *renewal)
+{
+    SEE(renewal_begin, EMPTY, antientropy_renewal_begin(&none, 1000, renewal));
+    SEE(renewal_begin, DIRTY, antientropy_renewal_begin(replica, 1000, renewal));
+    OK(antientropy_hold(replica));
+    SEE(renewal_begin, DIRTY, antientropy_renewal_begin(replica, 1000, renewal));
+    SEE(renewal_build, EMPTY, antientropy_renewal_build(renewal));
+    SEE(renewal_catch_up, EMPTY, antientropy_renewal_catch_up(renewal, replica, 1, &need));
+    SEE(renewal_finish, EMPTY, antientropy_renewal_finish(renewal, replica));
+    hold(replica);
+    OK(antientropy_renewal_begin(replica, 0, renewal));
+    SEE(renewal_begin, HELD, antientropy_renewal_begin(replica, 1000, renewal));
+    SEE(renewal_build, BAD_RING, antientropy_renewal_build(renewal));
+    antientropy_renewal_free(renewal);
+    OK(antientropy_renewal_begin(replica, 1, renewal));
+    SEE(renewal_build, JOURNAL_FULL, antientropy_renewal_build(renewal));
+    SEE(renewal_catch_up, EMPTY, antientropy_renewal_catch_up(renewal, replica, 1, &need));
+    SEE(renewal_finish, EMPTY, antientropy_renewal_finish(renewal, replica));
+    antientropy_renewal_free(renewal);
+}
+
+/* The calls of a renewal that is made, and of one that is finished. */
+static void ends(struct antientropy_replica *replica, struct antientropy_renewal *renewal)
+{
+    build(replica, 1000, renewal);
+    SEE(renewal_build, HELD, antientropy_renewal_build(renewal));
+    SEE(renewal_catch_up, EMPTY, antientropy_renewal_catch_up(renewal, &none, 1, &need));
+    SEE(renewal_finish, EMPTY, antientropy_renewal_finish(renewal, &none));
+    accept(replica, 3, 2);
+    OK(antientropy_renewal_catch_up(renewal, replica, 1, &need));
+    is("one entry is left", need == 1);
+    OK(antientropy_renewal_finish(renewal, replica));
+    SEE(renewal_build, HELD, antientropy_renewal_build(renewal));
+    SEE(renewal_catch_up, EMPTY, antientropy_renewal_catch_up(renewal, replica, 1, &need));
+    SEE(renewal_finish, EMPTY, antientropy_renewal_finish(renewal, replica));
+    antientropy_renewal_free(renewal);
+}
+
+/* Lets the renewal of a replica, which has a version of node 1, catch up with another replica. The entries of that one
+ * after its first are `count` versions of the same key, of the nodes from `first` on. The calls must be refused. */
+static void stops(unsigned first, unsigned count, uint64_t limit, const char *number, uint32_t wanted)
+{
+    struct antientropy_replica replica = {0}, other = {0};
+    struct antientropy_renewal renewal = {0};
+    struct antientropy_pair pair = {1, 1};
+    uint64_t taken;
+    OK(antientropy_new(&replica, 2, 0, 0, 1000));
+    OK(antientropy_new(&other, 2, 0, 0, 1000));
+    accept(&replica, 1, 1);
+    OK(antientropy_accept(&other, VALUE, 4, &pair, 1, ANTIENTROPY_LIVE, VALUE, 4, &taken));
+    accept(&other, first, count);
+    build(&replica, limit, &renewal);
+    see("antientropy_renewal_catch_up", number, antientropy_renewal_catch_up(&renewal, &other, 1000, &need), wanted);
+    see("antientropy_renewal_finish", number, antientropy_renewal_finish(&renewal, &other), wanted);
+    antientropy_renewal_free(&renewal);
+    antientropy_free(&replica);
+    antientropy_free(&other);
+}
+
+/* A renewal is refused for a replica whose first number is another one, and for one with other bits. */
+static void strangers(struct antientropy_replica *renewed)
+{
+    struct antientropy_replica replica = {0}, half = {0};
+    struct antientropy_renewal renewal = {0};
+    OK(antientropy_new(&replica, 2, 0, 0, 1000));
+    OK(antientropy_new(&half, 2, 1, 0, 1000));
+    build(&replica, 1000, &renewal);
+    SEE(renewal_catch_up, STALE, antientropy_renewal_catch_up(&renewal, renewed, 1, &need));
+    SEE(renewal_finish, STALE, antientropy_renewal_finish(&renewal, renewed));
+    SEE(renewal_catch_up, STALE, antientropy_renewal_catch_up(&renewal, &half, 1, &need));
+    SEE(renewal_finish, STALE, antientropy_renewal_finish(&renewal, &half));
+    antientropy_renewal_free(&renewal);
+    antientropy_free(&replica);
+    antientropy_free(&half);
+}
+
+/* Renewals beside the puts. */
+static void renewals(void)
+{
+    struct antientropy_replica replica = {0};
+    struct antientropy_renewal renewal = {0};
+    struct antientropy_counts counts;
+    struct antientropy_pair later = {1, 2};
+    uint64_t taken;
+    OK(antientropy_new(&replica, 2, 0, 0, 1000));
+    accept(&replica, 1, 2);
+    begins(&replica, &renewal);
+    OK(antientropy_accept(&replica, KEY, 4, &later, 1, ANTIENTROPY_LIVE, VALUE, 4, &taken));
+    ends(&replica, &renewal);
+    OK(antientropy_count(&replica, &counts));
+    is("the numbers go on", counts.entries == 5 && counts.first == 1 && counts.limit == 1000);
+    SEE(entries, BAD_POSITION, antientropy_entries(&replica, 2, out, ROOM, &need, &taken));
+    OK(antientropy_entries(&replica, 3, out, ROOM, &need, &taken));
+    is("two entries are read", taken == 5);
+    strangers(&replica);
+    stops(1, 1, 1000, "STALE", ANTIENTROPY_STALE);
+    stops(2, ANTIENTROPY_VERSIONS_MAX, 1000, "CROWDED", ANTIENTROPY_CROWDED);
+    stops(2, 2, 2, "JOURNAL_FULL", ANTIENTROPY_JOURNAL_FULL);
     antientropy_free(&replica);
 }
 
@@ -595,16 +722,32 @@ static void sessions(void)
     SEE(ask_at, EMPTY, antientropy_ask_at(&none, session, 0, OFFER, out, ROOM, &need));
     SEE(ask_at, UNKNOWN_SESSION, antientropy_ask_at(&replica, session + 1, 0, OFFER, out, ROOM, &need));
     SEE(ask_at, SMALL, antientropy_ask_at(&replica, session, 0, OFFER, out, ANTIENTROPY_ASK_LEN - 1, &need));
+    SEE(outline_at, EMPTY, antientropy_outline_at(&none, session, 0, OFFER, 0, out, ROOM, &need));
+    SEE(outline_at, BAD_MESSAGE, antientropy_outline_at(&replica, session + 1, 0, OFFER, 0, out, ROOM, &need));
+    SEE(outline_at, BAD_MESSAGE, antientropy_outline_at(&replica, session + 1, 0, OFFER, 9, out, ROOM, &need));
+    SEE(outline_at, UNKNOWN_SESSION, antientropy_outline_at(&replica, session + 1, 0, OFFER, 8, out, ROOM, &need));
+    SEE(outline_at, SMALL, antientropy_outline_at(&replica, session, 0, OFFER, 1, out, ROOT_OUTLINE_LEN - 1, &need));
+    OK(antientropy_outline_at(&replica, session, 0, OFFER, 1, out, ROOT_OUTLINE_LEN, &need));
+    is("an outline has a mark for each child", need == ROOT_OUTLINE_LEN);
+    OK(antientropy_outline_at(&replica, session, 1, OFFER, 1, out, ROOM, &need));
+    is("no second node is outstanding", need == 0);
     len = root_answer(answer, "abc");
     SEE(take, EMPTY, antientropy_take(&none, session, OFFER, answer, len, &taken));
     SEE(take, BAD_MESSAGE, antientropy_take(&replica, session, OTHER_OFFER, answer, len, &taken));
     SEE(take, UNKNOWN_SESSION, antientropy_take(&replica, session + 1, OFFER, answer, len, &taken));
     SEE(take, WRONG_DIGEST, antientropy_take(&replica, session, OFFER, answer, len, &taken));
+    SEE(take, BAD_MESSAGE,
+        antientropy_take(&replica, session + 1, OTHER_OFFER, BROKEN_STEP, sizeof BROKEN_STEP, &taken));
+    SEE(take, UNKNOWN_SESSION,
+        antientropy_take(&replica, session + 1, OFFER, BROKEN_STEP, sizeof BROKEN_STEP, &taken));
+    SEE(take, BAD_MESSAGE, antientropy_take(&replica, session, OFFER, BROKEN_STEP, sizeof BROKEN_STEP, &taken));
+    SEE(take, WRONG_DIGEST, antientropy_take(&replica, session, OFFER, NO_STEPS, sizeof NO_STEPS, &taken));
     memcpy(forged, offer, sizeof offer);
     memcpy(forged + ANTIENTROPY_OFFER_LEN - ANTIENTROPY_ROOT_LEN, ABC_DIGEST, ANTIENTROPY_ROOT_LEN);
     OK(antientropy_open(&replica, 2, forged, sizeof forged, &other));
     SEE(take, NOT_CANONICAL, antientropy_take(&replica, other, OFFER, answer, len, &taken));
     SEE(take, NOT_ASKED, antientropy_take(&replica, other, OFFER, answer, len, &taken));
+    SEE(take, NOT_ASKED, antientropy_take(&replica, other, OFFER, BROKEN_STEP, sizeof BROKEN_STEP, &taken));
     SEE(cancel, EMPTY, antientropy_cancel(&none, session));
     SEE(cancel, UNKNOWN_SESSION, antientropy_cancel(&replica, session + 2));
     SEE(drop_sessions, EMPTY, antientropy_drop_sessions(&none));
@@ -890,6 +1033,7 @@ static void empty_replicas(struct results *at)
     EMPTY(antientropy_outstanding(&empty, 0, &at->number));
     EMPTY(antientropy_ask_at(&empty, 0, 0, OFFER, at->bytes, sizeof at->bytes, &at->number));
     EMPTY(antientropy_ask(&empty, 0, OFFER, at->bytes, sizeof at->bytes, &at->number));
+    EMPTY(antientropy_outline_at(&empty, 0, 0, OFFER, 1, at->bytes, sizeof at->bytes, &at->number));
     EMPTY(antientropy_take(&empty, 0, OFFER, VALUE, 4, &at->taken));
     EMPTY(antientropy_cancel(&empty, 0));
     EMPTY(antientropy_session(&empty, 0, &at->number));
@@ -1000,6 +1144,7 @@ int main(void)
     memset(LONG, 'k', sizeof LONG);
     makes();
     moments();
+    renewals();
     puts_and_accepts();
     reads();
     clocks();
@@ -1012,6 +1157,7 @@ int main(void)
     empty_handles();
     antientropy_free(&made);
     antientropy_free(NULL);
+    antientropy_renewal_free(NULL);
     antientropy_snapshot_free(NULL);
     antientropy_exchange_free(NULL);
     antientropy_hints_free(NULL);

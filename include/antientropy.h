@@ -8,10 +8,11 @@
  * RETURN VALUES
  *
  * Each call but those that free returns 0, or the number of the first cause in its list for which it was refused. A
- * refused call changes nothing, with two exceptions: an antientropy_rehash that runs out of memory may have made some
- * nodes clean, and an antientropy_take that returns ANTIENTROPY_NOT_CANONICAL has failed its session. Unless a call
- * says otherwise, it writes through its result pointers only if it returns 0. A call of an empty handle (EMPTY) writes
- * nothing, and changes no other handle.
+ * refused call changes nothing, with three exceptions: an antientropy_rehash that runs out of memory may have made some
+ * nodes clean, an antientropy_take that returns ANTIENTROPY_NOT_CANONICAL has failed its session, and a renewal that is
+ * refused when it catches up or finishes may have accepted some entries. Unless a call says otherwise, it writes
+ * through its result pointers only if it returns 0. A call of an empty handle (EMPTY) writes nothing, and changes no
+ * other handle.
  *
  * RESULTS OF VARIABLE LENGTH
  *
@@ -24,14 +25,15 @@
  * - Each pointer is valid, aligned and not NULL, even if its length is 0; a call that frees accepts NULL. Memory for
  *   out, need and the like is the caller's, and doesn't overlap the call's other arguments. No call gets one handle
  *   twice. The library keeps no pointer that it is passed.
- * - A handle (struct antientropy_replica, antientropy_snapshot, antientropy_portion, antientropy_exchange,
- *   antientropy_hints, antientropy_slots) is initialised with `= {0}`, and its fields are left alone. It may be moved
- *   in memory between calls; of copies only one is used. All bytes zero means that it holds nothing.
+ * - A handle (struct antientropy_replica, antientropy_renewal, antientropy_snapshot, antientropy_portion,
+ *   antientropy_exchange, antientropy_hints, antientropy_slots) is initialised with `= {0}`, and its fields are left
+ *   alone. It may be moved in memory between calls; of copies only one is used. All bytes zero means that it holds
+ *   nothing.
  * - READS AT ONCE, CHANGES ALONE. A call that takes a handle as const reads it, and any number of threads may make such
  *   calls of one handle at once. A call that takes it without const has it alone: no other call of that handle, not
  *   even a read, is in progress meanwhile. A reader-writer lock does that. A handle may go to another thread if the
  *   program orders that: by a lock, by a thread's start or join, or by a sequentially consistent atomic. Different
- *   handles may be used at once, even a replica, its snapshots and its portions.
+ *   handles may be used at once, even a replica, its renewal, its snapshots and its portions.
  * - No call from a signal handler, or from the forked child of a process with threads.
  * - malloc, realloc and free are of one allocator, which aligns blocks to 16 bytes.
  * - A put that follows a read is antientropy_put_read, which replaces only versions that its client has read. Before
@@ -43,9 +45,11 @@
  *   then lost silently. So responses, copies, hints and offers go out only after the versions in them are on disk. A
  *   clock has at most 32 pairs, and a number that was used stays in it. See docs/EMBEDDING_C.md, "Restarts", and
  *   examples/restart.c.
- * - What was made is freed: antientropy_free, antientropy_snapshot_free, antientropy_portion_free,
- *   antientropy_exchange_free, antientropy_hints_free, antientropy_slots_free. A snapshot, a portion or an exchange may
- *   outlive its replica.
+ * - A renewal catches up with the replica from which it began, and takes the place of that one: another replica isn't
+ *   always refused.
+ * - What was made is freed: antientropy_free, antientropy_renewal_free, antientropy_snapshot_free,
+ *   antientropy_portion_free, antientropy_exchange_free, antientropy_hints_free, antientropy_slots_free. A renewal, a
+ *   snapshot, a portion or an exchange may outlive its replica.
  */
 #ifndef ANTIENTROPY_H
 #define ANTIENTROPY_H
@@ -104,6 +108,7 @@ enum {
     ANTIENTROPY_JOURNAL_FULL = 8,     /* the journal has no room for the entries; of renew, or no numbers are left */
     ANTIENTROPY_OTHER_RANGE = 9,      /* a key or an offer is of another range, or the rows are of two leaves */
     ANTIENTROPY_DIRTY = 10,           /* some node has no digest, or there is no moment */
+    ANTIENTROPY_STALE = 11,           /* the replica isn't the one of the renewal */
     ANTIENTROPY_UNKNOWN_SESSION = 12, /* no session has this number */
     ANTIENTROPY_NOT_ASKED = 13,       /* the node isn't outstanding */
     ANTIENTROPY_WRONG_DIGEST = 14,    /* the text's digest isn't the expected one */
@@ -176,6 +181,12 @@ struct antientropy_replica {
 #ifndef __cplusplus
 #define antientropy antientropy_replica
 #endif
+
+/* A handle of a renewal of a replica. It may hold nothing. */
+struct antientropy_renewal {
+    void *at;
+    bool held;
+};
 
 /* A handle of a snapshot of a replica's rows. It may hold nothing. (C++ names it antientropy_offered, since there is a
  * function antientropy_snapshot.) */
@@ -347,6 +358,10 @@ struct antientropy_percentile {
  * compiler calls these, with a copy of the handle's struct as `share`. This call alone uses the copy: it writes it, and
  * leaves it unchanged at its end. It doesn't write the handle. */
 uint32_t antientropy_share_renew(struct antientropy_replica *share, struct antientropy_replica *into, uint64_t limit);
+uint32_t antientropy_share_renewal_begin(struct antientropy_replica *share, uint64_t limit,
+                                         struct antientropy_renewal *renewal);
+uint32_t antientropy_share_renewal_catch_up(struct antientropy_renewal *renewal, struct antientropy_replica *share,
+                                            uint64_t most, uint64_t *left);
 uint32_t antientropy_share_count(struct antientropy_replica *share, struct antientropy_counts *counts);
 uint32_t antientropy_share_about(struct antientropy_replica *share, struct antientropy_about *about);
 uint32_t antientropy_share_bytes(struct antientropy_replica *share, struct antientropy_bytes *bytes);
@@ -401,6 +416,8 @@ uint32_t antientropy_share_ask_at(struct antientropy_replica *share, uint64_t se
                                   uint8_t *out, size_t out_len, uint64_t *need);
 uint32_t antientropy_share_ask(struct antientropy_replica *share, uint64_t session, uint32_t number, uint8_t *out,
                                size_t out_len, uint64_t *need);
+uint32_t antientropy_share_outline_at(struct antientropy_replica *share, uint64_t session, uint64_t place,
+                                      uint32_t number, uint64_t width, uint8_t *out, size_t out_len, uint64_t *need);
 uint32_t antientropy_share_session(struct antientropy_replica *share, uint64_t session, uint64_t *state);
 uint32_t antientropy_share_exchange_next(struct antientropy_exchange *exchange, struct antientropy_replica *share,
                                          uint8_t *out, size_t out_len, uint64_t *need);
@@ -468,6 +485,56 @@ static inline uint32_t antientropy_renew(const struct antientropy_replica *from,
     struct antientropy_replica share = *from;
     return antientropy_share_renew(&share, into, limit);
 }
+
+/* A renewal while puts go on. antientropy_renew takes time in proportion to the rows, and no put is made meanwhile. These
+ * calls make the new replica in another thread: antientropy_renewal_begin takes the rows of the moment,
+ * antientropy_renewal_build makes the new replica from them, antientropy_renewal_catch_up accepts what the old one
+ * accepted since then, and antientropy_renewal_finish puts the new one in its place, without sessions and moment. */
+
+/* Begins a renewal in an empty handle: takes the rows of the replica's moment, which is whole (antientropy_hold,
+ * antientropy_hash_moment). Copies no row. The new journal has at most `limit` entries, 1 to 1,000,000: the call that
+ * builds tests it.
+ * Refused, in order: EMPTY (the replica), HELD (the handle holds a renewal already), DIRTY (there is no moment, or some
+ * node of it has no digest), NO_MEMORY. */
+static inline uint32_t antientropy_renewal_begin(const struct antientropy_replica *replica, uint64_t limit,
+                                                 struct antientropy_renewal *renewal)
+{
+    struct antientropy_replica share = *replica;
+    return antientropy_share_renewal_begin(&share, limit, renewal);
+}
+
+/* Makes the new replica from the rows of the moment: one entry for each version, as antientropy_renew does. It uses no
+ * replica, so any thread makes it while the replica is in other calls. It takes time in proportion to the rows.
+ * Refused, in order: EMPTY, HELD (it is made already), BAD_RING (the limit), JOURNAL_FULL (the moment has more versions
+ * than the limit), NO_MEMORY. */
+uint32_t antientropy_renewal_build(struct antientropy_renewal *renewal);
+
+/* Accepts the next entries that the replica accepted since the moment, at most `most` of them, and returns the number
+ * of those that are left. It reads the replica only. A program that repeats it until few are left finishes in a short
+ * time; with `most` 0 it accepts none. If an entry is refused, those before it are accepted.
+ * Refused, in order: EMPTY (the renewal or the replica; or the new one isn't made, or is in a replica's place), STALE
+ * (the replica isn't the one of the renewal: its journal begins at another number, its format, bits or range differs,
+ * or it has fewer entries than were accepted); then, for an entry, STALE (it isn't new), CROWDED, JOURNAL_FULL,
+ * NO_MEMORY, which may replace the three before it. */
+static inline uint32_t antientropy_renewal_catch_up(struct antientropy_renewal *renewal,
+                                                    const struct antientropy_replica *replica, uint64_t most,
+                                                    uint64_t *left)
+{
+    struct antientropy_replica share = *replica;
+    return antientropy_share_renewal_catch_up(renewal, &share, most, left);
+}
+
+/* Accepts all entries that are left, and puts the new replica in the place of the old one, under the same handle. The
+ * numbers of entries go on: the entries since the moment keep theirs, the versions carried over have those before, and
+ * the next entry gets a number that was never used. The renewal holds the old replica then: free it in a thread for
+ * which nobody waits. If the call is refused, the replica is unchanged.
+ * Refused, in order: EMPTY (the renewal or the replica; or the new one isn't made, or is in a replica's place), STALE
+ * (its journal begins at another number), JOURNAL_FULL (`entries` + 1,000,000 is over 2^64 - 1); then as
+ * antientropy_renewal_catch_up is: STALE, CROWDED, JOURNAL_FULL, NO_MEMORY. */
+uint32_t antientropy_renewal_finish(struct antientropy_renewal *renewal, struct antientropy_replica *replica);
+
+/* Frees what a renewal holds, if it holds something: the rows, the new replica, or the old one. */
+void antientropy_renewal_free(struct antientropy_renewal *renewal);
 
 /* Converts a replica of format 1 to format 2. All nodes become dirty, and open sessions are cancelled. A replica of
  * format 2 is left unchanged. Refused, in order: EMPTY, NO_MEMORY. */
@@ -937,10 +1004,29 @@ static inline uint32_t antientropy_ask(const struct antientropy_replica *replica
     return antientropy_share_ask(&share, session, number, out, out_len, need);
 }
 
-/* Takes a partner's answer to an ask for the offer of that number. The partner isn't trusted.
- * Refused, in order: EMPTY, BAD_MESSAGE (not an answer, or of another offer), UNKNOWN_SESSION, NOT_ASKED, WRONG_DIGEST,
- * NOT_CANONICAL (the session has failed), CROWDED, JOURNAL_FULL, NO_MEMORY. NO_MEMORY may be returned instead of any
- * but EMPTY. After BAD_MESSAGE, NOT_ASKED and WRONG_DIGEST ask again, with a bound on the number of bad answers. After
+/* Returns the outline of one of the outstanding nodes of a session, by its place from 0: the ask for it, with marks of
+ * `width` bytes, 1 to 8, of the parts of the node's text that the session's snapshot has. The partner's
+ * antientropy_serve answers it by a patch, which has only what these parts lack. If there are no more, `need` is 0.
+ * Send it in place of the ask if the partner has most of the parts, too: for a leaf with over 255 bytes of rows, say,
+ * by marks of 3 bytes. Refused, in order: EMPTY, BAD_MESSAGE (the width isn't 1 to 8), UNKNOWN_SESSION, NO_MEMORY,
+ * SMALL. */
+static inline uint32_t antientropy_outline_at(const struct antientropy_replica *replica, uint64_t session,
+                                              uint64_t place, uint32_t number, uint64_t width, uint8_t *out,
+                                              size_t out_len, uint64_t *need)
+{
+    struct antientropy_replica share = *replica;
+    return antientropy_share_outline_at(&share, session, place, number, width, out, out_len, need);
+}
+
+/* Takes a partner's answer to an ask, or its patch for an outline, for the offer of that number. The text that a patch
+ * makes is taken as an answer's is. The partner isn't trusted.
+ * Refused, in order: EMPTY, BAD_MESSAGE (neither, or of another offer), UNKNOWN_SESSION, NOT_ASKED,
+ * WRONG_DIGEST, NOT_CANONICAL (the session has failed), CROWDED, JOURNAL_FULL, NO_MEMORY. NO_MEMORY may be returned
+ * instead of any but EMPTY.
+ * A patch is refused, in order: EMPTY, BAD_MESSAGE (of another offer), UNKNOWN_SESSION, NOT_ASKED, BAD_MESSAGE (its
+ * steps make no text), and from WRONG_DIGEST on as an answer is. NO_MEMORY may be returned instead of any from the
+ * second BAD_MESSAGE on. A true patch may be refused as WRONG_DIGEST, too, if two parts share a mark: send the ask
+ * then. After BAD_MESSAGE, NOT_ASKED and WRONG_DIGEST ask again, with a bound on the number of bad answers. After
  * CROWDED, JOURNAL_FULL and NO_MEMORY the session stays open, and antientropy_ask names the same node: cancel the
  * session, or ask for another node by antientropy_ask_at. NOT_ASKED means that the node isn't outstanding. */
 uint32_t antientropy_take(struct antientropy_replica *replica, uint64_t session, uint32_t number, const uint8_t *answer,
@@ -1148,6 +1234,7 @@ uint32_t antientropy_slots_count(struct antientropy_slots *slots, struct antient
             call(at); \
     }
 ANTIENTROPY_ACCEPTS_NULL(antientropy_free, antientropy_replica)
+ANTIENTROPY_ACCEPTS_NULL(antientropy_renewal_free, antientropy_renewal)
 ANTIENTROPY_ACCEPTS_NULL(antientropy_snapshot_free, antientropy_snapshot)
 ANTIENTROPY_ACCEPTS_NULL(antientropy_portion_free, antientropy_portion)
 ANTIENTROPY_ACCEPTS_NULL(antientropy_exchange_free, antientropy_exchange)
@@ -1155,6 +1242,7 @@ ANTIENTROPY_ACCEPTS_NULL(antientropy_hints_free, antientropy_hints)
 ANTIENTROPY_ACCEPTS_NULL(antientropy_slots_free, antientropy_slots)
 #undef ANTIENTROPY_ACCEPTS_NULL
 #define antientropy_free(replica) antientropy_free_any(replica)
+#define antientropy_renewal_free(renewal) antientropy_renewal_free_any(renewal)
 #define antientropy_snapshot_free(snapshot) antientropy_snapshot_free_any(snapshot)
 #define antientropy_portion_free(portion) antientropy_portion_free_any(portion)
 #define antientropy_exchange_free(exchange) antientropy_exchange_free_any(exchange)

@@ -22,8 +22,9 @@
 /// and reads or changes the replica that it gets. A step of a `Sequence` reads its replica or snapshot; the `Sequence`
 /// itself is for one thread. Hints and slots have no const methods, and a `Loan` counts as its slots. A replica, its
 /// snapshots and its portions are apart, and may be used at once; so may snapshots that share rows.
-/// `snapshot_beside`, `exchange_beside` and `sync_beside` take the program's lock of a replica, and free it while they
-/// hash. Call nothing in a signal handler, or in the forked child of a process with threads.
+/// `snapshot_beside`, `exchange_beside`, `sync_beside`, `renew_beside` and `renew_if_due` take the program's lock of a
+/// replica, and free it while they hash. Call nothing in a signal handler, or in the forked child of a process with
+/// threads.
 #ifndef ANTIENTROPY_HPP
 #define ANTIENTROPY_HPP
 
@@ -82,6 +83,7 @@ enum class Refusal : std::uint32_t {
     JournalFull = c::ANTIENTROPY_JOURNAL_FULL,
     OtherRange = c::ANTIENTROPY_OTHER_RANGE,
     Dirty = c::ANTIENTROPY_DIRTY,
+    Stale = c::ANTIENTROPY_STALE,
     UnknownSession = c::ANTIENTROPY_UNKNOWN_SESSION,
     NotAsked = c::ANTIENTROPY_NOT_ASKED,
     WrongDigest = c::ANTIENTROPY_WRONG_DIGEST,
@@ -1361,7 +1363,61 @@ public:
     Result<Replica> renew(std::uint64_t limit = ANTIENTROPY_ENTRIES_MAX) const {
         Replica made;
         const auto number = c::antientropy_renew(at(), made.at(), limit);
+        if (number == c::ANTIENTROPY_OK) made.note_renewed();
         return detail::result(number, std::move(made));
+    }
+
+    /// Renews the replica as `renew` does, in its place. The sessions and the moment are gone then.
+    /// Refused, in order: BadRing (the limit), JournalFull (more versions are held than the limit, or no numbers are
+    /// left). The replica is unchanged then, but for its moment.
+    Result<void> renew_in_place(std::uint64_t limit = ANTIENTROPY_ENTRIES_MAX) {
+        detail::NoLock none;
+        return renew_beside(none, limit);
+    }
+
+    /// Renews the replica as `renew_in_place` does, while threads share it by a lock: a std::shared_mutex, say. The
+    /// caller doesn't hold it. It holds the rows now as a moment, makes the new journal of them without the lock, and
+    /// accepts what was put meanwhile. Other threads wait only for its steps under the lock: some 256 entries at once,
+    /// and a few at last. The numbers of entries go on: those since the moment keep theirs, and a log that has all
+    /// entries before it reads on.
+    /// Refused as `renew_in_place`; later Stale (another thread has renewed or migrated the replica meanwhile),
+    /// JournalFull. The replica is unchanged then, but for its moment.
+    template <class Lock>
+    Result<void> renew_beside(Lock &lock, std::uint64_t limit = ANTIENTROPY_ENTRIES_MAX) {
+        Renewal renewal; // has the old replica at last, and frees it when the lock is free
+        const auto begun = at_moment(
+            lock, [&] { return detail::done(c::antientropy_renewal_begin(at(), limit, renewal.get())); });
+        if (!begun) return begun;
+        const auto built = detail::done(c::antientropy_renewal_build(renewal.get()));
+        if (!built) return built;
+        const auto caught_up = catch_up(lock, renewal);
+        if (!caught_up) return caught_up;
+        const std::lock_guard<Lock> guard(lock);
+        const auto finished = detail::done(c::antientropy_renewal_finish(renewal.get(), at()));
+        if (finished) note_renewed();
+        return finished;
+    }
+
+    /// Returns true if a renewal is due: at nine tenths of the limit, once half of the room that the last renewal left
+    /// is used. So a journal that its rows alone fill isn't renewed for ever.
+    Result<bool> is_renewal_due() const {
+        const auto counts = count();
+        if (!counts) return counts.refusal();
+        const std::uint64_t used = counts->entries - counts->first, limit = counts->limit;
+        return used * 10 >= limit * 9 && used > held_ && (used - held_) * 2 >= limit - held_;
+    }
+
+    /// Renews the replica as `renew_beside` does, with its limit, if `is_renewal_due`. Returns true if it has. A thread
+    /// that repeats it lets the journal have room: a put is refused as JournalFull only if the last tenth of the limit
+    /// is used before the renewal has ended, or if rows alone fill the journal.
+    template <class Lock>
+    Result<bool> renew_if_due(Lock &lock) {
+        const auto limit = due_limit(lock);
+        if (!limit) return limit.refusal();
+        if (*limit == 0) return false;
+        const auto renewed = renew_beside(lock, *limit);
+        if (!renewed) return renewed.refusal();
+        return true;
     }
 
     /// Converts a replica of format 1 to format 2. All nodes become dirty, open sessions are cancelled, and the moment
@@ -1722,6 +1778,47 @@ private:
 
     static FileError refused(Refusal refusal) { return {Fault::Refused, refusal}; }
 
+    /// The new replica that is made beside the old one. After its finish it has the old one.
+    using Renewal = detail::Owner<c::antientropy_renewal, c::antientropy_renewal_free>;
+
+    /// Number of entries that a renewal accepts at once, at first, and maximum number of those that it leaves to its
+    /// finish.
+    static constexpr std::uint64_t at_once = 256, few = 64;
+
+    /// Accepts entries until few are left. It accepts more at once if other threads put as many meanwhile, so it ends.
+    template <class Lock>
+    Result<void> catch_up(Lock &lock, Renewal &renewal) {
+        std::uint64_t most = at_once, before = UINT64_MAX, left = 0;
+        do {
+            {
+                const std::lock_guard<Lock> guard(lock);
+                const auto done =
+                    detail::done(c::antientropy_renewal_catch_up(renewal.get(), at(), most, &left));
+                if (!done) return done;
+            }
+            if (left >= before) most *= 2;
+            before = left;
+        } while (left > few);
+        return {};
+    }
+
+    /// The limit if a renewal is due, or 0.
+    template <class Lock>
+    Result<std::uint64_t> due_limit(Lock &lock) const {
+        const std::lock_guard<Lock> guard(lock);
+        const auto is_due = is_renewal_due();
+        if (!is_due) return is_due.refusal();
+        const auto counts = count();
+        if (!counts) return counts.refusal();
+        return *is_due ? counts->limit : 0;
+    }
+
+    /// Notes the journal that a renewal left.
+    void note_renewed() {
+        const auto counts = count();
+        if (counts) held_ = counts->entries - counts->first;
+    }
+
     /// Holds a moment, hashes it without the lock, and makes a call as soon as it is whole, before the lock is free.
     /// Drops the moment then: its rows stay with what the call made, and no later hold frees them under the lock.
     template <class Lock, class Call>
@@ -1825,6 +1922,8 @@ private:
     }
 
     detail::Owner<detail::ReplicaHandle, c::antientropy_free> handle_;
+    /// Number of entries that the last renewal left: 0 before the first one.
+    std::uint64_t held_ = 0;
 };
 
 inline detail::ReplicaHandle *detail::handle_of(Replica &replica) { return replica.at(); }

@@ -287,5 +287,6 @@ func (e *exchange) close() {
 	C.antientropy_exchange_free(&held.handle)
 	if isOpen {
 		C.antientropy_drop_sessions(&held.replica.handle)
+		held.countAndRenewIfDue()
 	}
 }

@@ -18,13 +18,13 @@ var fixed = map[string]bool{
 // Methods of a replica, a snapshot or an exchange that change it: all others are made at once.
 var changes = map[string]bool{
 	"Replica.Accept": true, "Replica.Close": true, "Replica.DropMoment": true, "Replica.DropSessions": true,
-	"Replica.Exchange": true, "Replica.HashMoment": true, "Replica.Hold": true, "Replica.LoadFormat": true,
-	"Replica.LoadRows": true, "Replica.Migrate": true, "Replica.Put": true, "Replica.PutTombstone": true,
-	"Replica.PutTombstoneUnread": true, "Replica.PutUnread": true, "Replica.Rehash": true, "Replica.RehashSome": true,
-	"Replica.Root": true, "Replica.Save": true, "Replica.Snapshot": true, "Replica.Sync": true,
-	"Replica.SyncWithin": true, "Snapshot.Close": true, "Exchange.Asks": true, "Exchange.Close": true,
-	"Exchange.GoOn": true, "Exchange.Left": true, "Exchange.Lose": true, "Exchange.Progress": true,
-	"Exchange.Take": true,
+	"Replica.Exchange": true, "Replica.HashMoment": true, "Replica.Hold": true, "Replica.KeepRenewed": true,
+	"Replica.LoadFormat": true, "Replica.LoadRows": true, "Replica.Migrate": true, "Replica.Put": true,
+	"Replica.PutTombstone": true, "Replica.PutTombstoneUnread": true, "Replica.PutUnread": true,
+	"Replica.Rehash": true, "Replica.RehashSome": true, "Replica.RenewInPlace": true, "Replica.Root": true,
+	"Replica.Save": true, "Replica.Snapshot": true, "Replica.Sync": true, "Replica.SyncWithin": true,
+	"Snapshot.Close": true, "Exchange.Asks": true, "Exchange.Close": true, "Exchange.GoOn": true,
+	"Exchange.Left": true, "Exchange.Lose": true, "Exchange.Progress": true, "Exchange.Take": true,
 }
 
 // A locker is the lock of a handle.

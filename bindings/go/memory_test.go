@@ -34,6 +34,7 @@ var makers = map[string]maker{
 		}
 		snapshot, renewed := must(r.Snapshot()), must(r.Renew(64))
 		shared := must(snapshot.Share())
+		check(r.RenewInPlace(65))
 		put(r, "later", "")
 		exchange := opened(r, must(snapshot.Offer(7)))
 		if close {

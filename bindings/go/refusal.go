@@ -22,6 +22,7 @@ const (
 	ErrJournalFull    Refusal = C.ANTIENTROPY_JOURNAL_FULL    // the journal has no room for the entries
 	ErrOtherRange     Refusal = C.ANTIENTROPY_OTHER_RANGE     // of another range, or the rows are of two leaves
 	ErrDirty          Refusal = C.ANTIENTROPY_DIRTY           // some node has no digest, or there is no moment
+	ErrStale          Refusal = C.ANTIENTROPY_STALE           // the replica was renewed or migrated meanwhile
 	ErrUnknownSession Refusal = C.ANTIENTROPY_UNKNOWN_SESSION // no session has this number: no method returns it
 	ErrNotAsked       Refusal = C.ANTIENTROPY_NOT_ASKED       // the node isn't outstanding
 	ErrWrongDigest    Refusal = C.ANTIENTROPY_WRONG_DIGEST    // the text's digest isn't the expected one

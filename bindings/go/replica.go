@@ -28,6 +28,7 @@ type replica struct {
 	lock    sync.RWMutex // goroutines read at once
 	handle  C.struct_antientropy_replica
 	orphans orphans
+	keeper  keeper
 }
 
 // Counts are the counts of a replica.
@@ -261,7 +262,7 @@ func (r *Replica) put(node uint16, key []byte, context Clock, kind Kind, value [
 	defer held.lock.Unlock()
 	got := C.antientropy_go_put_read(held.memory(), C.uint64_t(node), bytesAt(key), C.size_t(len(key)), pairsAt(context),
 		C.size_t(len(context)), C.uint8_t(kind), bytesAt(value), C.size_t(len(value)))
-	return receiptOf(got)
+	return held.receipt(got)
 }
 
 // PutUnread puts as [Replica.Put], for a caller that has made its check itself: the new version replaces even a held
@@ -282,12 +283,18 @@ func (r *Replica) putUnread(node uint16, key []byte, context Clock, kind Kind, v
 	defer held.lock.Unlock()
 	got := C.antientropy_go_put(held.memory(), C.uint64_t(node), bytesAt(key), C.size_t(len(key)), pairsAt(context),
 		C.size_t(len(context)), C.uint8_t(kind), bytesAt(value), C.size_t(len(value)))
-	return receiptOf(got)
+	return held.receipt(got)
 }
 
-// receiptOf returns the result of a put.
-func receiptOf(got C.struct_antientropy_go_receipt) (Receipt, error) {
-	return Receipt{Number: uint64(got.receipt.number), Counter: uint64(got.receipt.counter)}, check(got.number)
+// receipt returns the result of a put, after which a renewal may be due. The caller holds the lock.
+func (r *replica) receipt(got C.struct_antientropy_go_receipt) (Receipt, error) {
+	if err := check(got.number); err != nil {
+		r.countAndRenewIfDue()
+		return Receipt{}, err
+	}
+	receipt := Receipt{Number: uint64(got.receipt.number), Counter: uint64(got.receipt.counter)}
+	r.renewIfDue(receipt.Number + 1)
+	return receipt, nil
 }
 
 // Accept accepts a version of another replica, as a copy. It returns false if the version was known.
@@ -301,5 +308,6 @@ func (r *Replica) Accept(key []byte, version Version) (bool, error) {
 	defer held.lock.Unlock()
 	number := C.antientropy_accept(&held.handle, bytesAt(key), C.size_t(len(key)), pairsAt(clock), C.size_t(len(clock)),
 		C.uint8_t(version.Kind), bytesAt(value), C.size_t(len(value)), &taken)
+	held.countAndRenewIfDue()
 	return taken != 0, check(number)
 }

@@ -34,7 +34,9 @@ func (r *Replica) LoadRows(rows []byte) (Loaded, error) {
 	var loaded C.struct_antientropy_loaded
 	held := r.at.locked()
 	defer held.lock.Unlock()
-	return loadedOf(C.antientropy_load(&held.handle, bytesAt(rows), C.size_t(len(rows)), &loaded), &loaded)
+	number := C.antientropy_load(&held.handle, bytesAt(rows), C.size_t(len(rows)), &loaded)
+	held.countAndRenewIfDue()
+	return loadedOf(number, &loaded)
 }
 
 // LoadFormat accepts all versions in rows of a format and of any leaves, in ascending order of key, as copies, or none.
@@ -47,6 +49,7 @@ func (r *Replica) LoadFormat(format uint8, rows []byte) (Loaded, error) {
 	held := r.at.locked()
 	defer held.lock.Unlock()
 	number := C.antientropy_load_format(&held.handle, C.uint64_t(format), bytesAt(rows), C.size_t(len(rows)), &loaded)
+	held.countAndRenewIfDue()
 	return loadedOf(number, &loaded)
 }
 

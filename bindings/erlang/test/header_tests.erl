@@ -6,7 +6,11 @@
 -define(HEADER, "../../include/antientropy.h").
 
 %% C's own loop of a sync, which has no functions here: an exchange is that loop.
--define(LOOP, ["open", "open_at_moment", "outstanding", "ask", "ask_at", "take", "session", "cancel"]).
+-define(LOOP, ["open", "open_at_moment", "outstanding", "ask", "ask_at", "outline_at", "take", "session",
+               "cancel"]).
+
+%% The renewal beside the puts, which only C has.
+-define(RENEWAL, ["renewal_begin", "renewal_build", "renewal_catch_up", "renewal_finish", "renewal_free"]).
 
 %% The function for each call of the header.
 -define(FUNCTIONS, #{
@@ -160,13 +164,13 @@ is_exported({Module, Function, Arity}) ->
     erlang:function_exported(Module, Function, Arity).
 
 %% The names of the calls in the header, but for those by shares, which its inline functions make, those of C's own
-%% loop, key_next and hash_moment. key_next is key_after with the key's memory for the result. hash_moment is the calls
-%% of a portion in one: the replica would be locked meanwhile.
+%% loop and of its renewal, key_next and hash_moment. key_next is key_after with the key's memory for the result.
+%% hash_moment is the calls of a portion in one: the replica would be locked meanwhile.
 declared() ->
     Declared = "(?m)^(?:static inline )?(?:uint32_t|void) antientropy_(?!share_)(\\w+)\\(",
     All = found([text(?HEADER)], Declared),
-    ?assertEqual([], ?LOOP -- All),
-    All -- ["key_next", "hash_moment" | ?LOOP].
+    ?assertEqual([], (?LOOP ++ ?RENEWAL) -- All),
+    All -- ["key_next", "hash_moment" | ?LOOP ++ ?RENEWAL].
 
 %% The first group of each match, sorted.
 found(Texts, Pattern) ->

@@ -63,6 +63,9 @@ CALLS: Dict[str, Tuple[Any, Tuple[Any, ...]]] = {
     "hash_portion": (c_uint32, _HANDLE),
     "install_portion": (c_uint32, (*_HANDLE, *_HANDLE, *_NUMBER)),
     "portion_free": (None, _HANDLE),
+    "renewal_build": (c_uint32, _HANDLE),
+    "renewal_finish": (c_uint32, (*_HANDLE, *_HANDLE)),
+    "renewal_free": (None, _HANDLE),
     "snapshot_free": (None, _HANDLE),
     "read_offer": (c_uint32, (*_BYTES, *_STRUCT)),
     "load": (c_uint32, (*_HANDLE, *_BYTES, *_STRUCT)),
@@ -97,6 +100,7 @@ CALLS: Dict[str, Tuple[Any, Tuple[Any, ...]]] = {
     "slots_count": (c_uint32, (*_HANDLE, *_STRUCT)),
     # calls by shares: the handle is a copy, which the call alone uses
     "share_renew": (c_uint32, (*_HANDLE, *_HANDLE, c_uint64)),
+    "share_renewal_begin": (c_uint32, (*_HANDLE, c_uint64, *_HANDLE)),
     "share_count": (c_uint32, (*_HANDLE, *_STRUCT)),
     "share_about": (c_uint32, (*_HANDLE, *_STRUCT)),
     "share_bytes": (c_uint32, (*_HANDLE, *_STRUCT)),
@@ -126,11 +130,17 @@ CALLS: Dict[str, Tuple[Any, Tuple[Any, ...]]] = {
     "share_offer": (c_uint32, (*_HANDLE, c_uint32, *_OUT)),
     "share_serve": (c_uint32, (*_HANDLE, c_uint32, *_BYTES, *_OUT)),
     "share_rows": (c_uint32, (*_HANDLE, c_uint64, *_OUT)),
-    # of an exchange, by a share of its replica
+    # of a renewal or an exchange, by a share of its replica
+    "share_renewal_catch_up": (c_uint32, (*_HANDLE, *_HANDLE, c_uint64, *_NUMBER)),
     "share_exchange_next": (c_uint32, (*_HANDLE, *_HANDLE, *_OUT)),
     "share_exchange_report": (c_uint32, (*_HANDLE, *_HANDLE, *_STRUCT)),
     "share_exchange_left": (c_uint32, (*_HANDLE, *_HANDLE, c_uint64, *_STRUCT)),
 }
 
-#: The calls that only read a handle, by their names without `share_`. Those of exchanges have the exchange alone.
-READS = frozenset(name[len(SHARE) :] for name in CALLS if name.startswith(SHARE) and "exchange" not in name)
+#: What the names begin with of calls that have their own handle alone, and read a replica.
+_BY_REPLICA = ("share_renewal_catch_up", "share_exchange")
+
+#: The calls that only read a handle, by their names without `share_`.
+READS = frozenset(
+    name[len(SHARE) :] for name in CALLS if name.startswith(SHARE) and not name.startswith(_BY_REPLICA)
+)

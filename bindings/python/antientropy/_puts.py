@@ -37,6 +37,7 @@ def put_many(replica: Replica, node: int, items: Iterable[Put]) -> List[Receipt]
     words = (c_uint64 * len(Receipt._fields))()
     receipt_at, unpack, new = byref(words), _RECEIPT.unpack_from, tuple.__new__
     receipts: List[Receipt] = []
+    keeper, note_put = replica._keeper, replica._note_put_held
     for item in items:
         key, value, context = item if len(item) == 3 else (*item, ())
         kind, pairs, length = live, no_pairs, none
@@ -53,6 +54,8 @@ def put_many(replica: Replica, node: int, items: Iterable[Put]) -> List[Receipt]
             number = put(at, at_node, key, key_len, pairs, length, kind, value, value_len, receipt_at)
             if not number:
                 receipts.append(new(Receipt, unpack(words)))
+            if keeper.is_on:
+                note_put(number, words[0])
         if number:
             raise _with_done(replica._library.refusal("put", number), receipts)
     return receipts

@@ -14,6 +14,7 @@ from ._library import Library, current
 from ._packed import unpack_entries
 from ._puts import put_many
 from ._refused import class_of
+from ._renewal import Keeper, renew_in_place
 from ._rows import Rows
 from ._snapshot import Snapshot
 from ._values import (
@@ -44,18 +45,34 @@ _PACKED_ROOM = 1 << 20
 class Replica(Rows):
     """A replica of one range of a ring of 2^bits ranges, in format 1 or 2, with a journal of at most `limit` entries.
 
+    With `renew` the replica is renewed by itself, as `renew_in_place` does with its limit: a put, an acceptance, a load
+    or the end of an exchange that finds that it is due starts a daemon thread, one at a time. It is due when nine
+    tenths of the limit are used and also half of the room that the last renewal left: so a journal that its rows alone
+    fill isn't renewed for ever. A put raises JournalFull only if the last tenth is used before the renewal has ended.
+    A log that lacks entries of before a renewal gets BadPosition: it reads the whole journal then.
+
     Raises BadRing if a number is outside its limits. Several threads may use a replica.
     """
 
     _free, _get_row, _next_key, _get_about = "free", "get", "key_next", "about"
 
-    def __init__(self, format: int = 2, bits: int = 0, range: int = 0, limit: int = _LIMIT) -> None:
+    def __init__(
+        self, format: int = 2, bits: int = 0, range: int = 0, limit: int = _LIMIT, *, renew: bool = False
+    ) -> None:
         self._prepare(current())
-        self._call("new", *(fits(number, 64) for number in (format, bits, range, limit)))
+        self._make(renew, "new", format, bits, range, limit)
 
     @classmethod
     def seeded(
-        cls, first: int, second: int, format: int = 2, bits: int = 0, range: int = 0, limit: int = _LIMIT
+        cls,
+        first: int,
+        second: int,
+        format: int = 2,
+        bits: int = 0,
+        range: int = 0,
+        limit: int = _LIMIT,
+        *,
+        renew: bool = False,
     ) -> Replica:
         """Makes a replica that finds keys by a hash with a seed of two words.
 
@@ -64,11 +81,18 @@ class Replica(Rows):
         """
         made = cls.__new__(cls)
         made._prepare(current())
-        made._call("new_seeded", *(fits(number, 64) for number in (format, bits, range, limit, first, second)))
+        made._make(renew, "new_seeded", format, bits, range, limit, first, second)
         return made
+
+    def _make(self, renew: bool, call: str, *numbers: int) -> None:
+        with self._lock:
+            self._call_held(call, *(fits(number, 64) for number in numbers))
+            if renew:
+                self._keeper.start_held(self)
 
     def _prepare(self, library: Library) -> None:
         super().__init__(library)
+        self._keeper = Keeper()
         #: The threads that are in calls at a moment, once for each call.
         self._moment_threads: List[int] = []
         #: Exchanges that were collected, and not closed.
@@ -94,7 +118,7 @@ class Replica(Rows):
 
         This one is left unchanged: close it, and go on with the new one under the same node number. The numbers of
         entries go on: both count as many, and the next entry gets a number that was never used. The new journal begins
-        at `count().first`.
+        at `count().first`. `renew_in_place` renews it while other threads put.
 
         Raises BadRing (the limit) or JournalFull (more versions are held than the limit).
         """
@@ -103,6 +127,19 @@ class Replica(Rows):
             renewed._prepare(self._library)
             self._call_held("renew", renewed._at, fits(limit, 64))
         return renewed
+
+    def renew_in_place(self, limit: int = _LIMIT) -> None:
+        """Renews the replica as `renew` does, in its place, while other threads put.
+
+        It holds the rows now as a moment, as `snapshot` does, makes the new journal of them without the lock, and
+        accepts what was put meanwhile. Puts wait only for its steps under the lock: the last one accepts a few entries.
+        The sessions and the moment are gone then, so the report of an exchange is GONE. The numbers of entries go on:
+        those since the moment keep theirs, and a log that has all entries before it reads on.
+
+        Raises BadRing (the limit), JournalFull (more versions are held than the limit, or accepted meanwhile) or Stale
+        (another thread has renewed or migrated the replica meanwhile). It is unchanged then.
+        """
+        renew_in_place(self, limit)
 
     def migrate(self) -> None:
         """Converts a replica of format 1 to format 2.
@@ -171,9 +208,19 @@ class Replica(Rows):
             number = put(self._at, node, key, len(key), pairs, length, kind, data, len(data), words)
             receipt = Receipt(words[0], words[1])
             self._spare.append(results)
+            self._note_put_held(number, receipt.number)
         if number:
             raise self._library.refusal(name, number)
         return receipt
+
+    def _note_put_held(self, refused: int, number: int) -> None:
+        """Renews the replica if a put of an entry of that number, or one that was refused, finds that it is due."""
+        if not self._keeper.is_on:
+            return
+        if refused:
+            self._keeper.count_and_renew_held(self)
+        else:
+            self._keeper.renew_if_due_held(self, number + 1)
 
     def put_many(self, node: int, items: Iterable[Put]) -> List[Receipt]:
         """Puts each item at a node, in turn, and returns the receipts. An item is a key, a value and maybe a context.
@@ -189,7 +236,12 @@ class Replica(Rows):
         Raises BadClock, ClockFull, BadKey, BadValue, OtherRange, Crowded or JournalFull.
         """
         key, (kind, data) = to_bytes(key), to_kind(value)
-        return bool(self._change_words(1, "accept", key, len(key), *to_pairs(clock), kind, data, len(data))[0])
+        pairs, length = to_pairs(clock)
+        with self._to_change():
+            try:
+                return bool(self._words_held(1, "accept", key, len(key), pairs, length, kind, data, len(data))[0])
+            finally:
+                self._keeper.count_and_renew_held(self)
 
     def get(self, key: bytes) -> List[Version]:
         """Returns all versions held for a key, as they are at one moment. Several are concurrent."""
@@ -391,7 +443,11 @@ class Replica(Rows):
     def _load_rows(self, call: str, rows: bytes, *format: int) -> Loaded:
         words = (c_uint64 * len(Loaded._fields + ("offset",)))()
         try:
-            self._call(call, *format, rows, len(rows), words)
+            with self._to_change():
+                try:
+                    self._call_held(call, *format, rows, len(rows), words)
+                finally:
+                    self._keeper.count_and_renew_held(self)
         except class_of("RowBroken") as refused:
             refused.offset = words[2]
             raise
@@ -407,12 +463,12 @@ class Replica(Rows):
             return snapshot.entries
 
     @classmethod
-    def load(cls, file: BinaryIO, limit: int = _LIMIT) -> Replica:
+    def load(cls, file: BinaryIO, limit: int = _LIMIT, *, renew: bool = False) -> Replica:
         """Returns a new replica with the rows of a checkpoint. Raises ValueError if the file is damaged.
 
         The root finds damage, but no forged file. Check `format`, `bits` and `range` against the configuration.
         """
-        return _checkpoint.load(file, lambda format, bits, range: cls(format, bits, range, limit))
+        return _checkpoint.load(file, lambda format, bits, range: cls(format, bits, range, limit, renew=renew))
 
     # ---- exchanges
 

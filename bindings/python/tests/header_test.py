@@ -18,8 +18,8 @@ STRUCTS = {"receipt": _values.Receipt, "spot": _values.Spot, "offer_parts": _val
            "counts": _values.Counts, "bytes": _values.ByteCounts, "about": _values.About,
            "hint_counts": _values.HintCounts, "slot_counts": _values.SlotCounts}
 #: C's own loop of a sync: here an exchange is that loop.
-OWN_LOOP = {"open", "open_at_moment", "share_outstanding", "share_ask_at", "share_ask", "take", "share_session",
-            "cancel"}
+C_ONLY = {"open", "open_at_moment", "share_outstanding", "share_ask_at", "share_ask", "share_outline_at", "take",
+          "share_session", "cancel"}
 
 
 def argument(text):
@@ -31,12 +31,12 @@ def argument(text):
 
 
 def declared():
-    """The types of each call in the header, but for C's own loop of a sync."""
+    """The types of each call in the header, but for those that only C has."""
     calls = {}
     for result, name, arguments in re.findall(r"^(uint32_t|void) antientropy_(\w+)\((.*?)\);", TEXT, re.M | re.S):
         types = () if arguments == "void" else tuple(argument(text.strip()) for text in arguments.split(","))
         calls[name] = (None if result == "void" else c_uint32, types)
-    return {name: calls[name] for name in calls.keys() - OWN_LOOP}
+    return {name: calls[name] for name in calls.keys() - C_ONLY}
 
 
 def constants():
@@ -57,7 +57,7 @@ class HeaderTest(unittest.TestCase):
 
     def test_reads(self):
         inline = re.findall(r"^static inline uint32_t antientropy_(\w+)\(\s*const struct", TEXT, re.M)
-        self.assertEqual(set(inline) - {name.replace("share_", "") for name in OWN_LOOP}, _calls.READS)
+        self.assertEqual(set(inline) - {name.replace("share_", "") for name in C_ONLY}, _calls.READS)
 
     def test_types(self):
         for name, types in declared().items():
@@ -75,7 +75,7 @@ class HeaderTest(unittest.TestCase):
         self.assertEqual(fields("node"), ("depth", "index"))
         handle = tuple(name for name, _ in _calls.HandleStruct._fields_)
         self.assertEqual(fields("hints"), handle)
-        for struct in ("replica", "snapshot", "portion", "exchange", "slots"):
+        for struct in ("replica", "renewal", "snapshot", "portion", "exchange", "slots"):
             self.assertEqual(fields(struct), handle[:2])
 
     def test_enums(self):

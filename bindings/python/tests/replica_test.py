@@ -358,7 +358,7 @@ class RefusalTest(ReplicaCase):
             (self.replica.count,), (self.replica.count_bytes,), (self.replica.migrate,), (self.replica.renew,),
             (list, self.replica.keys()), (self.replica.entries,), (self.replica.top_counter, 1, b"k"),
             (self.replica.entries, 0), (self.replica.packed_entries,), (self.replica.about,),
-            (self.replica.drop_sessions,), (lambda: self.replica.format,),
+            (self.replica.drop_sessions,), (self.replica.renew_in_place,), (lambda: self.replica.format,),
             (self.replica.put_unread, 1, b"k", b""), (self.replica.load_format, 2, b""),
         ):
             with self.subTest(call), self.assertRaises(antientropy.Empty):

@@ -51,7 +51,8 @@ def use(replica, hints):
         results += [snapshot.entries, snapshot.root(), snapshot.offer(1), snapshot.rows(0), replica.renew().count()]
         results += [shared.entries, list(shared.keys()), shared.row(b"cart"), shared.digest(1, 0), shared.count_bytes()]
     results += [hints.keep(2, b"cart", {1: 1}, b"milk"), hints.keep(2, b"tea", {1: 2}, None), list(hints.pending(2))]
-    return results + [hints.confirm(1), hints.count(), hints.count_bytes(), replica.migrate(), replica.root()]
+    results += [hints.confirm(1), hints.count(), hints.count_bytes(), replica.renew_in_place(), replica.count().first]
+    return results + [replica.migrate(), replica.root()]
 
 
 class SignalsTest(unittest.TestCase):
@@ -111,6 +112,7 @@ class SignalsTest(unittest.TestCase):
             lambda: replica.sync(1, offer, list),
             replica.hold,
             replica.drop_sessions,
+            replica.renew_in_place,
             replica.migrate,
             replica.close,
         ]

@@ -1,10 +1,11 @@
-//! Snapshots, exchanges and syncs of a replica that threads share.
+//! Snapshots, exchanges, syncs and renewals of a replica that threads share.
 
 use std::sync::{Mutex, RwLock};
 
 use crate::exchange::Exchange;
 use crate::moment::{at_moment, Access};
 use crate::refusal::Refusal;
+use crate::renewal;
 use crate::replica::Replica;
 use crate::snapshot::Snapshot;
 use crate::sync::{self, Synced};
@@ -104,4 +105,46 @@ where
     R: FnMut(&[Vec<u8>]) -> Vec<Option<Vec<u8>>>,
 {
     sync::sync(&mut Shared(shared), bounds, partner, offer, reach)
+}
+
+/// Renews a shared replica in its place, as [`Replica::renew_in_place`] does.
+///
+/// It holds the rows now as a moment, makes the new journal of them without the lock, and accepts what was put
+/// meanwhile. Other threads wait only for its steps under the lock: some 256 entries at once, and a few at last. The
+/// numbers of entries go on: those since the moment keep theirs, and a log that has all entries before it reads on.
+///
+/// Refused as `BadRing` (the limit), `JournalFull` (more versions are held than the limit, or accepted meanwhile) or
+/// `Stale` (another thread has renewed or migrated the replica meanwhile). The replica is unchanged then, but for its
+/// moment. Panics if the lock is poisoned.
+pub fn renew_beside<L: Lock>(shared: &L, limit: u64) -> Result<(), Refusal> {
+    renewal::renew(&mut Shared(shared), limit)
+}
+
+/// Renews a shared replica as [`renew_beside`], with its limit, if [`Replica::is_renewal_due`]. Returns true if it has.
+///
+/// A thread that repeats it lets the journal have room: a put is refused as `JournalFull` only if the last tenth of the
+/// limit is used before the renewal has ended, or if rows alone fill the journal.
+///
+/// ```
+/// use std::sync::RwLock;
+///
+/// use antientropy::{renew_if_due, Clock, Config, Replica};
+/// let shared = RwLock::new(Replica::new(Config { limit: 10, ..Config::default() })?);
+/// let mut context = Clock::new();
+/// for _ in 0..100 {
+///     let receipt = shared.write().unwrap().put(1, b"cart", Some(b"milk"), &context)?;
+///     context = Clock::from([(1, receipt.counter)]);
+///     renew_if_due(&shared)?; // better in a thread of its own
+/// }
+/// assert_eq!(shared.read().unwrap().count()?.entries, 100);
+/// # Ok::<(), antientropy::Refusal>(())
+/// ```
+pub fn renew_if_due<L: Lock>(shared: &L) -> Result<bool, Refusal> {
+    let mut shared = Shared(shared);
+    let is_due = shared.with(|replica| replica.is_renewal_due())?;
+    if is_due {
+        let limit = shared.with(|replica| replica.count())?.limit;
+        renewal::renew(&mut shared, limit)?;
+    }
+    Ok(is_due)
 }

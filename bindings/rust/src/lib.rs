@@ -12,6 +12,7 @@ mod moment;
 mod packed;
 mod portion;
 mod refusal;
+mod renewal;
 mod replica;
 mod rows;
 mod slots;
@@ -20,7 +21,7 @@ mod sync;
 mod sys;
 mod values;
 
-pub use beside::{exchange_beside, snapshot_beside, sync_beside, Lock};
+pub use beside::{exchange_beside, renew_beside, renew_if_due, snapshot_beside, sync_beside, Lock};
 pub use checkpoint::{CheckpointError, Damage};
 pub use exchange::Exchange;
 pub use functions::{compare, merge, place, read_offer, version};

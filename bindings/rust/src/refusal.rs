@@ -71,6 +71,8 @@ refusals! {
     OtherRange = 9,
     /// Some node has no digest, or there is no moment.
     Dirty = 10,
+    /// Another thread has renewed or migrated the replica meanwhile.
+    Stale = 11,
     /// No session has this number.
     UnknownSession = 12,
     /// The node isn't outstanding.

@@ -11,6 +11,7 @@ use crate::moment::at_moment;
 use crate::packed::{Entries, Packed};
 use crate::portion::Portion;
 use crate::refusal::{check, found, Refusal};
+use crate::renewal;
 use crate::rows::{row, Keys};
 use crate::snapshot::Snapshot;
 use crate::sync::{self, Synced};
@@ -83,6 +84,8 @@ impl Default for Config {
 #[derive(Debug)]
 pub struct Replica {
     pub(crate) handle: Owned,
+    /// Number of entries that the last renewal left: 0 before the first one.
+    held: u64,
 }
 
 impl Replica {
@@ -93,7 +96,7 @@ impl Replica {
             // SAFETY: the handle is empty and a local one.
             unsafe { sys::antientropy_new(raw, format.into(), bits.into(), range.into(), limit) }
         })?;
-        Ok(Replica { handle })
+        Ok(Replica { handle, held: 0 })
     }
 
     /// Makes an empty replica that finds keys by a hash with a seed.
@@ -107,7 +110,7 @@ impl Replica {
             // SAFETY: the handle is empty and a local one.
             unsafe { sys::antientropy_new_seeded(raw, format.into(), bits.into(), range.into(), limit, first, second) }
         })?;
-        Ok(Replica { handle })
+        Ok(Replica { handle, held: 0 })
     }
 
     /// Returns a new replica with the versions that are held: one entry for each, as a copy, and no sessions.
@@ -122,7 +125,47 @@ impl Replica {
             // SAFETY: as in `sys`; `into` is empty and a local one.
             unsafe { sys::antientropy_share_renew(&mut share, into, limit) }
         })?;
-        Ok(Replica { handle })
+        let mut renewed = Replica { handle, held: 0 };
+        renewed.note_renewed()?;
+        Ok(renewed)
+    }
+
+    /// Renews the replica as [`renew`](Replica::renew) does, in its place. The sessions and the moment are gone then.
+    ///
+    /// [`renew_beside`](crate::renew_beside) does it while other threads put. Refused as `BadRing` (the limit) or
+    /// `JournalFull` (more versions are held than the limit, or no numbers are left). The replica is unchanged then,
+    /// but for its moment.
+    pub fn renew_in_place(&mut self, limit: u64) -> Result<(), Refusal> {
+        renewal::renew(self, limit)
+    }
+
+    /// Returns true if a renewal is due: at nine tenths of the limit, once half of the room that the last renewal left
+    /// is used. So a journal that its rows alone fill isn't renewed for ever.
+    ///
+    /// ```
+    /// use antientropy::{Clock, Config, Replica};
+    /// let mut replica = Replica::new(Config { limit: 10, ..Config::default() })?;
+    /// let mut context = Clock::new();
+    /// while !replica.is_renewal_due()? {
+    ///     let receipt = replica.put(1, b"cart", Some(b"milk"), &context)?;
+    ///     context = Clock::from([(1, receipt.counter)]);
+    /// }
+    /// assert_eq!(replica.count()?.entries, 9);
+    /// replica.renew_in_place(10)?;
+    /// assert_eq!((replica.count()?.entries, replica.count()?.first), (9, 8));
+    /// # Ok::<(), antientropy::Refusal>(())
+    /// ```
+    pub fn is_renewal_due(&self) -> Result<bool, Refusal> {
+        let Counts { entries, first, limit, .. } = self.count()?;
+        let used = entries - first;
+        Ok(used * 10 >= limit * 9 && used > self.held && (used - self.held) * 2 >= limit - self.held)
+    }
+
+    /// Notes the journal that a renewal left.
+    pub(crate) fn note_renewed(&mut self) -> Result<(), Refusal> {
+        let Counts { entries, first, .. } = self.count()?;
+        self.held = entries - first;
+        Ok(())
     }
 
     /// Converts a replica of format 1 to format 2. All nodes become dirty, open sessions are cancelled, and the moment

@@ -104,6 +104,13 @@ pub struct Percentile {
 // The calls that read a replica or a snapshot. `share` is a copy of its handle, which the call alone uses.
 extern "C" {
     pub fn antientropy_share_renew(share: *mut Handle, into: *mut Handle, limit: u64) -> u32;
+    pub fn antientropy_share_renewal_begin(share: *mut Handle, limit: u64, renewal: *mut Handle) -> u32;
+    pub fn antientropy_share_renewal_catch_up(
+        renewal: *mut Handle,
+        share: *mut Handle,
+        most: u64,
+        left: *mut u64,
+    ) -> u32;
     pub fn antientropy_share_count(share: *mut Handle, counts: *mut Counts) -> u32;
     pub fn antientropy_share_about(share: *mut Handle, about: *mut About) -> u32;
     pub fn antientropy_share_bytes(share: *mut Handle, bytes: *mut Bytes) -> u32;
@@ -341,6 +348,9 @@ extern "C" {
     pub fn antientropy_hash_portion(portion: *mut Handle) -> u32;
     pub fn antientropy_install_portion(replica: *mut Handle, portion: *mut Handle, left: *mut u64) -> u32;
     pub fn antientropy_portion_free(portion: *mut Handle);
+    pub fn antientropy_renewal_build(renewal: *mut Handle) -> u32;
+    pub fn antientropy_renewal_finish(renewal: *mut Handle, replica: *mut Handle) -> u32;
+    pub fn antientropy_renewal_free(renewal: *mut Handle);
     pub fn antientropy_snapshot_free(snapshot: *mut Handle);
     pub fn antientropy_read_offer(offer: *const u8, offer_len: usize, parts: *mut OfferParts) -> u32;
     pub fn antientropy_load(replica: *mut Handle, rows: *const u8, rows_len: usize, loaded: *mut Loaded) -> u32;

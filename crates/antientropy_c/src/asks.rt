@@ -1,14 +1,14 @@
-//! Asks for the nodes that a session has outstanding.
+//! Asks for the nodes that a session has outstanding, and outlines of them.
 ghost use Rattle.std.specs.Prelude.{◌≡◌, ℕ, Result};
 ghost use Rattle.vclock.specs.declared.refusal.Refusal.{Refusal};
-ghost use Rattle.c_calls.specs.Asks.{outstanding_count, Asks};
+ghost use Rattle.c_calls.specs.Asks.{outstanding_count, Asks, Outlines};
 ghost use Rattle.antientropy_c.specs.Calls.{ReadsState};
 ghost use Rattle.c_calls.specs.Hands.{HandsNothing, HandsOutRight};
 ghost use Rattle.c_calls.specs.Numbers.{Returns};
 ghost use Rattle.c_calls.specs.Sessions.{TellsNumber};
 
 use crate::replica_share::ReplicaShare;
-use c_calls::asks::{ask, count_of};
+use c_calls::asks::{ask, count_of, outline};
 use c_calls::frame::read;
 use c_calls::kept::Kept;
 use c_calls::numbers::code;
@@ -59,8 +59,9 @@ pub extern "C" fn antientropy_share_ask(
     read(share, &mut call)
 }
 
-/// Writes the message that asks for one of the outstanding nodes of a session, by its place from 0 in the order in which
-/// the session asks: no bytes if fewer are outstanding. Refused, in order: EMPTY, UnknownSession, NoMemory, SMALL.
+/// Writes the message that asks for one of the outstanding nodes of a session, by its place from 0 in the order in
+/// which the session asks: no bytes if fewer are outstanding. Refused, in order: EMPTY, UnknownSession, NoMemory,
+/// SMALL.
 #[unsafe(no_mangle)]
 #[tactic(auto, using(crate::proofs::CallLaws::reads_nothing, crate::proofs::CallLaws::reads_held, crate::proofs::CallLaws::gives))]
 pub extern "C" fn antientropy_share_ask_at(
@@ -78,6 +79,33 @@ pub extern "C" fn antientropy_share_ask_at(
 {
     let mut call = |kept: &Kept| {
         let outcome = ask(alloc, kept.state(), session, place, number);
+        hand_out(&outcome, out, need)
+    };
+    read(share, &mut call)
+}
+
+/// Writes the outline of one of the outstanding nodes of a session, by its place from 0 in the order in which the
+/// session asks, with marks of so many bytes: no bytes if fewer are outstanding.
+///
+/// Refused, in order: EMPTY, BadMessage (the width isn't 1 to 8), UnknownSession, NoMemory, SMALL.
+#[unsafe(no_mangle)]
+#[tactic(auto, using(crate::proofs::CallLaws::reads_nothing, crate::proofs::CallLaws::reads_held, crate::proofs::CallLaws::gives))]
+pub extern "C" fn antientropy_share_outline_at(
+    alloc: Global,
+    share: &mut ReplicaShare,
+    session: u64,
+    place: u64,
+    number: u32,
+    width: u64,
+    out: &mut [u8],
+    need: &mut u64,
+) -> u32
+    ensures { ReadsState result share.old share.new (HandsNothing (need.old, out.old) (need.new, out.new))
+        (λ s. HandsOutRight result (need.old, out.old) (need.new, out.new)
+        (Outlines s session place number width)) }
+{
+    let mut call = |kept: &Kept| {
+        let outcome = outline(alloc, kept.state(), session, place, number, width);
         hand_out(&outcome, out, need)
     };
     read(share, &mut call)

@@ -33,6 +33,8 @@ pub mod puts;
 pub mod readers;
 pub mod readings;
 pub mod renewal;
+pub mod renewal_calls;
+pub mod renewal_handle;
 pub mod replica;
 pub mod replica_share;
 pub mod rows;

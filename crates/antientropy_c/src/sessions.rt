@@ -8,8 +8,7 @@ ghost use Rattle.range_state.specs.declared.event.AnswerTaken.{AnswerTaken};
 ghost use Rattle.range_state.specs.declared.local_rows.LocalRows.TheVariants as rows;
 ghost use Rattle.c_calls.specs.Numbers.{Returns};
 ghost use Rattle.antientropy_c.specs.Calls.{Calls, ReadsState};
-ghost use Rattle.c_calls.specs.Reads.{Reads};
-ghost use Rattle.c_calls.specs.Sessions.{OpensUnless, partner_fault, TellsNumber, TakesMessage, TellsTaken, session_seen};
+ghost use Rattle.c_calls.specs.Sessions.{OpensUnless, partner_fault, TellsNumber, TakesBytes, TellsTaken, session_seen};
 
 use crate::frame::with_state;
 use crate::replica::Replica;
@@ -47,8 +46,8 @@ pub extern "C" fn antientropy_open(
     with_state(replica, alloc, &mut call)
 }
 
-/// Opens a session as [`antientropy_open`] does, but one that compares the rows of the moment that the replica keeps: it
-/// may ask for leaves that differ only because the replica has gone on.
+/// Opens a session as [`antientropy_open`] does, but one that compares the rows of the moment that the replica keeps:
+/// it may ask for leaves that differ only because the replica has gone on.
 ///
 /// Refused as [`antientropy_open`] is; Dirty if there is no moment, or some node of it has no digest. On error the
 /// replica and the stored number are unchanged.
@@ -73,12 +72,17 @@ pub extern "C" fn antientropy_open_at_moment(
     with_state(replica, alloc, &mut call)
 }
 
-/// Takes the bytes of a partner's answer for a session with the partner's offer of that number.
+/// Takes the bytes of a partner's answer or patch for a session with the partner's offer of that number. The text that
+/// a patch makes is taken as an answer's is.
 ///
-/// Refused, in order: EMPTY, BadMessage (the bytes aren't an answer, or the answer is of another offer); then as
+/// Refused, in order: EMPTY, BadMessage (the bytes are neither, or the answer is of another offer); then as
 /// [`RangeState::take_answer`] is: UnknownSession, NotAsked, WrongDigest, NotCanonical (the session has failed then),
 /// Crowded, JournalFull, NoMemory. NoMemory may replace any of them if the bytes are an answer. On error the receipt is
 /// unchanged, and so is the replica after any refusal but NotCanonical.
+///
+/// A patch is refused, in order: EMPTY, BadMessage (it is of another offer), UnknownSession, NotAsked, BadMessage (its
+/// steps make no text), and from WrongDigest on as an answer is. NoMemory may replace any from the second BadMessage
+/// on.
 #[unsafe(no_mangle)]
 #[tactic(auto, using(crate::proofs::CallLaws::state_empty, crate::proofs::CallLaws::state_held, crate::proofs::CallLaws::returns))]
 pub extern "C" fn antientropy_take(
@@ -91,7 +95,7 @@ pub extern "C" fn antientropy_take(
 ) -> u32
     ensures { Calls result replica.old replica.new (receipt.new ≡ receipt.old)
         (λ s t. Returns result (λ (r : Result AnswerTaken Refusal).
-        Reads answer.now (TakesMessage s session number r t) × TellsTaken r receipt.old receipt.new)) }
+        TakesBytes s session number answer.now r t × TellsTaken r receipt.old receipt.new)) }
 {
     let mut call = |state: &mut RangeState| {
         let outcome = take(alloc, state, session, number, answer);

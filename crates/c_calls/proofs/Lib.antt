@@ -9,4 +9,7 @@ pub mod PairLaws
 pub mod PartLaws
 pub mod ReadLaws
 pub mod ReaderLaws
+pub mod RenewalLaws
+pub mod RenewalNumberLaws
 pub mod SendLaws
+pub mod AskLaws

@@ -10,6 +10,7 @@ pub mod Handoff
 pub mod Hands
 pub mod HintSteps
 pub mod Kept
+pub mod KeptRenewals
 pub mod Keys
 pub mod Library
 pub mod Loads

@@ -10,13 +10,10 @@ use Rattle.walk_messages.specs.declared.message.Ask.{Ask}
 use Rattle.walk_messages.specs.declared.message.Offer.{Offer}
 use Rattle.walk_messages.specs.declared.message.Message.{Message}
 use Rattle.walk_messages.specs.declared.message.Message.TheVariants as messages
-use Rattle.snapshot.specs.RowMaps.{RowMap, root_of, text_at, digest_at}
+use Rattle.snapshot.specs.RowMaps.{RowMap, root_of, text_at}
 use Rattle.snapshot.specs.Snapshots.{answer_fault}
 use Rattle.text_patch.specs.Marks.{MarkList}
-use Rattle.text_patch.specs.Messages.{patch_text, IsOutlineOf}
-use Rattle.text_patch.specs.Parts.{parts_at}
-use Rattle.text_patch.specs.Patches.{patch_for}
-use Rattle.text_patch.specs.Steps.{steps_text}
+use Rattle.text_patch.specs.Messages.{patch_of, IsOutlineOf}
 use Rattle.c_calls.specs.Reads.{Reads}
 
 -- the offer of some rows
@@ -40,14 +37,10 @@ Serves m number r (Ok (messages.Offer offer)) = r ≡ Err BadMessage
 Serves m number r (Ok (messages.Answer answer)) = r ≡ Err BadMessage
 Serves m number r (Err e) = r ≡ Err e
 
--- the salt of the marks of a node
-abbrev pub salt_at : RowMap → Ask → List ℕ
-salt_at m ask = digest_at m ask.node.depth ask.node.index
-
 -- an outline for the offer of that number is answered by a patch, and the result for another offer is Gone
 abbrev pub ServesOutline : RowMap → ℕ → Ask → MarkList → Result (List ℕ) Refusal → Type 0
 ServesOutline m number ask marks r = MatchBool (ask.offer == number)
-    (Answers r (answer_fault m ask.node) (λ bytes. bytes ≡ patch_text ask (steps_text (patch_for (salt_at m ask) marks 0 (parts_at m ask.node)))))
+    (Answers r (answer_fault m ask.node) (λ bytes. bytes ≡ patch_of m ask marks))
     (r ≡ Err Gone)
 
 -- the bytes are those of an outline

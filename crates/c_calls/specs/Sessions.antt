@@ -1,18 +1,21 @@
 -- Sessions, as C runs them.
-use Rattle.std.specs.Prelude.{◌≡◌, ℕ, ◌==◌, nat_le, List, length, Option, Some, None, Result, Ok, Err, MatchBool, if◌then◌else◌}
+use Rattle.std.specs.Prelude.{◌≡◌, ◌⊎◌, ℕ, ◌==◌, nat_le, List, length, Option, Some, None, Result, Ok, Err, MatchBool, if◌then◌else◌}
 use Rattle.vclock.specs.Outcome.{Does}
 use Rattle.vclock.specs.declared.refusal.Refusal.{Refusal}
-use Rattle.vclock.specs.declared.refusal.Refusal.TheVariants.{BadClock, BadMessage, UnknownSession, NotAsked}
+use Rattle.vclock.specs.declared.refusal.Refusal.TheVariants.{BadClock, BadMessage, UnknownSession}
 use Rattle.walk_messages.specs.declared.message.Answer.{Answer}
+use Rattle.walk_messages.specs.declared.message.Ask.{Ask}
 use Rattle.walk_messages.specs.declared.message.Message.{Message}
 use Rattle.walk_messages.specs.declared.message.Message.TheVariants as messages
-use Rattle.tree_nodes.specs.Nodes.{Node, contains_node}
+use Rattle.tree_nodes.specs.Nodes.{Node}
 use Rattle.sync_session.specs.declared.state.SessionState.{SessionState}
 use Rattle.sync_session.specs.declared.state.SessionState.TheVariants.{Open, Finished, Failed, Cancelled}
 use Rattle.range_state.specs.Records.{record_of}
 use Rattle.range_state.specs.State.{State}
 use Rattle.range_state.specs.Moments.{opening}
 use Rattle.range_state.specs.Sessions.{TakesAnswer}
+use Rattle.range_state.specs.Patches.{Patches}
+use Rattle.text_patch.specs.Messages.{IsPatchOf}
 use Rattle.range_state.specs.declared.local_rows.LocalRows.{LocalRows}
 use Rattle.range_state.specs.declared.«record».Record.{Record}
 use Rattle.range_state.specs.declared.event.AnswerTaken.{AnswerTaken}
@@ -40,14 +43,6 @@ abbrev pub TellsNumber : Result ℕ Refusal → ℕ → ℕ → Type 0
 TellsNumber (Ok n) old new = new ≡ n
 TellsNumber (Err e) old new = new ≡ old
 
--- the fault of a text for a node that a session does not have outstanding, which is found without the text
-abbrev pub asked_for : Option Record → Node → Option Refusal
-asked_for None node = Some UnknownSession
-asked_for (Some r) node = if contains_node node r.session.outstanding then None else Some NotAsked
-
-abbrev pub asked_fault : State → ℕ → Node → Option Refusal
-asked_fault s id node = asked_for (record_of id s.records) node
-
 -- an answer of the offer with that number is taken, as by seat 0, and one of another offer is refused
 abbrev pub TakesWith : State → ℕ → ℕ → Answer → Result AnswerTaken Refusal → State → Type 0
 TakesWith s id number a r t = MatchBool (a.offer == number)
@@ -60,6 +55,39 @@ TakesMessage s id number r t (Ok (messages.Answer answer)) = TakesWith s id numb
 TakesMessage s id number r t (Ok (messages.Offer offer)) = (r ≡ Err BadMessage) × (t ≡ s)
 TakesMessage s id number r t (Ok (messages.Ask ask)) = (r ≡ Err BadMessage) × (t ≡ s)
 TakesMessage s id number r t (Err e) = (r ≡ Err e) × (t ≡ s)
+
+-- the text that a patch makes is taken as an answer's, as by seat 0; a patch that makes none is refused
+abbrev pub TakesMade : State → ℕ → Node → Result (List ℕ) Refusal → Result AnswerTaken Refusal → State → Type 0
+TakesMade s id node (Ok text) r t = TakesAnswer s 0 id (record { node = node; text = text }) r t
+TakesMade s id node (Err e) r t = (r ≡ Err e) × (t ≡ s)
+
+-- the steps of a patch are taken: they make a text of the local parts
+pub record TakesSteps (s : State) (id : ℕ) (node : Node) (steps : List ℕ) (r : Result AnswerTaken Refusal) (t : State) : Type 0 where
+  pub made : Result (List ℕ) Refusal
+  pub is : Patches s id node steps made
+  pub taken : TakesMade s id node made r t
+
+-- a patch of the offer with that number is taken, and one of another offer is refused
+abbrev pub TakesPatch : State → ℕ → ℕ → Ask → List ℕ → Result AnswerTaken Refusal → State → Type 0
+TakesPatch s id number ask steps r t = MatchBool (ask.offer == number)
+    (TakesSteps s id ask.node steps r t)
+    ((r ≡ Err BadMessage) × (t ≡ s))
+
+-- the bytes are those of a patch
+pub record TakesPatched (s : State) (id number : ℕ) (bytes : List ℕ) (r : Result AnswerTaken Refusal) (t : State) : Type 0 where
+  pub ask : Ask
+  pub steps : List ℕ
+  pub is : IsPatchOf bytes ask steps
+  pub taken : TakesPatch s id number ask steps r t
+
+-- they are those of none
+pub record TakesOther (s : State) (id number : ℕ) (bytes : List ℕ) (r : Result AnswerTaken Refusal) (t : State) : Type 0 where
+  pub other : (ask : Ask) (steps : List ℕ) → IsPatchOf bytes ask steps → ⊥
+  pub taken : Reads bytes (TakesMessage s id number r t)
+
+-- the bytes of a patch or of a message are taken
+unfoldable pub TakesBytes : State → ℕ → ℕ → List ℕ → Result AnswerTaken Refusal → State → Type 0
+TakesBytes s id number bytes r t = TakesPatched s id number bytes r t ⊎ TakesOther s id number bytes r t
 
 -- the number of a session's state
 abbrev pub number_of_state : SessionState → ℕ

@@ -1,12 +1,14 @@
-//! Asks for the nodes that a session has outstanding.
+//! Asks for the nodes that a session has outstanding, and outlines of them.
 ghost use Rattle.std.specs.Prelude.{◌≡◌, slice_get, MatchOption};
 ghost use Rattle.vclock.specs.Answer.{AnswersAtOnce};
 ghost use Rattle.range_state.specs.Records.{record_of};
 ghost use Rattle.range_state.specs.Sessions.{unknown_fault};
-ghost use Rattle.c_calls.specs.Asks.{outstanding_count, Asks};
+ghost use Rattle.text_patch.specs.Marks.{width_fault};
+ghost use Rattle.c_calls.specs.Asks.{outstanding_count, Asks, Outlines};
 
 use range_state::RangeState;
 use std::alloc::Global;
+use text_patch::check_width;
 use tree_nodes::{NodeAt, Text};
 use vclock::Refusal;
 use walk_messages::{Ask, Message, encode};
@@ -38,6 +40,38 @@ pub fn ask(
     };
     let bytes = encode(alloc, &Message::Ask(ask))?;
     Ok(Text::from(bytes))
+}
+
+/// Writes the outline of the node that a session has outstanding at a place, with the number of the partner's offer and
+/// marks of so many bytes: no bytes if there is none.
+///
+/// Refused, in order: BadMessage (the width isn't 1 to 8), UnknownSession, NoMemory.
+pub fn outline(
+    alloc: Global,
+    state: &RangeState,
+    session: u64,
+    place: u64,
+    number: u32,
+    width: u64,
+) -> Result<Text, Refusal>
+    ensures { Outlines state.now session place number width result }
+{
+    let width = width_of(width)?;
+    let Some(node) = node_at(state, session, place)? else {
+        return Ok(Text::from(Vec::new(alloc)));
+    };
+    state.outline(alloc, session, node, number, width)
+}
+
+/// Returns the width of marks as a byte. Refused: BadMessage (it isn't 1 to 8).
+fn width_of(number: u64) -> Result<u8, Refusal>
+    ensures { AnswersAtOnce result (width_fault number) (λ width. width ≡ number) }
+{
+    let Ok(width) = u8::try_from(number) else {
+        return Err(Refusal::BadMessage);
+    };
+    check_width(width)?;
+    Ok(width)
 }
 
 /// Returns the node that a session has outstanding at a place, if any. Refused: UnknownSession.

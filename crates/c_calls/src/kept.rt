@@ -1,18 +1,19 @@
 //! A replica's state, and the numbers of its entries in C.
-ghost use Rattle.std.specs.Prelude.{◌≡◌, ◌+◌, ◌-◌, ◌^◌, ◌<◌, ◌≤◌, length, true, false, None, IfOk, IfSome, MatchOption};
+ghost use Rattle.std.specs.Prelude.{◌≡◌, ◌+◌, ◌-◌, ◌^◌, ◌<◌, ◌≤◌, length, ⊤, true, false, None, IfOk, IfErr, IfSome, MatchOption};
 ghost use Rattle.std.specs.Fn.{CalledAtMut};
 ghost use Rattle.std.specs.List.{AllByRecursion};
 ghost use Rattle.std.specs.Option.{option_copied};
-ghost use Rattle.vclock.specs.Answer.{Answers};
+ghost use Rattle.vclock.specs.Answer.{Answers, AnswersAtOnce};
 ghost use Rattle.vclock.specs.Outcome.{DoesOrNoMemory, through};
 ghost use Rattle.range_state.specs.Moments.{shown_fault};
 ghost use Rattle.range_state.specs.State.{put_by};
 ghost use Rattle.c_calls.specs.Kept.{numbered, with_state, entries_in, entry_at, front_in, renewal_fault, renewed_kept};
+ghost use Rattle.c_calls.specs.KeptRenewals.{IsNoLonger, first_number_fault, finish_fault, IsRenewedBy, FallsBehindUnless};
 ghost use Rattle.c_calls.specs.Packed.{IsWithin, entries_from, is_no_position};
 ghost use Rattle.c_calls.specs.Published.{shown_entries};
 
 use range_journal::Entry;
-use range_state::{ContextTest, LocalRows, RangeState, Receipt};
+use range_state::{ContextTest, LocalRows, RangeState, Receipt, Renewal, Unfinished};
 use std::alloc::Global;
 use std::marker::Model;
 use vclock::limits::ENTRIES_MAX;
@@ -72,6 +73,56 @@ impl Kept {
             first,
             renewed,
         })
+    }
+
+    /// Tests that the journal begins at a number. Doesn't allocate. Refused: Stale.
+    pub(crate) fn check_first(&self, first: u64) -> Result<(), Refusal>
+        ensures { AnswersAtOnce result (first_number_fault first self.now) (λ _. ⊤) }
+    {
+        if first != self.first {
+            return Err(Refusal::Stale);
+        }
+        Ok(())
+    }
+
+    /// Tests that 1,000,000 entries more have numbers, if the journal begins at a number. Doesn't allocate. Refused, in
+    /// order: Stale, JournalFull.
+    fn check_numbers(&self, first: u64) -> Result<(), Refusal>
+        ensures { AnswersAtOnce result (finish_fault first self.now) (λ _. ⊤) }
+    {
+        self.check_first(first)?;
+        if self.entries().checked_add(ENTRIES_MAX).is_none() {
+            return Err(Refusal::JournalFull);
+        }
+        Ok(())
+    }
+
+    /// Puts the new range of a renewal in the place of the state, as [`Renewal::finish`] does at seat 0, and returns the
+    /// old one. Its last entry has the last number that was used here.
+    ///
+    /// Refused, in order: Stale (the journal doesn't begin at the number `first`), JournalFull (after 1,000,000 entries
+    /// more a number could be over 2^64 - 1); then as [`Renewal::finish`] is. On error the replica is unchanged.
+    pub(crate) fn replace_by(
+        &mut self,
+        alloc: Global,
+        first: u64,
+        renewal: Renewal,
+    ) -> Result<RangeState, Unfinished>
+        requires { IsNoLonger renewal }
+        ensures done { IfOk result (λ old. (old ≡ self.old.state) × (finish_fault first self.old ≡ None)
+            × IsRenewedBy renewal self.old self.new) }
+        ensures refused { IfErr result (λ unfinished. (self.new ≡ self.old)
+            × FallsBehindUnless (finish_fault first self.old) renewal self.old.state unfinished.refusal unfinished.renewal) }
+    {
+        if let Err(refusal) = self.check_numbers(first) {
+            return Err(Unfinished { renewal, refusal });
+        }
+        let entries = self.entries();
+        let began = renewal.began();
+        let old = renewal.finish(alloc, 0, &mut self.state)?;
+        self.renewed = self.first + began;
+        self.first = entries - self.state.journal().len();
+        Ok(old)
     }
 
     /// The state.

@@ -3,14 +3,16 @@
 //!
 //! - [`frame`]: the frame of a call with the value of a handle, or with one of which it has a share.
 //! - [`numbers`]: the number that a call returns: 0, that of a refusal, or one of C alone; [`library`]: their names.
-//! - [`kept`]: a replica's state, with the numbers of its entries; [`lifecycle`], [`renewal`]: new ones.
+//! - [`kept`]: a replica's state, with the numbers of its entries; [`lifecycle`], [`renewal`]: new ones;
+//!   [`kept_renewal`]: one that is made beside the puts.
 //! - [`published`]: a snapshot, with the number of its entries; [`offers`], [`readers`], [`loads`]: the calls on it.
 //! - [`pair`], [`clocks`]: clocks as pairs; [`puts`]: puts, and versions of other replicas.
 //! - [`rows`], [`versions`], [`readings`], [`keys`], [`counters`]: reads of a replica.
 //! - [`counts`], [`sizes`], [`about`], [`entries`], [`packed`]: its counts, its size, its place, and its entries.
 //! - [`tree`], [`moments`], [`portions`]: hashing; [`sessions`], [`asks`], [`offer_parts`]: sessions with partners.
 //! - [`exchanges`]: the loop of a sync with a partner; [`progress`]: how far it is.
-//! - [`hint_calls`]: hints, whose numbers go on through renewals; [`laws`]: that no number names two of them.
+//! - [`hint_calls`]: hints, whose numbers go on through renewals.
+//! - [`laws`]: that no number names two hints, and that entries keep their numbers over a renewal beside the puts.
 //! - [`slot_calls`]: slots for background work; [`spots`]: the range and the leaf of a key.
 //! - [`output`]: copies of bytes to the buffers of C.
 //!
@@ -30,6 +32,7 @@ pub mod exchanges;
 pub mod frame;
 pub mod hint_calls;
 pub mod kept;
+pub mod kept_renewal;
 pub mod keys;
 pub mod laws;
 pub mod library;

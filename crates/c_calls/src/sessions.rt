@@ -1,17 +1,16 @@
 //! Sessions with other replicas.
-ghost use Rattle.std.specs.Prelude.{◌≡◌, ⊤};
-ghost use Rattle.vclock.specs.Answer.{AnswersAtOnce};
-ghost use Rattle.tree_nodes.specs.Nodes.{contains_node};
+ghost use Rattle.std.specs.Prelude.{◌≡◌};
 ghost use Rattle.c_calls.specs.Reads.{Reads};
-ghost use Rattle.c_calls.specs.Sessions.{Opens, OpensUnless, partner_fault, asked_fault, TellsNumber, TakesWith, TakesMessage, TellsTaken, number_of_state, session_seen};
+ghost use Rattle.c_calls.specs.Sessions.{Opens, OpensUnless, partner_fault, TellsNumber, TakesWith, TakesMessage, TakesPatch, TakesBytes, TellsTaken, number_of_state, session_seen};
 
 use range_state::{AnswerTaken, LocalRows, RangeState};
 use std::alloc::Global;
 use sync_session::SessionState;
-use tree_nodes::{NodeAt, hash};
+use text_patch::patch_parts;
+use tree_nodes::hash;
 use vclock::Refusal;
 use vclock::limits::NODE_MAX;
-use walk_messages::{Answer, Message, decode};
+use walk_messages::{Answer, Ask, Message, decode};
 
 /// Opens a session with a partner by the bytes of its offer, and returns the session's number, from 0. The session
 /// compares the rows now, or those of the moment that the replica keeps.
@@ -87,14 +86,53 @@ pub struct TakenReceipt {
     pub state: u64,
 }
 
-/// Takes the bytes of a partner's answer for a session with the partner's offer of that number.
+/// Takes the bytes of a partner's answer or patch for a session with the partner's offer of that number. The text that
+/// a patch makes is taken as an answer's is.
 ///
-/// Refused, in order: BadMessage (the bytes aren't an answer, or the answer is of another offer); then as
+/// An answer is refused, in order: BadMessage (the bytes are neither, or the answer is of another offer); then as
 /// [`RangeState::take_answer`] is: UnknownSession, NotAsked, WrongDigest, NotCanonical (the session has failed then),
-/// Crowded, JournalFull, NoMemory. NoMemory may replace any of them if the bytes are an answer. The replica is unchanged
-/// after any refusal but NotCanonical.
-#[tactic(auto, using(crate::proofs::ReadLaws::reads))]
+/// Crowded, JournalFull, NoMemory. NoMemory may replace any of them if the bytes are an answer. The replica is
+/// unchanged after any refusal but NotCanonical.
+///
+/// A patch is refused, in order: BadMessage (it is of another offer), UnknownSession, NotAsked, BadMessage (its steps
+/// make no text), and from WrongDigest on as an answer is. NoMemory may replace any from the second BadMessage on.
+#[tactic(auto, unfolding(crate::specs::Sessions::TakesBytes))]
 pub fn take(
+    alloc: Global,
+    state: &mut RangeState,
+    session: u64,
+    number: u32,
+    bytes: &[u8],
+) -> Result<AnswerTaken, Refusal>
+    ensures { TakesBytes state.old session number bytes.now result state.new }
+{
+    match patch_parts(alloc, bytes) {
+        Some((ask, steps)) => take_patch(alloc, state, session, number, ask, steps),
+        None => take_message(alloc, state, session, number, bytes),
+    }
+}
+
+/// Takes the steps of a patch, if it is of the offer with that number.
+fn take_patch(
+    alloc: Global,
+    state: &mut RangeState,
+    session: u64,
+    number: u32,
+    ask: Ask,
+    steps: &[u8],
+) -> Result<AnswerTaken, Refusal>
+    ensures { TakesPatch state.old session number ask steps.now result state.new }
+{
+    if ask.offer != number {
+        return Err(Refusal::BadMessage);
+    }
+    let text = state.patched(alloc, session, ask.node, steps)?;
+    state.take_answer(alloc, 0, session, ask.node, hash(text))
+}
+
+/// Takes the bytes of a message, if it is an answer.
+#[tactic(auto, using(crate::proofs::ReadLaws::reads))]
+fn take_message(
     alloc: Global,
     state: &mut RangeState,
     session: u64,
@@ -138,27 +176,9 @@ fn take_answer(
     if offer != number {
         return Err(Refusal::BadMessage);
     }
-    check_asked(state, session, node)?;
+    // Tested before the text is hashed.
+    let _session = state.asking(session, node)?;
     state.take_answer(alloc, 0, session, node, hash(text))
-}
-
-/// Tests that a session has a node outstanding, before a text is hashed for it. Refused, in order: UnknownSession,
-/// NotAsked.
-fn check_asked(state: &RangeState, session: u64, node: NodeAt) -> Result<(), Refusal>
-    ensures { AnswersAtOnce result (asked_fault state.now session node) (λ _. ⊤) }
-{
-    let nodes = state.record(session)?.session().outstanding();
-    if !has(nodes, node) {
-        return Err(Refusal::NotAsked);
-    }
-    Ok(())
-}
-
-/// Returns true if some node of a list is equal to a node.
-fn has(nodes: &[NodeAt], node: NodeAt) -> bool
-    ensures { result ≡ contains_node node nodes.now }
-{
-    nodes.iter().any(|other| node == *other)
 }
 
 /// Stores the receipt of an answer, if it was not refused.

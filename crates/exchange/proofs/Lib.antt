@@ -8,4 +8,5 @@ pub mod JudgedLaws
 pub mod DryLaws
 pub mod OpenLaws
 pub mod OutlineLaws
+pub mod OutlineStepLaws
 pub mod OnceLaws

@@ -1,21 +1,12 @@
--- Digests in texts.
-use Rattle.std.proofs.Common.{◌≡◌, ℕ, ◌+◌, ◌*◌, ◌<◌, ◌++◌, List, [], ◌∷◌, length, take, drop, arith, ap, refl}
-use Rattle.std.specs.Prelude.{Some, None, if◌then◌else◌}
+-- How long outlines are.
+use Rattle.std.proofs.Common.{◌≡◌, ℕ, ◌+◌, ◌*◌, ◌++◌, List, [], ◌∷◌, length, arith, refl}
 use Rattle.std.specs.List.{flat_map}
-use Rattle.std.proofs.lemmas.Bool.{ne_eqb}
 use Rattle.sha2.specs.Sha256.{sha256}
 use Rattle.sha2.proofs.Facts256.{length-sha256}
 use Rattle.walk_messages.specs.declared.message.Ask.{Ask}
 use Rattle.text_patch.specs.Marks.{mark_of, marks_of}
 use Rattle.text_patch.specs.Messages.{outline_text}
-use Rattle.std.proofs.lemmas.List.{length-take, length-drop, length-append}
-use Rattle.exchange.specs.Outlines.{salt_in}
-
--- a text that ends before a digest has no digest there
-pub no_digest : (text : List ℕ) (at : ℕ) → length text < at + 32 → salt_in (Some (take 32 (drop at text))) ≡ None
-no_digest text at short =
-    ap (λ b. if b then Some (take 32 (drop at text)) else None)
-    (ne_eqb (length (take 32 (drop at text))) 32 (λ e. omega (arith, length-take 32 (drop at text), length-drop at text, e)))
+use Rattle.std.proofs.lemmas.List.{length-take, length-append}
 
 -- the marks have three bytes each
 marks_len : (salt : List ℕ) (parts : List (List ℕ)) → length (flat_map (mark_of salt 3) parts) ≡ 3 * length parts

@@ -3,6 +3,7 @@ pub mod Courses
 pub mod Asks
 pub mod Answers
 pub mod Outlines
+pub mod OutlineSteps
 pub mod Exchanges
 pub mod Steps
 pub mod TruePartners

@@ -1,9 +1,9 @@
 -- Outlines of nodes: which were sent, and how many in a row brought no text.
-use Rattle.std.specs.Prelude.{ℕ, ◌+◌, ◌*◌, min, Bool, true, false, ◌&&◌, not, nat_lt, nat_le, nat_eq, bytes_eq, List, [], length, replicate, slice_get, slice_set, Option, Some, None, if◌then◌else◌}
+use Rattle.std.specs.Prelude.{ℕ, ◌+◌, ◌*◌, min, Bool, true, false, ◌&&◌, not, nat_lt, nat_le, bytes_eq, List, [], length, replicate, slice_get, slice_set, Option, Some, None, if◌then◌else◌}
 use Rattle.vclock.specs.declared.format.Format.{Format}
 use Rattle.tree_nodes.specs.Nodes.{Node, node_count, place_of, tree_depth}
 use Rattle.snapshot.specs.RowMaps.{RowMap, digest_at}
-use Rattle.sync_session.specs.Walks.{Walk, expected}
+use Rattle.sync_session.specs.Walks.{Walk, expected, whole_digest}
 use Rattle.text_patch.specs.Marks.{marks_of}
 use Rattle.text_patch.specs.Messages.{outline_text}
 use Rattle.text_patch.specs.Parts.{parts_at}
@@ -64,11 +64,6 @@ pays own n =
     if is_leaf own n then nat_lt 255 (local_leaf own n)
     else not (bytes_eq (digest_at own (n.depth + 1) (16 * n.index)) (digest_at own (n.depth + 1) (16 * n.index + 1)))
 
--- a digest, if it has its length
-abbrev pub salt_in : Option (List ℕ) → Option (List ℕ)
-salt_in None = None
-salt_in (Some d) = if nat_eq (length d) 32 then Some d else None
-
 -- the outline of a node, with marks of three bytes, if it has at most so many bytes
 abbrev pub outline_by : Course → RowMap → Node → ℕ → Option (List ℕ) → Option (List ℕ)
 outline_by x own n room None = None
@@ -79,4 +74,4 @@ outline_by x own n room (Some salt) =
 abbrev pub outline_for : Outlines → Course → Walk → Node → ℕ → Option (List ℕ)
 outline_for o x w n room =
     if nat_le n.depth (tree_depth w.own.format) && (is_sent (standing_of x.standings n) && (may_outline o n && pays w.own n))
-    then outline_by x w.own n room (salt_in (expected w.root w.taken n)) else None
+    then outline_by x w.own n room (whole_digest (expected w.root w.taken n)) else None

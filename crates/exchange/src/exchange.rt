@@ -11,7 +11,7 @@ ghost use Rattle.exchange.specs.Exchanges.{on, is_of, record_in, going_in, level
 
 use crate::bounds::Bounds;
 use crate::course::{Course, is_leaf};
-use crate::outlines::{Outlines, pays, salt};
+use crate::outlines::{Outlines, pays};
 use crate::report::Report;
 use crate::standings::Standings;
 use crate::tally::Tally;
@@ -157,7 +157,7 @@ impl Exchange {
         if node.depth > tree_depth(own.format()) || !self.may_outline(own, node) {
             return Ok(None);
         }
-        let Some(salt) = salt(session, node) else {
+        let Some(salt) = session.expected(node) else {
             return Ok(None);
         };
         let parts = parts_of(alloc, own, node)?;

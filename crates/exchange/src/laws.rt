@@ -21,7 +21,8 @@ ghost use Rattle.exchange.specs.declared.verdict.Verdict.TheVariants as verdicts
 ghost use Rattle.exchange.specs.Standings.{standing_of, is_sent, was_left};
 ghost use Rattle.exchange.specs.Courses.{Course};
 ghost use Rattle.exchange.specs.Asks.{next_in};
-ghost use Rattle.exchange.specs.Outlines.{Outlines, outlining_of, outline_for};
+ghost use Rattle.exchange.specs.Outlines.{Outlines, unsent, outlining_of, outline_for};
+ghost use Rattle.exchange.specs.OutlineSteps.{OutlineStep, MayOutlineAll, sent_in};
 ghost use Rattle.exchange.specs.declared.outlining.Outlining.TheVariants as outlining;
 ghost use Rattle.exchange.specs.Exchanges.{IsJudged};
 ghost use Rattle.exchange.specs.Steps.{Step, MayAll, after_all, at_start};
@@ -49,10 +50,13 @@ pub fn no_node_is_on_its_way_twice()
         → (is_sent (standing_of x.standings n) ≡ false) × (was_left (standing_of x.standings n) ≡ false) }
 {}
 
-/// An outline is sent only for a node for which none was sent before.
+/// An outline is sent only for a node for which none was sent before. Whatever becomes of outlines, no more are sent than
+/// the tree has nodes.
 pub fn no_node_is_outlined_twice()
-    ensures { (o : Outlines) (x : Course) (w : Walk) (n : Node) (room : ℕ) (bytes : List ℕ)
+    ensures first { (o : Outlines) (x : Course) (w : Walk) (n : Node) (room : ℕ) (bytes : List ℕ)
         → outline_for o x w n room ≡ Some bytes → outlining_of o n ≡ Some outlining.Never }
+    ensures few { (format : Format) (steps : List OutlineStep) → MayOutlineAll (unsent format) steps
+        → sent_in steps ≤ node_count format }
 {}
 
 /// A leaf is left only for its own true text, in which a key is crowded.

@@ -1,10 +1,9 @@
 //! The outlines of an exchange.
-ghost use Rattle.std.specs.Prelude.{◌≡◌, ◌≤◌, ◌<◌, Some, None, true, option_map};
+ghost use Rattle.std.specs.Prelude.{◌≡◌, ◌≤◌, None, true};
 ghost use Rattle.vclock.specs.Answer.{Answers};
 ghost use Rattle.tree_nodes.specs.Nodes.{tree_depth};
-ghost use Rattle.sync_session.specs.Walks.{expected, taken_at, child_digest};
 ghost use Rattle.exchange.specs.declared.outlining.Outlining.TheVariants as outlining;
-ghost use Rattle.exchange.specs.Outlines.{unsent, no_outlines, outlining_of, is_out, may_outline, with_outlining, after_miss, after_text, pays, salt_in};
+ghost use Rattle.exchange.specs.Outlines.{unsent, no_outlines, outlining_of, is_out, may_outline, with_outlining, after_miss, after_text, pays};
 
 use crate::course::is_leaf;
 use crate::outlining::Outlining;
@@ -12,8 +11,7 @@ use crate::standings::node_count;
 use snapshot::Snapshot;
 use std::alloc::Global;
 use std::marker::Model;
-use sync_session::{Session, Taken};
-use tree_nodes::{Digest, NodeAt};
+use tree_nodes::NodeAt;
 use vclock::{Format, Refusal};
 
 /// The number of outlines in a row without a text after which none is sent any more: the partner may not know them.
@@ -21,9 +19,6 @@ const MISSES_MAX: u8 = 3;
 
 /// The length in bytes up to which a leaf isn't outlined: its text costs about as much as a patch.
 const SMALL_LEAF: u64 = 255;
-
-/// The length of a digest, in bytes.
-const DIGEST_LEN: usize = 32;
 
 /// How far the outline of each node is, by its place, and how many in a row brought no text.
 pub(crate) struct Outlines {
@@ -122,41 +117,6 @@ pub(crate) fn pays(own: &Snapshot, node: NodeAt) -> bool
     } else {
         own.digest_at(node.child(0)) != own.digest_at(node.child(1))
     }
-}
-
-/// Returns the digest that a session expects at a node.
-pub(crate) fn salt(session: &Session, node: NodeAt) -> Option<Digest>
-    ensures { result ≡ salt_in (expected session.now.root session.now.taken node) }
-{
-    match node.parent() {
-        None => Some(session.root()),
-        Some(above) => digest_in(text_of(session.taken(), above)?, node.index % 16),
-    }
-}
-
-/// Returns the digest of a child in the text of an inner node.
-#[tactic(auto, using(crate::proofs::OutlineLaws::no_digest))]
-fn digest_in(text: &[u8], child: u16) -> Option<Digest>
-    requires { child < 16 }
-    ensures { result ≡ salt_in (Some (child_digest text.now child)) }
-{
-    let start = DIGEST_LEN * usize::from(child) + 1;
-    if text.len() < start + DIGEST_LEN {
-        return None;
-    }
-    Digest::try_from(&text[start..start + DIGEST_LEN]).ok()
-}
-
-/// Returns the text that was taken for a node, if any.
-fn text_of(taken: &[Taken], node: NodeAt) -> Option<&[u8]>
-    ensures { option_map (λ t. t.now) result ≡ taken_at taken.now node }
-{
-    for entry in taken {
-        if entry.node() == node {
-            return Some(entry.text().text());
-        }
-    }
-    None
 }
 
 impl Drop for Outlines {

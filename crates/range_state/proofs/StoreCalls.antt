@@ -162,7 +162,7 @@ pub right_hashed : (s : State) (u : Store) → IsRight s → IsSound u → u ≡
 right_hashed s u ok sound is = grown_right s u ok sound (still s.store u (ap (λ (x : Store). x.config) is) (ap (λ (x : Store). x.entries) is))
 
 -- no copy is from a partner
-copies_sent : (n seat : ℕ) (os : List (List ℕ × Version)) → AllByRecursion (λ (e : Entry). e.source ≡ Partner → IsFromPartner [] e) (copies_from n seat os)
+pub copies_sent : (n seat : ℕ) (os : List (List ℕ × Version)) → AllByRecursion (λ (e : Entry). e.source ≡ Partner → IsFromPartner [] e) (copies_from n seat os)
 copies_sent n seat [] = tt
 copies_sent n seat (o ∷ os) = ((λ from. absurd (let no : Copy ≡ Partner = from in cc)), copies_sent (n + 1) seat os)
 

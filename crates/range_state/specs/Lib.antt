@@ -8,8 +8,10 @@ pub mod Reconciles
 pub mod Loads
 pub mod Migrates
 pub mod Renewals
+pub mod CatchUps
 pub mod Trees
 pub mod Moments
+pub mod Patches
 pub mod Portions
 pub mod Counts
 pub mod Bytes

@@ -1,15 +1,15 @@
 //! Laws of sessions, proved from their definitions.
-ghost use Rattle.std.specs.Prelude.{◌≡◌, ◌≢◌, ◌≤◌, [], ℕ, List, length, None, Contains, true};
+ghost use Rattle.std.specs.Prelude.{◌≡◌, ◌≢◌, ◌≤◌, ◌<◌, ◌+◌, ◌++◌, [], ℕ, List, length, take, slice_get, None, Some, Contains, true};
 ghost use Rattle.std.specs.List.{AllByRecursion};
 ghost use Rattle.version_set.specs.declared.version.Version.{Version};
 ghost use Rattle.version_set.specs.Version.{maximal, Ascends};
 ghost use Rattle.range_journal.specs.declared.journal.Entry.{Entry};
-ghost use Rattle.range_journal.specs.declared.journal.Source.TheVariants.{Partner};
+ghost use Rattle.range_journal.specs.declared.journal.Source.TheVariants.{Copy, Partner};
 ghost use Rattle.range_journal.specs.Counters.{top_counter};
 ghost use Rattle.range_journal.specs.Journal.{held};
 ghost use Rattle.tree_nodes.specs.Nodes.{Node, contains_node, kept_digest};
 ghost use Rattle.snapshot.specs.RowMaps.{RowMap};
-ghost use Rattle.range_store.specs.Store.{Store, IsSound, rows_now, dirty_fault};
+ghost use Rattle.range_store.specs.Store.{Store, IsSound, rows_now, dirty_fault, full_fault};
 ghost use Rattle.sync_session.specs.TreeNodes.{text_of};
 ghost use Rattle.sync_session.specs.Walks.{Held, IsCanonical, IsRightlyTaken, NoTwoShareADigest, IsPartners};
 ghost use Rattle.sync_session.specs.Steps.{IsDue};
@@ -18,6 +18,9 @@ ghost use Rattle.sync_session.specs.declared.state.SessionState.TheVariants.{Ope
 ghost use Rattle.range_state.specs.declared.«record».Record.{Record};
 ghost use Rattle.range_state.specs.declared.event.Event.{Event};
 ghost use Rattle.range_state.specs.declared.event.Reply.{Reply};
+ghost use Rattle.range_state.specs.declared.moment.Moment.{Moment};
+ghost use Rattle.range_state.specs.CatchUps.{start_at, begun_from, begun_count, caught_up, entry_fault};
+ghost use Rattle.range_state.specs.Renewals.{renewed_by};
 ghost use Rattle.range_state.specs.Endings.{without_ended_sessions, if_open};
 ghost use Rattle.range_state.specs.Records.{IsOver, record_of};
 ghost use Rattle.range_state.specs.Run.{Run};
@@ -133,4 +136,29 @@ pub fn no_call_lowers_a_counter()
         → Run s events replies t → top_counter s.store.entries key node ≤ top_counter t.store.entries key node }
     ensures sync { (s : Store) (seat : ℕ) (other : RowMap) (key : List ℕ) (node : ℕ)
         → top_counter s.entries key node ≤ top_counter (synced s seat other).store.entries key node }
+{}
+
+/// A range that is renewed beside its puts holds what the old one holds. The new range begins with the rows of a moment
+/// of the old one, and then accepts, one after another, the entries that the old one accepted since.
+///
+/// From the rows now it begins as a renewed range, with the digests of the moment. What it begins with doesn't change
+/// while the old one goes on. With k later entries it holds for each key what the first entries and these k held. No
+/// later entry is refused but for want of room: each is new, and none is one too many for its key. And the old one's entry
+/// of number `front` + i is the new one's entry of number `begun_count` + i: a constant less.
+pub fn a_range_that_caught_up_holds_the_same()
+    ensures begins { (s : State) (m : Moment) (seat limit : ℕ) → m.front ≡ length s.store.entries
+        → begun_from (start_at s m) seat limit
+        ≡ record (renewed_by s seat limit) { store = record (renewed_by s seat limit).store { marks = m.tree.marks } } }
+    ensures stays { (s t : State) (m : Moment) (more : List Entry) → t.store.config ≡ s.store.config
+        → t.store.entries ≡ s.store.entries ++ more → m.front ≤ length s.store.entries
+        → (start_at t m).basis ≡ (start_at s m).basis }
+    ensures held { (s : State) (m : Moment) (seat limit k : ℕ) (key : List ℕ)
+        → held (caught_up s m seat limit k).entries key ≡ held (take (m.front + k) s.store.entries) key }
+    ensures news { (s : State) → IsRight s → (m : Moment) (seat limit k : ℕ) (e : Entry)
+        → slice_get s.store.entries (m.front + k) ≡ Some e
+        → entry_fault (caught_up s m seat limit k) e ≡ full_fault (caught_up s m seat limit k) }
+    ensures numbers { (s : State) (m : Moment) (seat limit k i : ℕ) (e : Entry) → i < k
+        → slice_get s.store.entries (m.front + i) ≡ Some e
+        → slice_get (caught_up s m seat limit k).entries (begun_count s m + i)
+        ≡ Some (record { number = begun_count s m + i; seat = seat; source = Copy; key = e.key; version = e.version }) }
 {}

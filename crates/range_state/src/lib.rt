@@ -7,9 +7,10 @@
 //!   `hold_moment`, `take_moment_jobs` and `install_moment`, or `hash_moment`, `take_portion` and `install_portion` for
 //!   many of its nodes, `moment`, `open_session_at_moment`, `whole_front` and `take_moment`;
 //!   `load_rows`, `load_into` and `load_format` for rows as bytes; `migrate` to format 2; `renewed` for a new range
-//!   that begins with the versions held; other reads are had by `store`. For sessions with partners `check_offer`,
+//!   that begins with the versions held, and `begin_renewal` for one that is made beside the puts; other reads are had by `store`. For sessions with partners `check_offer`,
 //!   `open_session`, `outstanding`, `take_answer`, `take_answer_into`, `cancel_session`, `records` and `open_sessions`,
-//!   and `sync_with` for a whole session; `reconcile` for a session each way; `counts`.
+//!   `outline` and `patched` so that a partner sends only what is lacking, and `sync_with` for a whole session;
+//!   `reconcile` for a session each way; `counts`.
 //! - [`local_rows`]: the choice of the rows now or those of the moment, for `snapshot_of` and `open_session_by`.
 //! - [`moment`]: the rows that a range had at a moment; [`portion`]: nodes of it that any thread hashes.
 //! - [`record`]: a session of a range, and its partner.
@@ -47,4 +48,5 @@ pub use state::RangeState;
 pub use state::bytes::RangeBytes;
 pub use state::counts::RangeCounts;
 pub use state::reconciliation::{Reconciled, reconcile};
+pub use state::renewal::{Renewal, RenewalStart, Unfinished};
 pub use state::sync::Synced;

@@ -2,7 +2,7 @@
 use Rattle.std.proofs.Common.{◌≡◌, ℕ, ◌+◌, ◌≤◌, Bool, true, false, cond, Option, Some, None, List, [], ◌∷◌, ◌++◌, length, map, refl, sym, ap, subst, ◌∙◌, inl, inr, arith, append_assoc, append-nil}
 use Rattle.std.specs.Prelude.{nat_eq, nat_le, nat_lt}
 use Rattle.std.specs.List.{flat_map, list_all, range_with_len, AllByRecursion}
-use Rattle.std.proofs.lemmas.Bool.{cases_lt, eqb-true, le-leb, lt-ltb}
+use Rattle.std.proofs.lemmas.Bool.{cases_lt, le-leb, lt-ltb}
 use Rattle.std.proofs.lemmas.Cmp.{nat_list_eq_equiv}
 use Rattle.std.proofs.lemmas.List.{length-append}
 use Rattle.std.proofs.lemmas.List.FromFn.{fill_by_all}
@@ -36,7 +36,7 @@ use Rattle.range_store.specs.Loads.{is_home, apart_fault, loaded, load, load_rea
 use Rattle.range_store.proofs.BatchLaws.{Offers}
 use Rattle.range_store.proofs.OfferLaws.{row_map_now}
 use Rattle.range_store.proofs.StoreLaws.{eq_itself, knows_held}
-use Rattle.range_store.proofs.RenewLaws.{copies-append, length-copies, offers-append, renewed_right, limit_fits}
+use Rattle.range_store.proofs.RenewLaws.{copies-append, length-copies, offers-append, renewed_right, limit_fits, leaf_filter}
 
 -- ---- texts
 
@@ -72,7 +72,7 @@ record AreTurns (seat : ℕ) (os : Offers) : Type 0 where
   short : (key : List ℕ) → NeverCrowded (copies_from 0 seat os) key
 
 -- an entry among news
-news_inner : (before xs : List Entry) (e : Entry) (ys : List Entry) → AreNewsAfter before (xs ++ e ∷ ys) → covered e.version (versions_of (before ++ xs) e.key) ≡ false
+pub news_inner : (before xs : List Entry) (e : Entry) (ys : List Entry) → AreNewsAfter before (xs ++ e ∷ ys) → covered e.version (versions_of (before ++ xs) e.key) ≡ false
 news_inner before [] e ys news = subst (λ (es : List Entry). covered e.version (versions_of es e.key) ≡ false) (sym (append-nil before)) news.0
 news_inner before (x ∷ xs) e ys news = subst (λ (es : List Entry). covered e.version (versions_of es e.key) ≡ false) (append_assoc before (x ∷ []) xs) (news_inner (before ++ x ∷ []) xs e ys news.1)
 
@@ -151,14 +151,6 @@ together c leaf [] here at = refl
 together c leaf (r ∷ rows) here at =
     let home : list_all (λ (x : Row). is_home c (leaf_in c r.key) x.key) (r ∷ rows) ≡ true = ap (λ (n : ℕ). list_all (λ (x : Row). is_home c n x.key) (r ∷ rows)) at.0 ∙ home_all c leaf (r ∷ rows) here at in
     ap (λ b. cond b None (Some OtherRange)) home
-
-leaf_filter : (leaf : List ℕ → ℕ) (i : ℕ) (rows : List Row) → AllByRecursion (λ (r : Row). leaf r.key ≡ i) (rows_in_leaf leaf i rows)
-leaf_filter leaf i [] = tt
-leaf_filter leaf i (r ∷ rows) = by_test (nat_eq (leaf r.key) i) refl (leaf_filter leaf i rows)
-  where
-    by_test : (b : Bool) → nat_eq (leaf r.key) i ≡ b → AllByRecursion (λ (x : Row). leaf x.key ≡ i) (rows_in_leaf leaf i rows) → AllByRecursion (λ (x : Row). leaf x.key ≡ i) (cond b (r ∷ rows_in_leaf leaf i rows) (rows_in_leaf leaf i rows))
-    by_test true e rest = (eqb-true (leaf r.key) i e, rest)
-    by_test false e rest = rest
 
 leaf_together : (c : Config) (leaf : ℕ) (rows : List Row) → AllByRecursion (λ (r : Row). range_at c.bits r.key ≡ c.range) rows → apart_fault c (rows_in_leaf (leaf_in c) leaf rows) ≡ None
 leaf_together c leaf rows here = together c leaf (rows_in_leaf (leaf_in c) leaf rows) (all-filter (λ (r : Row). range_at c.bits r.key ≡ c.range) (λ (r : Row). nat_eq (leaf_in c r.key) leaf) rows here) (leaf_filter (leaf_in c) leaf rows)

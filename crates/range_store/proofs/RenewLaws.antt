@@ -1,14 +1,14 @@
 -- Ranges that begin with the versions that others hold.
 use Rattle.std.proofs.Common.{◌≡◌, ℕ, zero, suc, ◌+◌, ◌-◌, ◌<◌, ◌≤◌, Bool, true, false, cond, not, Some, None, List, [], ◌∷◌, ◌++◌, length, map, take, refl, sym, ap, subst, ◌∙◌, arith, inl, inr, append_assoc, append-nil}
-use Rattle.std.specs.Prelude.{nat_eq, IsTrue}
+use Rattle.std.specs.Prelude.{nat_eq, min, IsTrue}
 use Rattle.std.specs.List.{filter, flat_map, list_any, range_with_len, AllByRecursion}
 use Rattle.std.specs.Cmp.Lexicographic.{pointwise}
 use Rattle.std.specs.Ordering.{ordering_reverse, is_eq}
 use Rattle.std.specs.declared.cmp.Ordering.TheVariants.{Less, Equal, Greater}
-use Rattle.std.proofs.lemmas.Bool.{cases_eq, cases_lt, cases_Bool, or_parts, eqb-true}
+use Rattle.std.proofs.lemmas.Bool.{cases_eq, cases_lt, cases_Bool, or_parts, and_parts, eqb-true, leb-true}
 use Rattle.std.proofs.lemmas.Bool.Decides.{nat_tests}
 use Rattle.std.proofs.lemmas.Grind.{flat_map-append}
-use Rattle.std.proofs.lemmas.List.{length-append, length-map, take_all}
+use Rattle.std.proofs.lemmas.List.{length-append, length-map, length-take, take_all, take-take}
 use Rattle.std.proofs.lemmas.List.Folds.{list_any-append}
 use Rattle.std.proofs.lemmas.Slice.Eq.{bytes_eq-Decides}
 use Rattle.vclock.specs.Bytes.{key_fault}
@@ -24,19 +24,22 @@ use Rattle.range_journal.specs.declared.journal.Source.TheVariants.{Copy}
 use Rattle.range_journal.specs.Journal.{held, versions_of, AreNews, AreNewsAfter, NeverCrowded}
 use Rattle.range_journal.specs.Log.{Log}
 use Rattle.range_journal.proofs.JournalLaws.{Ascends-set_from, versions_of-push}
-use Rattle.key_ring.specs.Places.{range_at}
+use Rattle.key_ring.specs.Places.{range_at, leaf_at}
 use Rattle.row_bytes.specs.Rows.{IsRow}
 use Rattle.row_bytes.specs.declared.row.Row.{Row}
 use Rattle.row_bytes.proofs.RowSetLaws.{row_fits}
 use Rattle.hash_tree.specs.Leaves.{key_cmp, AscendByKey, rows_in_leaf, versions_in, with_offer}
 use Rattle.hash_tree.specs.Texts.{IsTreeFor}
+use Rattle.hash_tree.proofs.ChunkLaws.{all-take}
 use Rattle.hash_tree.proofs.LeafLaws.{versions_in-rows_at}
-use Rattle.range_tree.specs.Trees.{RangeTree}
+use Rattle.snapshot.specs.RowMaps.{RowMap}
+use Rattle.range_tree.specs.Trees.{RangeTree, IsRangeTree}
+use Rattle.range_tree.specs.Trees as trees
 use Rattle.range_store.specs.Config.{Config, is_config}
 use Rattle.range_store.specs.Rows.{rows_of}
-use Rattle.range_store.specs.Store.{Store, leaf_in, leaf_count, rows_now, tree_of, IsOwn, IsSound}
+use Rattle.range_store.specs.Store.{Store, leaf_in, leaf_count, rows_now, tree_in, tree_of, IsOwn, IsSound}
 use Rattle.range_store.specs.Offers.{offers_in, offers_of}
-use Rattle.range_store.specs.Renewals.{copies_from, by_leaf, held_offers, config_to, renewed_by, short_fault, renew_fault, with_copies}
+use Rattle.range_store.specs.Renewals.{IsOfConfig, copies_from, by_leaf, offers_by_leaf, held_offers, config_to, renewed_by, short_fault, renew_fault, with_copies, limit_fault, Basis, IsBasis, begun_by, basis_fault}
 use Rattle.range_store.proofs.BatchLaws.{Offers}
 use Rattle.range_store.proofs.OfferLaws.{row_map_now}
 use Rattle.range_store.proofs.SameRowLaws.{same_rows}
@@ -97,6 +100,15 @@ leaves_from leaf rows from n = flat_map (λ i. rows_in_leaf leaf i rows) (range_
 pub offers-append : (xs ys : List Row) → offers_of (xs ++ ys) ≡ offers_of xs ++ offers_of ys
 offers-append xs ys = flat_map-append offers_in xs ys
 
+-- the rows of a leaf have it
+pub leaf_filter : (leaf : List ℕ → ℕ) (i : ℕ) (rows : List Row) → AllByRecursion (λ (r : Row). leaf r.key ≡ i) (rows_in_leaf leaf i rows)
+leaf_filter leaf i [] = tt
+leaf_filter leaf i (r ∷ rows) = by_test (nat_eq (leaf r.key) i) refl (leaf_filter leaf i rows)
+  where
+    by_test : (b : Bool) → nat_eq (leaf r.key) i ≡ b → AllByRecursion (λ (x : Row). leaf x.key ≡ i) (rows_in_leaf leaf i rows) → AllByRecursion (λ (x : Row). leaf x.key ≡ i) (cond b (r ∷ rows_in_leaf leaf i rows) (rows_in_leaf leaf i rows))
+    by_test true e rest = (eqb-true (leaf r.key) i e, rest)
+    by_test false e rest = rest
+
 -- a leaf that is not the key's
 none_here : (leaf : List ℕ → ℕ) (key : List ℕ) (rows : List Row) (i : ℕ) → (i ≡ leaf key → ⊥) → offers_for key (offers_of (rows_in_leaf leaf i rows)) ≡ []
 none_here leaf key rows i apart = none_of key (rows_in_leaf leaf i rows) (other_leaf leaf i key rows (away i (leaf key) apart))
@@ -135,7 +147,7 @@ all_within leaf key rows from (suc n) a low high =
 -- ---- what is held
 
 -- what is offered for a key is what is held for it
-listed_held : (s : Store) (key : List ℕ) → offers_for key (held_offers s) ≡ held s.entries key
+pub listed_held : (s : Store) (key : List ℕ) → offers_for key (held_offers s) ≡ held s.entries key
 listed_held s key =
     all_within (leaf_in s.config) key (rows_of s.entries) 0 (leaf_count s.config) (rows_of-ascend s.entries) (omega arith) (omega (arith, leaf_below s.config key))
     ∙ versions_in-rows_of s.entries key
@@ -387,6 +399,18 @@ leaves_few leaf (r ∷ rows) from n = omega (arith, count_one leaf r rows from n
 pub held_within : (s : Store) → length (held_offers s) ≤ length s.entries
 held_within s = omega (arith, leaves_few (leaf_in s.config) (rows_of s.entries) 0 (leaf_count s.config), rows_few [] s.entries none_few)
 
+-- a journal within its limit has at most 1,000,000 entries
+pub few_entries : (s : Store) → IsTrue (is_config s.config) → length s.entries ≤ s.config.limit → length s.entries ≤ 1000000
+few_entries s config within = omega (arith, within, leb-true s.config.limit 1000000 (and_parts _ _ config).1)
+
+pub held_bounded : (s : Store) → IsTrue (is_config s.config) → length s.entries ≤ s.config.limit → length (held_offers s) ≤ 1000000
+held_bounded s config within = omega (arith, held_within s, few_entries s config within)
+
+pub basis_bounded : (b : Basis) → IsBasis b → length (offers_by_leaf b.config b.rows) ≤ 1000000
+basis_bounded b is =
+    let same = ap (λ (rs : List Row). length (offers_by_leaf b.config rs)) is.rows in
+    omega (arith, same, held_within (record { config = b.config; entries = is.entries; marks = b.marks }), is.few)
+
 pub renewed_fewer : (s : Store) (seat limit : ℕ) → length (renewed_by s seat limit).entries ≤ length s.entries
 renewed_fewer s seat limit = omega (arith, length-copies 0 seat (held_offers s), held_within s)
 
@@ -397,15 +421,17 @@ range_more from zero last is = let same : from ≡ last = omega (arith, is) in a
 range_more from (suc n) last is = ap (λ (ks : List ℕ). from ∷ ks) (range_more (from + 1) n last (omega (arith, is)))
 
 -- one leaf more
-pub leaves_more : (leaf : List ℕ → ℕ) (rows : List Row) (n : ℕ) → offers_of (leaves_from leaf rows 0 (n + 1)) ≡ offers_of (leaves_from leaf rows 0 n) ++ offers_of (rows_in_leaf leaf n rows)
-leaves_more leaf rows n =
+pub rows_more : (leaf : List ℕ → ℕ) (rows : List Row) (n : ℕ) → leaves_from leaf rows 0 (n + 1) ≡ leaves_from leaf rows 0 n ++ rows_in_leaf leaf n rows
+rows_more leaf rows n =
     let f = λ (i : ℕ). rows_in_leaf leaf i rows in
     let more : n + 1 ≡ suc n = omega arith in
-    ap (λ (k : ℕ). offers_of (leaves_from leaf rows 0 k)) more
-    ∙ ap (λ (ks : List ℕ). offers_of (flat_map f ks)) (range_more 0 n n (omega arith))
-    ∙ ap offers_of (flat_map-append f (range_with_len 0 n) (n ∷ []))
-    ∙ ap (λ (xs : List Row). offers_of (leaves_from leaf rows 0 n ++ xs)) (append-nil (f n))
-    ∙ offers-append (leaves_from leaf rows 0 n) (f n)
+    ap (λ (k : ℕ). leaves_from leaf rows 0 k) more
+    ∙ ap (λ (ks : List ℕ). flat_map f ks) (range_more 0 n n (omega arith))
+    ∙ flat_map-append f (range_with_len 0 n) (n ∷ [])
+    ∙ ap (λ (xs : List Row). leaves_from leaf rows 0 n ++ xs) (append-nil (f n))
+
+pub leaves_more : (leaf : List ℕ → ℕ) (rows : List Row) (n : ℕ) → offers_of (leaves_from leaf rows 0 (n + 1)) ≡ offers_of (leaves_from leaf rows 0 n) ++ offers_of (rows_in_leaf leaf n rows)
+leaves_more leaf rows n = ap offers_of (rows_more leaf rows n) ∙ offers-append (leaves_from leaf rows 0 n) (rows_in_leaf leaf n rows)
 
 -- the first leaves have no more versions than more of them
 pub leaves_part : (leaf : List ℕ → ℕ) (rows : List Row) (m n : ℕ) → m ≤ n → length (offers_of (leaves_from leaf rows 0 m)) ≤ length (offers_of (leaves_from leaf rows 0 n))
@@ -418,14 +444,17 @@ leaves_part leaf rows m (suc n) le = elim (cases_lt n m) [
       omega (arith, leaves_part leaf rows m n part, next)
 ]
 
--- a leaf and those before it have no more versions than are held
-pub leaf_part : (s : Store) (leaf : ℕ) → leaf < leaf_count s.config
-    → length (offers_of (leaves_from (leaf_in s.config) (rows_of s.entries) 0 leaf)) + length (offers_of (rows_in_leaf (leaf_in s.config) leaf (rows_of s.entries))) ≤ length (held_offers s)
-leaf_part s leaf within =
-    let f = leaf_in s.config in
-    let rows = rows_of s.entries in
+-- a leaf and those before it have no more versions than all
+pub leaf_part : (c : Config) (rows : List Row) (leaf : ℕ) → leaf < leaf_count c
+    → length (offers_of (leaves_from (leaf_in c) rows 0 leaf)) + length (offers_of (rows_in_leaf (leaf_in c) leaf rows)) ≤ length (offers_by_leaf c rows)
+leaf_part c rows leaf within =
+    let f = leaf_in c in
     let next = ap (λ (os : Offers). length os) (leaves_more f rows leaf) ∙ length-append (offers_of (leaves_from f rows 0 leaf)) (offers_of (rows_in_leaf f leaf rows)) in
-    omega (arith, leaves_part f rows (leaf + 1) (leaf_count s.config) (omega (arith, within)), next)
+    omega (arith, leaves_part f rows (leaf + 1) (leaf_count c) (omega (arith, within)), next)
+
+-- the rows of a leaf of a tree
+pub rows_here : (c : Config) (m : RowMap) (leaf : ℕ) → IsOfConfig c m → (trees.bucket_of m leaf).rows ≡ rows_in_leaf (leaf_in c) leaf m.rows
+rows_here c m leaf of = λ i. rows_in_leaf (leaf_at (of.format i) (of.bits i)) leaf m.rows
 
 -- ---- a new range
 
@@ -444,3 +473,48 @@ renewed_range s now seat limit config entries old tree view ok map marks fits li
       ap (λ (t : RangeTree). t.map) same ∙ map ∙ rows ∙ ap rows_now (sym back),
       back ∙ ap (λ (t : Store). renewed_by t seat limit) view,
     )
+
+-- ---- a new range that begins with the rows of a basis
+
+news_first : (n : ℕ) (before es : List Entry) → AreNewsAfter before es → AreNewsAfter before (take n es)
+news_first zero before es news = tt
+news_first (suc n) before [] news = tt
+news_first (suc n) before (e ∷ es) news = (news.0, news_first n (before ++ e ∷ []) es news.1)
+
+both : {X : Type 0} (m n : ℕ) (xs : List X) → take m (take n xs) ≡ take (min m n) xs
+both m n xs = elim (cases_lt m n) [
+  | inl less ↦ let one : min m n ≡ m = omega (arith, less) in take-take m n xs (omega (arith, less)) ∙ ap (λ k. take k xs) (sym one)
+  | inr more ↦ let one : min m n ≡ n = omega (arith, more) in take_all m (take n xs) (omega (arith, more, length-take n xs)) ∙ ap (λ k. take k xs) (sym one)
+]
+
+-- the rows of a tree that the first entries made are a basis
+pub basis_right : (s : Store) (front : ℕ) (t : RangeTree) → IsSound s → length s.entries ≤ 1000000 → IsRangeTree t → t.map ≡ rows_now (record s { entries = take front s.entries })
+    → IsBasis (record { config = s.config; rows = t.map.rows; marks = t.marks })
+basis_right s front t ok few right is = record {
+  entries = take front s.entries;
+  sound = record {
+    config = ok.config;
+    own = all-take (IsOwn s.config) s.entries front ok.own;
+    news = news_first front [] s.entries ok.news;
+    short = λ key. short_first key;
+    rows = subst (λ (m : RowMap). AllByRecursion (IsRow m.format) m.rows) is right.rows.each;
+    marks = subst (λ (m : RowMap). IsTreeFor (leaf_at m.format m.bits) m.rows (record { format = m.format; digests = t.marks })) is right.marks;
+  };
+  rows = ap (λ (m : RowMap). m.rows) is;
+  few = omega (arith, length-take front s.entries, few);
+}
+  where
+    short_first : (key : List ℕ) → NeverCrowded (take front s.entries) key
+    short_first key n = subst (λ (es : List Entry). length (held es key) ≤ 64) (sym (both n front s.entries)) (ok.short key (min n front))
+
+-- what a range that begins with the rows of a basis has
+pub begun_range : (b : Basis) (seat limit : ℕ) (config : Config) (entries : List Entry) (tree : RangeTree) → IsBasis b → basis_fault b limit ≡ None → config ≡ config_to b.config limit → entries ≡ copies_from 0 seat (offers_by_leaf b.config b.rows)
+    → tree.map ≡ record { format = b.config.format; bits = b.config.bits; range = b.config.range; rows = b.rows } → tree.marks ≡ b.marks
+    → IsSound (record { config = config; entries = entries; marks = tree.marks }) × (tree.map ≡ rows_now (record { config = config; entries = entries; marks = tree.marks })) × (record { config = config; entries = entries; marks = tree.marks } ≡ begun_by b seat limit)
+begun_range b seat limit config entries tree is fits limited copies map marks =
+    let s : Store = record { config = b.config; entries = is.entries; marks = b.marks } in
+    let rows_s : tree.map ≡ rows_now s = map ∙ ap (λ (rs : List Row). record { format = b.config.format; bits = b.config.bits; range = b.config.range; rows = rs }) is.rows in
+    let same : tree ≡ tree_in s = λ i. record { map = rows_s i; marks = marks i } in
+    let range = renewed_range s s seat limit config entries (tree_in s) tree refl is.sound refl refl (ap (λ (rs : List Row). limit_fault b.config rs limit) (sym is.rows) ∙ fits) limited
+    (copies ∙ ap (λ (rs : List Row). copies_from 0 seat (offers_by_leaf b.config rs)) is.rows) same in
+    (range.0, range.1, range.2 ∙ ap (λ (rs : List Row). begun_by (record { config = b.config; rows = rs; marks = b.marks }) seat limit) (sym is.rows))

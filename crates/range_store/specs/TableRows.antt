@@ -23,3 +23,7 @@ pub record IsTableOf (bits range : ℕ) (entries : List Entry) (rows : List Tabl
 -- the table's row of the key of an entry, with the versions that rows have for it
 abbrev pub row_from : ℕ → List Row → Entry → TableRow
 row_from bits rows e = record { key = e.key; leaf = leaf_at Two bits e.key; set = versions_in e.key rows }
+
+-- the table's row of a row of a tree
+abbrev pub row_of : ℕ → Row → TableRow
+row_of bits r = record { key = r.key; leaf = leaf_at Two bits r.key; set = r.versions }

@@ -9,7 +9,7 @@
 //!   receipts in a list; `tree` for rows, texts, jobs and snapshots, and `install`, `rehash`, `rehash_here` and
 //!   `rehash_some` to hash it; `load_rows`, `load_into` and `load_format` for rows as bytes, and `prepare` and
 //!   `accept_batch` for rows of a leaf; `migrate` to format 2; `check_limit` and `renewed` for a new store that begins
-//!   with the versions held.
+//!   with the versions held, and `basis` to make one beside the puts.
 //! - [`leaf_rows`]: rows of a leaf that were read from bytes.
 //! - [`laws`]: laws proved from the definitions, such as that a renewed range holds the same versions.
 //!
@@ -47,3 +47,4 @@ pub use store::RangeStore;
 pub use store::batch::Batch;
 pub use store::loading::Loaded;
 pub use store::receipts::{move_to, receipts_beside};
+pub use store::renewal::RenewalBasis;

@@ -36,7 +36,7 @@ mod format_loading;
 pub mod loading;
 mod migration;
 pub mod receipts;
-mod renewal;
+pub mod renewal;
 mod table_rows;
 mod tree;
 

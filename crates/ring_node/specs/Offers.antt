@@ -13,6 +13,8 @@ use Rattle.walk_messages.specs.declared.message.Ask.{Ask}
 use Rattle.walk_messages.specs.declared.message.Offer.{Offer}
 use Rattle.snapshot.specs.RowMaps.{RowMap, IsRowMap, text_at, root_of}
 use Rattle.snapshot.specs.Snapshots.{answer_fault}
+use Rattle.text_patch.specs.Marks.{MarkList}
+use Rattle.text_patch.specs.Messages.{patch_of}
 use Rattle.ring_node.specs.declared.offers.OfferCounts.{OfferCounts}
 
 -- the rows of a snapshot that was published, with the number of its offer
@@ -80,3 +82,7 @@ pub record IsAnswerOf (p : Offered) (ask : Ask) (a : Answer) : Type 0 where
 
 abbrev pub IsAnswerIn : Offers → Ask → Answer → Type 0
 IsAnswerIn o ask a = MatchOption (kept_under o ask.offer) ⊥ (λ p. IsAnswerOf p ask a)
+
+-- bytes are the patch for an outline: it makes the text of the node in the tree that was offered
+abbrev pub IsPatchIn : Offers → Ask → MarkList → List ℕ → Type 0
+IsPatchIn o ask marks bytes = MatchOption (kept_under o ask.offer) ⊥ (λ p. bytes ≡ patch_of p.rows ask marks)

@@ -7,12 +7,13 @@ ghost use Rattle.vclock.specs.Format.{format_number};
 ghost use Rattle.vclock.specs.Outcome.{Does};
 ghost use Rattle.snapshot.specs.RowMaps.{root_of};
 ghost use Rattle.ring_node.specs.Moments.{FoundAtSomeMoment, ChangedAtSomeMoment};
-ghost use Rattle.ring_node.specs.Offers.{Offered, AreOffers, unpublished, publish, latest, kept_under, serve_fault, IsAnswerIn, counts_of};
+ghost use Rattle.ring_node.specs.Offers.{Offered, AreOffers, unpublished, publish, latest, kept_under, serve_fault, IsAnswerIn, IsPatchIn, counts_of};
 
 use snapshot::Snapshot;
 use std::alloc::Global;
 use std::marker::Model;
 use std::sync::{Arc, Mutex, Wait};
+use text_patch::{Marks, patch};
 use tree_nodes::{Text, tree_depth};
 use vclock::Refusal;
 use vclock::limits::OFFERS_MAX;
@@ -224,6 +225,26 @@ impl OfferPool {
             node,
             text: Text::from(text),
         })
+    }
+
+    /// Answers an outline, which has an ask and an asker's marks: with the bytes of the patch that makes the text of
+    /// the node in the tree that was offered.
+    ///
+    /// Refused, in order: Gone (the offer isn't kept), BadMessage (its tree has no such node), NoMemory.
+    pub fn patch<R: Wait>(
+        &self,
+        rt: &R,
+        alloc: Global,
+        ask: Ask,
+        marks: &Marks<'_>,
+    ) -> Result<Text, Refusal>
+        ensures refusal { IfErr result
+            (λ e. (e ≡ Refusal.Gone) ⊎ (e ≡ Refusal.BadMessage) ⊎ (e ≡ Refusal.NoMemory)) }
+        ensures moment { FoundAtSomeMoment AreOffers
+            (λ offers. Answers result (serve_fault offers ask) (IsPatchIn offers ask marks.now)) }
+    {
+        let snapshot = self.find(rt, ask)?;
+        Ok(Text::from(patch(alloc, &snapshot, ask, marks)?))
     }
 
     /// Finds the snapshot that has the text of an ask, and makes one more owner of it. Refused, in order: Gone,

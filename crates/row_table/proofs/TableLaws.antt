@@ -352,7 +352,7 @@ at_more rs ts zero h = refl
 at_more rs ts (suc n) h = got_left rs ts n (omega arith)
 
 -- what a row at the end changes
-row_set : (rs : List TableRow) (r : TableRow) (key : List ℕ) → set_in (rs ++ r ∷ []) key ≡ cond (bytes_eq r.key key) r.set (set_in rs key)
+pub row_set : (rs : List TableRow) (r : TableRow) (key : List ℕ) → set_in (rs ++ r ∷ []) key ≡ cond (bytes_eq r.key key) r.set (set_in rs key)
 row_set rs r key =
     let long = length-append rs (r ∷ []) in
     let size : length (rs ++ r ∷ []) ≡ suc (length rs) = omega (arith, long) in

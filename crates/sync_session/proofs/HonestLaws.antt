@@ -123,7 +123,7 @@ pub record IsDifferent (w : Walk) (other : RowMap) (d i : ℕ) : Type 0 where
   pub shallow : d ≤ levels w
   pub within : i < 16 ^ d
 
-asked_times : (w : Walk) → IsTraced w → (n : Node) → times n w.asked ≡ times n (first_asked w.own w.root) + times n (flat_map (asks w.own) w.taken)
+pub asked_times : (w : Walk) → IsTraced w → (n : Node) → times n w.asked ≡ times n (first_asked w.own w.root) + times n (flat_map (asks w.own) w.taken)
 asked_times w h n = ap (times n) h.asked ∙ times-append n (first_asked w.own w.root) (flat_map (asks w.own) w.taken)
 
 -- the first node is asked only where the roots differ
@@ -182,7 +182,7 @@ asked_differs w other fair (suc d) i h =
       within = omega (arith, above.within);
     }
 
-is_taken_at : (ts : List TakenText) (n : Node) → 1 ≤ times n (nodes_of ts) → is_some (taken_at ts n) ≡ true
+pub is_taken_at : (ts : List TakenText) (n : Node) → 1 ≤ times n (nodes_of ts) → is_some (taken_at ts n) ≡ true
 is_taken_at [] n h = absurd (omega arith)
 is_taken_at (t ∷ ts) n h =
     elim (cases_Bool (is_same_node t.node n)) [

@@ -8,3 +8,4 @@ pub mod OrderLaws
 pub mod ReadingLaws
 pub mod NewsLaws
 pub mod NewsRowLaws
+pub mod DueLaws

@@ -1,6 +1,6 @@
 -- Walks: the record of a session, and the conditions for it to be right. Sessions are those of the paper of 2007,
 -- section 4.7: two trees are compared from the root down, and the leaves that differ are handed over.
-use Rattle.std.specs.Prelude.{◌≡◌, ℕ, zero, suc, ◌+◌, ◌*◌, ◌/◌, ◌%◌, ◌⊎◌, true, IsTrue, is_some, bytes_eq, Option, Some, None, option_map, List, [], ◌∷◌, ◌++◌, take, drop, length, if◌then◌else◌, nat_lt, slice_index, ◌<◌}
+use Rattle.std.specs.Prelude.{◌≡◌, ℕ, zero, suc, ◌+◌, ◌*◌, ◌/◌, ◌%◌, ◌⊎◌, true, IsTrue, is_some, bytes_eq, Option, Some, None, option_map, List, [], ◌∷◌, ◌++◌, take, drop, length, if◌then◌else◌, nat_lt, nat_eq, slice_index, ◌<◌}
 use Rattle.std.specs.List.{flat_map, AllByRecursion, Contains}
 use Rattle.sha2.specs.Sha256.{sha256}
 use Rattle.vclock.specs.declared.format.Format.{Format}
@@ -48,6 +48,11 @@ expected_at offered taken (suc depth) i = option_map (λ text. child_digest text
 
 abbrev pub expected : List ℕ → List TakenText → Node → Option (List ℕ)
 expected offered taken n = expected_at offered taken n.depth n.index
+
+-- a digest, if it has its 32 bytes
+abbrev pub whole_digest : Option (List ℕ) → Option (List ℕ)
+whole_digest None = None
+whole_digest (Some d) = if nat_eq (length d) 32 then Some d else None
 
 -- the first k children whose digests in the text differ from the local ones, by ascending index
 unfoldable pub differing : RowMap → Node → List ℕ → ℕ → List Node

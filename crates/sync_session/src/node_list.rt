@@ -49,8 +49,13 @@ fn digest_in(text: &[u8], j: u16) -> &[u8]
     }
 }
 
-/// Returns the digest that is expected at a node: at the root the offered one, otherwise the one in the parent's text.
-fn expected_digest<'a>(offered: &'a Digest, taken: &'a [Taken], node: NodeAt) -> Option<&'a [u8]>
+/// Returns the digest that is expected at a node: at the root the offered one, otherwise the one in the parent's text,
+/// which may end early.
+pub fn expected_digest<'a>(
+    offered: &'a Digest,
+    taken: &'a [Taken],
+    node: NodeAt,
+) -> Option<&'a [u8]>
     ensures { option_map (λ d. d.now) result ≡ expected offered.now taken.now node }
 {
     match node.parent() {

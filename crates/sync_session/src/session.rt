@@ -7,7 +7,7 @@ ghost use Rattle.vclock.specs.Answer.{Answers};
 ghost use Rattle.vclock.specs.Outcome.{Does, gives};
 ghost use Rattle.row_bytes.specs.declared.row.Row.{Row};
 ghost use Rattle.tree_nodes.specs.Nodes.{is_same_node, contains_node, tree_depth};
-ghost use Rattle.sync_session.specs.Walks.{TakenText, IsCanonical, IsInnerText};
+ghost use Rattle.sync_session.specs.Walks.{TakenText, expected, whole_digest, IsCanonical, IsInnerText};
 ghost use Rattle.sync_session.specs.Steps.{state_by, started, after, failed, cancelled_by, IsDue, Takes};
 ghost use Rattle.sync_session.specs.Readings.{Shows, Tells, Awaits, BeginsAtOnce, IsBeginFault, IsReadTo, StepsTo, IsReadFault};
 
@@ -126,6 +126,13 @@ impl Session {
         &self.outstanding
     }
 
+    /// Returns true if a node was asked and isn't answered.
+    pub fn is_outstanding(&self, node: NodeAt) -> bool
+        ensures { result ≡ contains_node node self.now.outstanding }
+    {
+        node_list::has(&self.outstanding, node)
+    }
+
     /// Returns all nodes that were ever asked, in order.
     pub fn asked(&self) -> &[NodeAt]
         ensures { result.now ≡ self.now.asked }
@@ -140,6 +147,18 @@ impl Session {
         &self.taken
     }
 
+    /// Returns the digest that the session expects at a node: at the root the partner's root, otherwise the one in the
+    /// text that was taken for the node above. Returns `None` if no such text was taken, or it ends before the digest
+    /// does.
+    pub fn expected(&self, node: NodeAt) -> Option<Digest>
+        ensures digest { result ≡ whole_digest (expected self.now.root self.now.taken node) }
+        ensures root { length self.now.root ≡ 32 }
+    {
+        let root = self.root();
+        let digest = node_list::expected_digest(&root, &self.taken, node)?;
+        Digest::try_from(digest).ok()
+    }
+
     /// Returns the state of the session.
     pub fn state(&self) -> SessionState
         ensures { result ≡ self.now.state }
@@ -152,7 +171,7 @@ impl Session {
     fn expects(&self, node: NodeAt, text: &Hashed) -> Result<(), Refusal>
         ensures { Awaits self.now (record { node = node; text = text.now }) result }
     {
-        if !node_list::has(&self.outstanding, node) {
+        if !self.is_outstanding(node) {
             return Err(Refusal::NotAsked);
         }
         if !node_list::is_expected(&self.root, &self.taken, node, &text.digest()) {

@@ -3,7 +3,10 @@
 ghost use Rattle.std.specs.Prelude.{◌≤◌};
 
 use range_journal::Source;
-use range_state::{Accepted, AnswerTaken, Event, Loaded, RangeConfig, RangeState, Reply};
+use range_state::{
+    Accepted, AnswerTaken, Event, Loaded, RangeConfig, RangeState, Renewal, RenewalStart, Reply,
+    Unfinished,
+};
 use rehash::{Job, run_job};
 use snapshot::Snapshot;
 use std::alloc::Global;
@@ -166,6 +169,15 @@ pub(crate) fn install_in_moment(state: &mut RangeState, job: Job) -> Result<(), 
     state.install_moment(node, &run_job(job))
 }
 
+/// Keeps the rows now as the moment of a range, and hashes all its nodes.
+pub(crate) fn hold_whole_moment(alloc: Global, state: &mut RangeState) -> Result<(), Refusal> {
+    hold_moment(alloc, state)?;
+    for _level in 0..4 {
+        state.hash_moment(alloc, 10_000)?;
+    }
+    Ok(())
+}
+
 /// Returns the digest of the root of a range's moment.
 pub(crate) fn moment_root(alloc: Global, state: &RangeState) -> Result<Digest, Refusal> {
     Ok(state.moment(alloc)?.root())
@@ -188,6 +200,35 @@ pub(crate) fn migrate(alloc: Global, state: &mut RangeState) -> Result<(), Refus
 /// Makes a new range with a limit that begins with the versions that a range holds, at seat 4.
 pub(crate) fn renew(alloc: Global, state: &RangeState, limit: u64) -> Result<RangeState, Refusal> {
     state.renewed(alloc, 4, limit)
+}
+
+/// Begins a renewal beside the puts.
+pub(crate) fn begin_renewal(alloc: Global, state: &RangeState) -> Result<RenewalStart, Refusal> {
+    state.begin_renewal(alloc)
+}
+
+/// Makes the new range of a renewal with a limit, at seat 4.
+pub(crate) fn build(alloc: Global, start: &RenewalStart, limit: u64) -> Result<Renewal, Refusal> {
+    start.renewal(alloc, 4, limit)
+}
+
+/// Accepts some of a range's later entries into the new range at seat 4, and returns the number of those that are left.
+pub(crate) fn catch_up(
+    alloc: Global,
+    renewal: &mut Renewal,
+    old: &RangeState,
+    most: u64,
+) -> Result<u64, Refusal> {
+    renewal.catch_up(alloc, 4, old, most)
+}
+
+/// Puts the new range in the place of the old one, which it returns, after the entries that are left, at seat 4.
+pub(crate) fn finish(
+    alloc: Global,
+    renewal: Renewal,
+    range: &mut RangeState,
+) -> Result<RangeState, Unfinished> {
+    renewal.finish(alloc, 4, range)
 }
 
 /// Loads rows of one leaf from their texts, at seat 4.

@@ -4,6 +4,8 @@
 #[cfg(test)]
 mod calls;
 #[cfg(test)]
+mod catch_ups;
+#[cfg(test)]
 mod events;
 #[cfg(test)]
 mod exchanges;

@@ -3,15 +3,18 @@ ghost use Rattle.std.specs.Prelude.{◌≤◌};
 
 use crate::calls::{hold_moment, new_range, put};
 use exchange::{Bounds, Exchange, Report};
-use range_state::RangeState;
+use range_state::{AnswerTaken, RangeState};
 use snapshot::Snapshot;
 use std::alloc::Global;
 use std::sync::Arc;
 use std::test::Fail;
+use sync_session::SessionState;
 use test_values::calls::node_at;
 use test_values::checks::expect;
+use test_values::refusals::expect_refused;
 use text_patch::{outline, outline_parts, parts_of, patch, patch_parts, rebuild};
-use tree_nodes::{Digest, Text};
+use tree_nodes::{Digest, NodeAt, Text, hash};
+use vclock::Refusal;
 use walk_messages::{Answer, Ask, Message, encode};
 
 /// The digest of the partner's leaf 12.
@@ -89,6 +92,123 @@ fn an_outline_and_its_patch_have_their_bytes(rt: HostRuntime) -> Result<(), Fail
         text.as_slice() == partner.answer(alloc, ask)?.as_slice(),
         "it makes the partner's text",
     )
+}
+
+/// A session of a range with a partner's rows, which the range outlines node by node: a loop of its own, without an
+/// exchange.
+struct Walk {
+    state: RangeState,
+    partner: Arc<Snapshot, Global>,
+    session: u64,
+}
+
+impl Walk {
+    /// Opens a session of the range that holds `a` and `c218` with a partner that also holds `b871`.
+    fn new(alloc: Global) -> Result<Walk, Fail> {
+        let mut state = range_of(alloc, b"x", &[(b"a", 1), (b"c218", 1)])?;
+        let puts = [(b"a".as_slice(), 1), (b"b871", 2), (b"c218", 1)];
+        let partner = moment(alloc, &mut range_of(alloc, b"x", &puts)?)?;
+        moment(alloc, &mut state)?;
+        let session = state.open_session_at_moment(alloc, 2, partner.offer(1))?;
+        Ok(Walk {
+            state,
+            partner,
+            session,
+        })
+    }
+
+    /// Returns the partner's patch for the outline of a node.
+    fn patch_for(&self, alloc: Global, node: NodeAt) -> Result<Vec<u8>, Fail> {
+        let outline = self.state.outline(alloc, self.session, node, 1, 3)?;
+        let Some((ask, marks)) = outline_parts(alloc, outline.as_slice()) else {
+            return Err("it is no outline")?;
+        };
+        Ok(patch(alloc, &self.partner, ask, &marks)?)
+    }
+
+    /// Takes the text that a patch makes.
+    fn take(&mut self, alloc: Global, bytes: &[u8]) -> Result<AnswerTaken, Fail> {
+        let Some((ask, steps)) = patch_parts(alloc, bytes) else {
+            return Err("it is no patch")?;
+        };
+        let text = self.state.patched(alloc, self.session, ask.node, steps)?;
+        Ok(
+            self.state
+                .take_answer(alloc, 0, self.session, ask.node, hash(text))?,
+        )
+    }
+}
+
+impl Drop for Walk {
+    fn drop(self) {
+        let Walk {
+            state: _state,
+            partner: _partner,
+            session: _session,
+        } = self;
+    }
+}
+
+#[test]
+fn a_session_goes_on_by_patches(rt: HostRuntime) -> Result<(), Fail> {
+    let alloc = rt.alloc();
+    let mut walk = Walk::new(alloc)?;
+    for place in [(0, 0), (1, 0)] {
+        let node = node_at(place.0, place.1)?;
+        let patch = walk.patch_for(alloc, node)?;
+        walk.take(alloc, &patch)?;
+    }
+    let leaf = node_at(2, 12)?;
+    let outline = walk.state.outline(alloc, walk.session, leaf, 1, 3)?;
+    expect(
+        outline.as_slice() == OUTLINE,
+        "the leaf's outline has its bytes",
+    )?;
+    let taken = walk.take(alloc, PATCH)?;
+    expect(
+        taken.state == SessionState::Finished && taken.receipts.len() == 1 && taken.known == 2,
+        "the patch of the leaf brings one version",
+    )
+}
+
+#[test]
+fn a_patch_that_lies_is_refused(rt: HostRuntime) -> Result<(), Fail> {
+    let alloc = rt.alloc();
+    let mut walk = Walk::new(alloc)?;
+    let (session, root) = (walk.session, NodeAt::root());
+    let patch = walk.patch_for(alloc, root)?;
+    let lie = changed(alloc, &patch)?;
+    let Some((_, steps)) = patch_parts(alloc, &lie) else {
+        return Err("it is no patch")?;
+    };
+    let text = hash(walk.state.patched(alloc, session, root, steps)?);
+    let said = walk.state.take_answer(alloc, 0, session, root, text);
+    expect_refused(said, Refusal::WrongDigest, "a lie is refused")?;
+    let said = walk.state.patched(alloc, session, root, &[2]);
+    expect_refused(said, Refusal::BadMessage, "there is no such step")?;
+    walk.take(alloc, &patch)?;
+    Ok(())
+}
+
+#[test]
+fn outlines_and_patches_are_for_outstanding_nodes(rt: HostRuntime) -> Result<(), Fail> {
+    let alloc = rt.alloc();
+    let walk = Walk::new(alloc)?;
+    let (state, session) = (&walk.state, walk.session);
+    let (root, leaf) = (NodeAt::root(), node_at(2, 12)?);
+    for width in [0, 9] {
+        let said = state.outline(alloc, 9, leaf, 1, width);
+        expect_refused(said, Refusal::BadMessage, "no such width")?;
+    }
+    let said = state.outline(alloc, 9, leaf, 1, 8);
+    expect_refused(said, Refusal::UnknownSession, "no such session")?;
+    let said = state.outline(alloc, session, leaf, 1, 8);
+    expect_refused(said, Refusal::NotAsked, "the leaf isn't asked")?;
+    state.outline(alloc, session, root, 1, 8)?;
+    let said = state.patched(alloc, 9, leaf, &[2]);
+    expect_refused(said, Refusal::UnknownSession, "no such session")?;
+    let said = state.patched(alloc, session, leaf, &[2]);
+    expect_refused(said, Refusal::NotAsked, "the leaf isn't asked")
 }
 
 #[test]

@@ -13,7 +13,8 @@ use std::test::Fail;
 use std::thread::Threads;
 use test_values::checks::expect;
 use test_values::refusals::is_refused;
-use tree_nodes::NodeAt;
+use text_patch::{Marks, patch_parts};
+use tree_nodes::{NodeAt, Text};
 use vclock::Refusal;
 use walk_messages::Ask;
 
@@ -47,6 +48,53 @@ fn expect_refused<R: Wait>(
     expect(is_refused(text, refusal), "the ask is refused")
 }
 
+/// Returns the patch of a pool for an asker without parts.
+fn patch_of<R: Wait>(rt: &R, alloc: Global, pool: &OfferPool, ask: Ask) -> Result<Text, Refusal> {
+    let marks = Marks::new(3, 0, &[]).ok_or(Refusal::BadMessage)?;
+    pool.patch(rt, alloc, ask, &marks)
+}
+
+/// Expects that a pool answers an outline by the patch for the first leaf of its first offer, which has no rows, and
+/// refuses other outlines.
+fn expect_patches<R: Wait>(rt: &R, alloc: Global, pool: &OfferPool) -> Result<(), Fail> {
+    let leaf = NodeAt::new(2, 0).ok_or("no such node")?;
+    let deeper = NodeAt::new(3, 0).ok_or("no such node")?;
+    let patch = patch_of(
+        rt,
+        alloc,
+        pool,
+        Ask {
+            offer: 1,
+            node: leaf,
+        },
+    )?;
+    let steps = patch_parts(alloc, patch.as_slice()).map(|parts| parts.1.len());
+    expect(steps == Some(0), "the patch has no steps")?;
+    let gone = patch_of(
+        rt,
+        alloc,
+        pool,
+        Ask {
+            offer: 9,
+            node: deeper,
+        },
+    );
+    expect(is_refused(gone, Refusal::Gone), "the offer isn't kept")?;
+    let bad = patch_of(
+        rt,
+        alloc,
+        pool,
+        Ask {
+            offer: 1,
+            node: deeper,
+        },
+    );
+    expect(
+        is_refused(bad, Refusal::BadMessage),
+        "there is no such node",
+    )
+}
+
 /// Expects that a pool has this number of offers, and that the newest has this one.
 fn expect_counts<R: Wait>(rt: &R, pool: &OfferPool, kept: u32, newest: u32) -> Result<(), Fail> {
     let counts = pool.counts(rt);
@@ -72,7 +120,8 @@ fn expect_first<R: Wait>(
     )?;
     expect_leaf(rt, alloc, pool, 1)?;
     expect_refused(rt, alloc, pool, 9, 2, Refusal::Gone)?;
-    expect_refused(rt, alloc, pool, 1, 3, Refusal::BadMessage)
+    expect_refused(rt, alloc, pool, 1, 3, Refusal::BadMessage)?;
+    expect_patches(rt, alloc, pool)
 }
 
 /// Expects that a pool of 16 offers drops the first when another one is published.

@@ -1,7 +1,9 @@
 -- The marks of parts: the first bytes of digests (FIPS 180-4), by which two replicas find the parts that both have.
-use Rattle.std.specs.Prelude.{◌≡◌, ℕ, zero, suc, ◌+◌, ◌*◌, ◌-◌, ◌<◌, ◌≤◌, ◌^◌, min, bytes_eq, List, ◌++◌, length, take, drop, Option, Some, None, if◌then◌else◌}
+use Rattle.std.specs.Prelude.{◌≡◌, ℕ, zero, suc, ◌+◌, ◌*◌, ◌-◌, ◌<◌, ◌≤◌, ◌^◌, nat_le, ◌&&◌, min, bytes_eq, List, ◌++◌, length, take, drop, Option, Some, None, if◌then◌else◌}
 use Rattle.std.specs.List.{flat_map}
 use Rattle.sha2.specs.Sha256.{sha256}
+use Rattle.vclock.specs.declared.refusal.Refusal.{Refusal}
+use Rattle.vclock.specs.declared.refusal.Refusal.TheVariants.{BadMessage}
 
 -- so many marks of a width, in order
 pub record MarkList : Type 0 where
@@ -15,6 +17,10 @@ pub record AreMarks (m : MarkList) : Type 0 where
   pub most : m.width ≤ 8
   pub few : m.count < 2 ^ 32
   pub long : length m.bytes ≡ m.width * m.count
+
+-- the fault of a width: a mark has one to eight bytes
+abbrev pub width_fault : ℕ → Option Refusal
+width_fault width = if nat_le 1 width && nat_le width 8 then None else Some BadMessage
 
 -- the mark of a part: the first bytes of the digest of the salt and the part
 abbrev pub mark_of : List ℕ → ℕ → List ℕ → List ℕ

@@ -4,7 +4,11 @@ use Rattle.std.specs.Int.{w32, w64, to_be_bytes}
 use Rattle.tree_nodes.specs.Nodes.{IsNode}
 use Rattle.walk_messages.specs.Messages.{node_bytes}
 use Rattle.walk_messages.specs.declared.message.Ask.{Ask}
+use Rattle.snapshot.specs.RowMaps.{RowMap, digest_at}
 use Rattle.text_patch.specs.Marks.{MarkList, AreMarks}
+use Rattle.text_patch.specs.Parts.{parts_at}
+use Rattle.text_patch.specs.Patches.{patch_for}
+use Rattle.text_patch.specs.Steps.{steps_text}
 
 -- an ask with the marks of the parts that the asker has
 unfoldable pub outline_text : Ask → MarkList → List ℕ
@@ -13,6 +17,10 @@ outline_text a m = 4 ∷ to_be_bytes w32 a.offer ++ node_bytes a.node ++ m.width
 -- an answer to it
 unfoldable pub patch_text : Ask → List ℕ → List ℕ
 patch_text a steps = 5 ∷ to_be_bytes w32 a.offer ++ node_bytes a.node ++ to_be_bytes w64 (length steps) ++ steps
+
+-- the patch for an outline with these marks: it makes the node's text over some rows
+abbrev pub patch_of : RowMap → Ask → MarkList → List ℕ
+patch_of m a marks = patch_text a (steps_text (patch_for (digest_at m a.node.depth a.node.index) marks 0 (parts_at m a.node)))
 
 -- the number of the offer has its width, and the node is one of a tree
 pub record IsHead (a : Ask) : Type 0 where

@@ -21,7 +21,7 @@ pub mod parts;
 pub mod reader;
 pub mod writer;
 
-pub use marks::Marks;
+pub use marks::{Marks, check_width};
 pub use messages::{outline, outline_parts, patch, patch_parts};
 pub use parts::parts_of;
 pub use reader::rebuild;

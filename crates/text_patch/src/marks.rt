@@ -2,12 +2,14 @@
 ghost use Rattle.std.specs.Prelude.{◌≡◌, ◌++◌, ◌<◌, ◌≤◌, ◌^◌, ⊤, take, OnOk, MatchOption};
 ghost use Rattle.std.specs.List.{flat_map};
 ghost use Rattle.sha2.specs.Sha256.{sha256};
-ghost use Rattle.text_patch.specs.Marks.{AreMarks, mark_of, mark_at, place_of};
+ghost use Rattle.vclock.specs.Answer.{AnswersAtOnce};
+ghost use Rattle.text_patch.specs.Marks.{AreMarks, width_fault, mark_of, mark_at, place_of};
 
 use sha2::{Digest as _, Sha256};
 use std::alloc::AllocError;
 use std::marker::Model;
 use tree_nodes::{Digest, Text};
+use vclock::Refusal;
 
 /// The maximum number of places that are searched for a mark.
 const PLACES_MAX: u32 = 1_024;
@@ -43,9 +45,7 @@ impl<'a> Marks<'a> {
             (λ marks. marks ≡ record { width = width; count = count; bytes = bytes.now }) }
         ensures valid { MatchOption result ⊤ (λ marks. AreMarks marks) }
     {
-        if width == 0 || width > 8 {
-            return None;
-        }
+        check_width(width).ok()?;
         if bytes.len() as u64 != u64::from(width) * u64::from(count) {
             return None;
         }
@@ -83,6 +83,16 @@ impl<'a> Marks<'a> {
         let start = width * place as usize;
         &self.bytes[start..start + width]
     }
+}
+
+/// Tests the width of marks, in bytes. Refused: BadMessage (it isn't 1 to 8).
+pub fn check_width(width: u8) -> Result<(), Refusal>
+    ensures { AnswersAtOnce result (width_fault width) (λ _. ⊤) }
+{
+    if width == 0 || width > 8 {
+        return Err(Refusal::BadMessage);
+    }
+    Ok(())
 }
 
 /// Returns the digest of a salt and a part.

@@ -5,15 +5,11 @@ ghost use Rattle.vclock.specs.Answer.{Answers};
 ghost use Rattle.walk_messages.specs.declared.message.Ask.{Ask};
 ghost use Rattle.walk_messages.specs.declared.message.Message.TheVariants as messages;
 ghost use Rattle.walk_messages.specs.Messages.{node_bytes};
-ghost use Rattle.snapshot.specs.RowMaps.{digest_at};
 ghost use Rattle.snapshot.specs.Snapshots.{answer_fault};
-ghost use Rattle.text_patch.specs.Marks.{AreMarks, MarkList, marks_of};
-ghost use Rattle.text_patch.specs.Messages.{outline_text, patch_text, IsHead, IsOutlineOf, IsPatchOf};
-ghost use Rattle.text_patch.specs.Parts.{parts_at};
-ghost use Rattle.text_patch.specs.Patches.{patch_for};
-ghost use Rattle.text_patch.specs.Steps.{steps_text};
+ghost use Rattle.text_patch.specs.Marks.{AreMarks, MarkList, width_fault, marks_of};
+ghost use Rattle.text_patch.specs.Messages.{outline_text, patch_of, IsHead, IsOutlineOf, IsPatchOf};
 
-use crate::marks::{Marks, put_marks};
+use crate::marks::{Marks, check_width, put_marks};
 use crate::parts::parts_of;
 use crate::writer::write_steps;
 use snapshot::Snapshot;
@@ -22,7 +18,9 @@ use tree_nodes::{Digest, Text};
 use vclock::Refusal;
 use walk_messages::{Ask, Message, decode, encode};
 
-/// Returns the bytes of an outline: an ask, with marks of so many bytes for these parts. Refused: NoMemory.
+/// Returns the bytes of an outline: an ask, with marks of so many bytes for these parts.
+///
+/// Refused, in order: BadMessage (the width isn't 1 to 8), NoMemory.
 #[tactic(auto, unfolding(crate::specs::Messages::outline_text))]
 pub fn outline(
     alloc: Global,
@@ -31,9 +29,9 @@ pub fn outline(
     width: u8,
     parts: &[Text],
 ) -> Result<Vec<u8>, Refusal>
-    requires { width ≤ 8 }
-    ensures { Answers result None (λ bytes. bytes.items ≡ outline_text ask (marks_of salt.now width parts.now)) }
+    ensures { Answers result (width_fault width) (λ bytes. bytes.items ≡ outline_text ask (marks_of salt.now width parts.now)) }
 {
+    check_width(width)?;
     let Ok(count) = u32::try_from(parts.len()) else {
         return Err(Refusal::NoMemory);
     };
@@ -49,8 +47,7 @@ pub fn outline(
 /// Refused, in order: BadMessage (the tree has no such node), NoMemory.
 #[tactic(auto, unfolding(crate::specs::Messages::patch_text))]
 pub fn patch(alloc: Global, own: &Snapshot, ask: Ask, marks: &Marks<'_>) -> Result<Vec<u8>, Refusal>
-    ensures { Answers result (answer_fault own.now ask.node) (λ bytes. bytes.items
-        ≡ patch_text ask (steps_text (patch_for (digest_at own.now ask.node.depth ask.node.index) marks.now 0 (parts_at own.now ask.node)))) }
+    ensures { Answers result (answer_fault own.now ask.node) (λ bytes. bytes.items ≡ patch_of own.now ask marks.now) }
 {
     let parts = parts_of(alloc, own, ask.node)?;
     let salt = own.digest_at(ask.node);

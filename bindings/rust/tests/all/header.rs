@@ -47,7 +47,7 @@ fn rust_type(ty: &str) -> String {
         "size_t" => "usize",
         "bool" => "bool",
         "void" => "c_void",
-        "antientropy_replica" | "antientropy_snapshot" | "antientropy_portion" => "Handle",
+        "antientropy_replica" | "antientropy_renewal" | "antientropy_snapshot" | "antientropy_portion" => "Handle",
         "antientropy_exchange" | "antientropy_hints" | "antientropy_slots" => "Handle",
         other => return camel(other.strip_prefix("antientropy_").unwrap()),
     };
@@ -61,7 +61,8 @@ fn camel(name: &str) -> String {
 }
 
 /// C's own loop of a sync, with its struct `Taken`. Here an exchange is that loop.
-const LOOP_OF_C: [&str; 8] = ["open", "open_at_moment", "outstanding", "ask_at", "ask", "take", "session", "cancel"];
+const LOOP_OF_C: [&str; 9] =
+    ["open", "open_at_moment", "outstanding", "ask_at", "ask", "outline_at", "take", "session", "cancel"];
 
 /// Returns the arguments and the result of each function of the library, by its name, as Rust has them.
 fn functions_of_the_header() -> BTreeMap<String, String> {
@@ -70,7 +71,8 @@ fn functions_of_the_header() -> BTreeMap<String, String> {
     for (result, rust_result) in [("uint32_t", " -> u32"), ("void", "")] {
         for declared in between(&text, &format!(" {result} antientropy_"), ");") {
             let (name, arguments) = declared.split_once('(').unwrap();
-            if LOOP_OF_C.contains(&name.trim_start_matches("share_")) {
+            let call = name.trim_start_matches("share_");
+            if LOOP_OF_C.contains(&call) {
                 continue;
             }
             let arguments = arguments.split(',').filter(|argument| *argument != "void").map(field);

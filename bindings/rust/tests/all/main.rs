@@ -7,6 +7,7 @@ mod header;
 mod hints;
 mod memory;
 mod moments;
+mod renewals;
 mod replica;
 mod slots;
 mod support;

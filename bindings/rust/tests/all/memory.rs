@@ -37,6 +37,7 @@ fn replicas_snapshots_and_portions() {
             replica.put(1, &[n], Some(VALUE), &NONE).unwrap();
         }
         let snapshot = replica.snapshot().unwrap().share().unwrap();
+        replica.renew_in_place(1_000).unwrap();
         replica.put(1, b"later", Some(VALUE), &NONE).unwrap();
         replica.hold().unwrap();
         let mut portion = replica.take_portion(u64::MAX).unwrap();

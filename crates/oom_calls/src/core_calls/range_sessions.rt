@@ -9,6 +9,7 @@ use std::alloc::Global;
 use std::io;
 use std::thread::Threads;
 use sync_session::SessionState;
+use text_patch::{outline_parts, patch, patch_parts};
 use tree_nodes::{Hashed, NodeAt};
 use vclock::Refusal;
 
@@ -27,6 +28,11 @@ pub(crate) fn show_all<R: Print + AllocGlobal + Threads + Sync>(
         rt,
         "RangeState::take_answer, RangeStore::prepare, Tree::with_leaf and Leaves::with_leaf",
         take_answer(rt, alloc, partner),
+    )?;
+    show(
+        rt,
+        "RangeState::outline and RangeState::patched",
+        patched(rt, alloc, partner),
     )?;
     show(
         rt,
@@ -122,6 +128,23 @@ fn take_answer(
         }
     }
     Ok(state.journal().len())
+}
+
+/// Makes the outline of the root for a range's session, and the text that the partner's patch makes. Returns the length
+/// of the text.
+fn patched(rt: &(impl Threads + Sync), alloc: Global, partner: &Snapshot) -> Result<u64, Refusal> {
+    let state = range_with(rt, alloc, partner, 1)?;
+    let root = NodeAt::root();
+    let outline = state.outline(alloc, 0, root, 1, 3)?;
+    let Some((ask, marks)) = outline_parts(alloc, outline.as_slice()) else {
+        return Err(Refusal::BadMessage);
+    };
+    let patch = patch(alloc, partner, ask, &marks)?;
+    let Some((_, steps)) = patch_parts(alloc, &patch) else {
+        return Err(Refusal::BadMessage);
+    };
+    let text = state.patched(alloc, 0, root, steps)?;
+    Ok(text.as_slice().len() as u64)
 }
 
 /// Syncs a range with the partner. The digits of the result are the numbers of nodes asked and of versions accepted.

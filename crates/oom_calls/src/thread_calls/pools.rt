@@ -5,6 +5,7 @@ use ring_node::OfferPool;
 use std::alloc::Global;
 use std::io;
 use std::sync::{Arc, Wait};
+use text_patch::Marks;
 use tree_nodes::NodeAt;
 use vclock::Refusal;
 use walk_messages::Ask;
@@ -13,7 +14,8 @@ use walk_messages::Ask;
 pub(crate) fn show_all<R: Print + AllocGlobal + Wait>(rt: &R, partner: &Partner) -> io::Result<()> {
     let alloc = rt.alloc();
     show(rt, "OfferPool::publish", publish(rt, alloc, partner))?;
-    show(rt, "OfferPool::serve", serve(rt, alloc, partner))
+    show(rt, "OfferPool::serve", serve(rt, alloc, partner))?;
+    show(rt, "OfferPool::patch", patch(rt, alloc, partner))
 }
 
 /// Returns the ask for the root of an offer.
@@ -69,6 +71,18 @@ fn has<R: Wait>(
 fn serve<R: Wait>(rt: &R, alloc: Global, partner: &Partner) -> Result<u64, Refusal> {
     match partner.first.serve(rt, alloc, ask(1)?) {
         Ok(answer) => Ok(answer.text.as_slice().len() as u64),
+        Err(refusal) => {
+            let same = has(rt, alloc, &partner.first, partner, 1);
+            Err(unchanged(refusal, same))
+        }
+    }
+}
+
+/// Asks for the root's patch, for an asker without parts, and returns its length.
+fn patch<R: Wait>(rt: &R, alloc: Global, partner: &Partner) -> Result<u64, Refusal> {
+    let marks = Marks::new(3, 0, &[]).ok_or(Refusal::BadMessage)?;
+    match partner.first.patch(rt, alloc, ask(1)?, &marks) {
+        Ok(patch) => Ok(patch.as_slice().len() as u64),
         Err(refusal) => {
             let same = has(rt, alloc, &partner.first, partner, 1);
             Err(unchanged(refusal, same))

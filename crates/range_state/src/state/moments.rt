@@ -1,8 +1,9 @@
 //! The moment of a range: its rows at a time, which are hashed and offered while the range goes on.
-ghost use Rattle.std.specs.Prelude.{◌≡◌, None};
+ghost use Rattle.std.specs.Prelude.{◌≡◌, ⊤, None, Some};
 ghost use Rattle.std.specs.Arc.{arc_value};
-ghost use Rattle.vclock.specs.Answer.{Answers};
+ghost use Rattle.vclock.specs.Answer.{Answers, AnswersAtOnce};
 ghost use Rattle.vclock.specs.Outcome.{Does, DoesAtOnce, gives};
+ghost use Rattle.range_tree.specs.Jobs.{dirty_fault};
 ghost use Rattle.range_state.specs.State.{rows_at};
 ghost use Rattle.range_state.specs.Moments.{with_moment, without_moment, AreMomentJobs, with_digest, install_moment, moment_fault, front_of, open_at_moment, shown_fault, shown_rows, opening};
 
@@ -12,6 +13,7 @@ use crate::record::Record;
 use crate::state::RangeState;
 use crate::state::sessions::check_crowd;
 use crate::state::sync::sum;
+use range_tree::Tree;
 use rehash::Job;
 use snapshot::Snapshot;
 use std::alloc::Global;
@@ -96,6 +98,17 @@ impl RangeState {
         }
     }
 
+    /// Returns the moment, if each node of its tree has a digest. Doesn't allocate. Refused: Dirty.
+    pub(super) fn whole_moment(&self) -> Result<&Moment, Refusal>
+        ensures { AnswersAtOnce result (moment_fault self.now.moment) (λ moment. self.now.moment ≡ Some moment.now) }
+    {
+        let Some(moment) = &self.moment else {
+            return Err(Refusal::Dirty);
+        };
+        check_whole(&moment.tree)?;
+        Ok(moment)
+    }
+
     /// Makes a snapshot of the rows now, as `snapshot` does, or of the moment, as `moment` does.
     pub fn snapshot_of(
         &self,
@@ -156,4 +169,14 @@ impl RangeState {
         self.next_session = next;
         Ok(number)
     }
+}
+
+/// Tests that each node of a tree has a digest. Doesn't allocate. Refused: Dirty.
+pub(super) fn check_whole(tree: &Tree) -> Result<(), Refusal>
+    ensures { AnswersAtOnce result (dirty_fault tree.now) (λ _. ⊤) }
+{
+    if tree.dirty_count() > 0 {
+        return Err(Refusal::Dirty);
+    }
+    Ok(())
 }

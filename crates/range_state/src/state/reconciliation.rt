@@ -9,6 +9,7 @@ ghost use Rattle.range_state.specs.Reconciles.{pair_fault, HasCaughtUp, HasStopp
 ghost use Rattle.vclock.specs.Answer.{first_fault};
 
 use crate::state::RangeState;
+use crate::state::moments::check_whole;
 use crate::state::sessions::check_crowd;
 use crate::state::sync::Synced;
 use snapshot::Snapshot;
@@ -137,9 +138,6 @@ impl RangeState {
     fn check_clean(&self) -> Result<(), Refusal>
         ensures { AnswersAtOnce result (dirty_fault self.now.store) (λ _. ⊤) }
     {
-        if self.store.tree().dirty_count() > 0 {
-            return Err(Refusal::Dirty);
-        }
-        Ok(())
+        check_whole(self.store.tree())
     }
 }

@@ -1,5 +1,5 @@
 //! Rows for a store's table.
-ghost use Rattle.std.specs.Prelude.{◌≡◌, ◌≤◌, ℕ, List, None, map};
+ghost use Rattle.std.specs.Prelude.{◌≡◌, ◌≤◌, ◌++◌, ℕ, List, None, map};
 ghost use Rattle.std.specs.List.{AllByRecursion};
 ghost use Rattle.vclock.specs.Answer.{Answers};
 ghost use Rattle.vclock.specs.declared.format.Format.TheVariants as formats;
@@ -8,7 +8,8 @@ ghost use Rattle.key_ring.specs.Places.{leaf_at};
 ghost use Rattle.range_journal.specs.declared.journal.Entry.{Entry};
 ghost use Rattle.row_table.specs.Tables.{place_of, set_in};
 ghost use Rattle.range_store.specs.Store.{leaf_in};
-ghost use Rattle.range_store.specs.TableRows.{row_from};
+ghost use Rattle.range_store.specs.TableRows.{row_from, row_of};
+ghost use Rattle.row_bytes.specs.declared.row.Row.{Row};
 
 use crate::config::RangeConfig;
 use crate::leaf_rows::place_in;
@@ -16,6 +17,7 @@ use hash_tree::SharedLeaf;
 use key_ring::place;
 use range_journal::Entry;
 use range_tree::Tree;
+use row_bytes::Row;
 use row_table::{RowTable, TableRow};
 use std::alloc::Global;
 use vclock::{Bytes, Format, Refusal};
@@ -156,4 +158,52 @@ pub(super) fn rows_from_tree(
         rows.push(row_with(alloc, wide_leaf(config, leaf, key), &entry.key, &held)?)?;
     }
     Ok(rows)
+}
+
+/// Inserts rows of a leaf into a table. Refused: NoMemory, and then some may be inserted.
+pub(super) fn insert_leaf(
+    alloc: Global,
+    table: &mut RowTable,
+    config: &RangeConfig,
+    leaf: u16,
+    rows: &SharedLeaf,
+) -> Result<(), Refusal>
+    requires { AllByRecursion (λ (r : Row). leaf_in config.now r.key ≡ leaf) rows.now.rows }
+    ensures { Answers result None (λ _. table.new.rows ≡ table.old.rows ++ map (row_of config.now.bits) rows.now.rows) }
+{
+    let mut runs = rows.runs();
+    while let Some(run) = runs.next_run() {
+        insert_rows(alloc, table, config, leaf, run)?;
+    }
+    Ok(())
+}
+
+/// Inserts rows of a leaf that are in a slice. Refused: NoMemory, and then some may be inserted.
+fn insert_rows(
+    alloc: Global,
+    table: &mut RowTable,
+    config: &RangeConfig,
+    leaf: u16,
+    rows: &[Row],
+) -> Result<(), Refusal>
+    requires { AllByRecursion (λ (r : Row). leaf_in config.now r.key ≡ leaf) rows.now }
+    ensures { Answers result None (λ _. table.new.rows ≡ table.old.rows ++ map (row_of config.now.bits) rows.now) }
+{
+    table.reserve(rows.len() as u64)?;
+    for row in rows {
+        let wide = wide_leaf(config, leaf, row.key.as_slice());
+        table.insert(table_row(alloc, wide, row)?);
+    }
+    Ok(())
+}
+
+/// Makes the table's row of a row, which shares its key and its values. Refused: NoMemory.
+fn table_row(alloc: Global, leaf: u16, row: &Row) -> Result<TableRow, Refusal>
+    ensures { Answers result None (λ new. new ≡ record { key = row.now.key; leaf = leaf; set = row.now.versions }) }
+{
+    Ok(TableRow {
+        key: row.key.try_clone()?,
+        leaf,
+        set: row.versions.try_clone(alloc)?,
+    })
 }

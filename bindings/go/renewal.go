@@ -1,0 +1,93 @@
+package antientropy
+
+// #include <antientropy.h>
+import "C"
+
+const (
+	// catchUpEntries is the number of entries that a renewal accepts under the lock to read, at first.
+	catchUpEntries = 256
+	// fewEntries is the maximum number of entries that a renewal leaves to its finish.
+	fewEntries = 64
+)
+
+// A renewal has the new replica that is made beside the old one, and after its finish the old one.
+type renewal struct {
+	handle C.struct_antientropy_renewal
+}
+
+// RenewInPlace renews the replica as [Replica.Renew] does, in its place, while other goroutines put.
+//
+// It holds the rows now as a moment, as [Replica.Snapshot] does, makes the new journal of them without the lock, and
+// accepts what was put meanwhile. Puts wait only for its steps under the lock: the last one accepts a few entries. The
+// sessions and the moment are gone then, so an exchange ends as [ReportGone]. The numbers of entries go on: those since
+// the moment keep theirs, and a log that has all entries before it reads on.
+//
+// Refused as [ErrBadRing] (the limit), [ErrJournalFull] (more versions are held than the limit, or accepted meanwhile)
+// or [ErrStale] (another goroutine has renewed or migrated the replica meanwhile). It is unchanged then.
+func (r *Replica) RenewInPlace(limit uint64) error {
+	return r.at.renewInPlace(limit)
+}
+
+func (r *replica) renewInPlace(limit uint64) error {
+	made, err := atMoment(r, func(held *replica) (*renewal, error) { return held.beginRenewal(limit) })
+	if err != nil {
+		return err
+	}
+	defer made.free()
+	if err := made.build(); err != nil {
+		return err
+	}
+	if err := made.catchUp(r); err != nil {
+		return err
+	}
+	return made.finish(r)
+}
+
+// beginRenewal begins a renewal with the rows of the moment. The caller holds the lock.
+func (r *replica) beginRenewal(limit uint64) (*renewal, error) {
+	made := new(renewal)
+	return made, check(C.antientropy_renewal_begin(&r.handle, C.uint64_t(limit), &made.handle))
+}
+
+// build makes the new replica of the rows of the moment.
+func (n *renewal) build() error {
+	return check(C.antientropy_renewal_build(&n.handle))
+}
+
+// catchUp accepts entries until few are left. It accepts more at once if other goroutines put as many meanwhile, so it
+// ends.
+func (n *renewal) catchUp(r *replica) error {
+	most := uint64(catchUpEntries)
+	left, err := n.catchUpSome(r, most)
+	for err == nil && left > fewEntries {
+		before := left
+		if left, err = n.catchUpSome(r, most); left >= before {
+			most *= 2
+		}
+	}
+	return err
+}
+
+// catchUpSome accepts the next entries, and returns the number of those that are left.
+func (n *renewal) catchUpSome(r *replica, most uint64) (left uint64, err error) {
+	var count C.uint64_t
+	held := r.reading()
+	defer held.lock.RUnlock()
+	err = check(C.antientropy_renewal_catch_up(&n.handle, &held.handle, C.uint64_t(most), &count))
+	return uint64(count), err
+}
+
+// finish accepts the entries that are left, and puts the new replica in the place of the old one.
+func (n *renewal) finish(r *replica) error {
+	held := r.locked()
+	defer held.lock.Unlock()
+	if err := check(C.antientropy_renewal_finish(&n.handle, &held.handle)); err != nil {
+		return err
+	}
+	return held.noteRenewed()
+}
+
+// free frees the memory.
+func (n *renewal) free() {
+	C.antientropy_renewal_free(&n.handle)
+}

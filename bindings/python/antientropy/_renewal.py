@@ -1,0 +1,119 @@
+"""Renewals of a replica in its place, while other threads put."""
+
+from __future__ import annotations
+
+from threading import Thread
+from typing import TYPE_CHECKING
+
+from ._convert import fits
+from ._handle import Handle
+from ._moment import at_moment
+from ._refused import Refused
+
+if TYPE_CHECKING:
+    from ._replica import Replica
+
+#: The entries that a renewal accepts at once, at first.
+_AT_ONCE = 256
+
+#: The most entries that a renewal leaves to its finish.
+_FEW = 64
+
+
+class _Renewal(Handle):
+    """The new replica that is made beside the old one; after its finish the old one."""
+
+    _free = "renewal_free"
+
+    def catch_up(self, replica: Replica) -> None:
+        """Accepts entries until few are left.
+
+        It accepts more of them at once if other threads put as many meanwhile, so it ends.
+        """
+        most, left = _AT_ONCE, self._catch_up_some(replica, _AT_ONCE)
+        while left > _FEW:
+            before, left = left, self._catch_up_some(replica, most)
+            if left >= before:
+                most *= 2
+
+    def _catch_up_some(self, replica: Replica, most: int) -> int:
+        """Accepts the next entries, and returns the number of those that are left."""
+        with replica._lock:
+            return self._words_held(1, "share_renewal_catch_up", replica._share(), most)[0]
+
+
+def renew_in_place(replica: Replica, limit: int) -> None:
+    """Renews a replica in its place."""
+    fits(limit, 64)
+    with _Renewal(replica._library) as renewal:
+        to_change = replica._to_change()
+        at_moment(replica, to_change, lambda: replica._call_held("renewal_begin", limit, renewal._at))
+        renewal._call("renewal_build")
+        renewal.catch_up(replica)
+        with to_change:
+            renewal._call_held("renewal_finish", replica._at)
+            replica._keeper.note_held(replica)
+
+
+class Keeper:
+    """Says when a replica is to be renewed, and lets a thread do that. The lock of the replica guards it."""
+
+    __slots__ = ("is_on", "_is_at_work", "_limit", "_first", "_held")
+
+    def __init__(self) -> None:
+        #: False: the replica isn't renewed by itself.
+        self.is_on = False
+        #: True while a thread renews.
+        self._is_at_work = False
+        #: Maximum number of the journal's entries, and the number of its first one.
+        self._limit = self._first = 0
+        #: Number of entries that the last renewal left: 0 before the first one.
+        self._held = 0
+
+    def start_held(self, replica: Replica) -> None:
+        """Renews the replica by itself from now on."""
+        counts = replica.count()
+        self.is_on, self._limit, self._first = True, counts.limit, counts.first
+
+    def note_held(self, replica: Replica) -> None:
+        """Notes the journal that a renewal left."""
+        counts = replica.count()
+        self._limit, self._first, self._held = counts.limit, counts.first, counts.entries - counts.first
+
+    def is_due(self, entries: int) -> bool:
+        """True if a renewal is due at a count of entries.
+
+        It is at nine tenths of the limit, once half of the room that the last renewal left is used.
+        """
+        used, room = entries - self._first, self._limit - self._held
+        return used * 10 >= self._limit * 9 and used > self._held and (used - self._held) * 2 >= room
+
+    def renew_if_due_held(self, replica: Replica, entries: int) -> None:
+        """Starts a thread that renews the replica, if that is due at a count of entries."""
+        if self.is_on and not self._is_at_work and self.is_due(entries):
+            self._is_at_work = True
+            try:
+                Thread(target=self._renew, args=(replica,), name="antientropy renewal", daemon=True).start()
+            except RuntimeError:  # (no thread can be started now: the next put tries again)
+                self._is_at_work = False
+
+    def count_and_renew_held(self, replica: Replica) -> None:
+        """Does so at the count of entries now."""
+        if self.is_on and replica._struct.held:
+            self.renew_if_due_held(replica, replica.count().entries)
+
+    def _renew(self, replica: Replica) -> None:
+        """Renews the replica.
+
+        A renewal that fails counts as one that has dropped no entry: another one is due when half of the room that is
+        left is used.
+        """
+        try:
+            renew_in_place(replica, self._limit)
+        except Refused:
+            with replica._lock:
+                if replica._struct.held:
+                    self.note_held(replica)
+        finally:
+            with replica._lock:
+                self._is_at_work = False
