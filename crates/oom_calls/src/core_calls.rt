@@ -1,6 +1,7 @@
 //! Makes each library call that takes memory and no lock, and prints its result. `examples/check` refuses the growths
 //! of memory in turn. Each call then returns NoMemory, or its result with ample memory. After NoMemory the value that
 //! was to be changed is unchanged; a call of many steps keeps the steps that are done.
+mod catch_ups;
 mod events;
 mod exchanges;
 mod hints;
@@ -48,6 +49,7 @@ pub(crate) fn show_all<R: Print + AllocGlobal + Threads + Sync>(rt: &R) -> io::R
     sessions::show_all(rt, &both)?;
     range_sessions::show_all(rt, &both)?;
     moments::show_all(rt, &both)?;
+    catch_ups::show_all(rt)?;
     exchanges::show_all(rt, &both)?;
     receipts::show_all(rt, &both)
 }

@@ -37,7 +37,11 @@ pub(crate) fn show_all<R: Print + AllocGlobal + Threads + Sync>(
         "DryExchange::open and DryExchange::take",
         take_dry(alloc, both),
     )?;
-    show(rt, "outline, patch and rebuild", take_patch(alloc, both))
+    show(
+        rt,
+        "parts_of, outline, patch and rebuild",
+        take_patch(alloc, both),
+    )
 }
 
 /// Opens an exchange, and returns the number of the range's sessions.

@@ -21,6 +21,9 @@ use std::marker::Model;
 use vclock::Refusal;
 use version_set::Version;
 
+/// The least number of entries for which a new range has room beyond those with which it begins, if its limit allows it.
+const SPARE_LEAST: u64 = 1_024;
+
 impl RangeStore {
     /// Makes a new range that begins with the versions that this one holds: each is an entry, as a copy by the seat,
     /// leaf by leaf, row by row and version by version, numbered from 0. The new range has this one's configuration
@@ -112,8 +115,9 @@ impl RenewalBasis {
         ensures { Answers result (basis_fault self.now limit) (λ range. range ≡ begun_by self.now seat limit) }
     {
         let (config, count) = limited(&self.config, &self.tree, limit)?;
-        let journal = begun_journal(alloc, &self.config, &self.tree, seat, limit, count)?;
-        let table = begun_table(alloc, self.seed, &self.config, &self.tree, count)?;
+        let room = count + spare_room(count, limit);
+        let journal = begun_journal(alloc, &self.config, &self.tree, seat, limit, room)?;
+        let table = begun_table(alloc, self.seed, &self.config, &self.tree, room)?;
         let tree = self.tree.share(alloc)?;
         Ok(RangeStore {
             config,
@@ -167,23 +171,33 @@ fn count_versions(config: &RangeConfig, tree: &Tree) -> u64
     count
 }
 
-/// Makes a journal with a limit, of the versions of rows, as copies by a seat. Refused: NoMemory.
+/// Returns for how many entries a new range of `count` versions has room at once beyond them: those that it catches up
+/// with then move none of the others.
+fn spare_room(count: u64, limit: u64) -> u64
+    requires { count ≤ limit }
+    ensures { count + result ≤ limit }
+{
+    (limit - count).min(count / 4 + SPARE_LEAST)
+}
+
+/// Makes a journal with a limit, of the versions of rows, as copies by a seat, with room for `room` entries in all.
+/// Refused: NoMemory.
 fn begun_journal(
     alloc: Global,
     config: &RangeConfig,
     tree: &Tree,
     seat: u16,
     limit: u64,
-    count: u64,
+    room: u64,
 ) -> Result<Journal, Refusal>
     requires of { IsOfConfig config.now tree.now.map }
-    requires count { count ≡ length (offers_by_leaf config.now tree.now.map.rows) }
-    requires within { count ≤ limit }
+    requires few { length (offers_by_leaf config.now tree.now.map.rows) ≤ room }
+    requires within { room ≤ limit }
     ensures { Answers result None
         (λ journal. (journal.entries ≡ copies_from 0 seat (offers_by_leaf config.now tree.now.map.rows)) × (journal.limit ≡ limit)) }
 {
     let mut journal = Journal::new(alloc, limit);
-    journal.reserve(count)?;
+    journal.reserve(room)?;
     append_all(&mut journal, config, tree, seat)?;
     Ok(journal)
 }
@@ -207,20 +221,20 @@ fn append_all(
     Ok(())
 }
 
-/// Makes the table of rows. Refused: NoMemory.
+/// Makes the table of rows, with room for `room` rows in all. Refused: NoMemory.
 fn begun_table(
     alloc: Global,
     seed: Seed,
     config: &RangeConfig,
     tree: &Tree,
-    count: u64,
+    room: u64,
 ) -> Result<RowTable, Refusal>
     requires of { IsOfConfig config.now tree.now.map }
     ensures { Answers result None
         (λ table. table.rows ≡ map (row_of config.now.bits) (by_leaf config.now tree.now.map.rows)) }
 {
     let mut table = RowTable::new(alloc, seed);
-    table.reserve(count)?;
+    table.reserve(room)?;
     for leaf in 0..leaf_count(config.format()) {
         insert_leaf(alloc, &mut table, config, leaf, tree.rows(leaf))?;
     }
