@@ -411,12 +411,14 @@ struct OfferParts {
 };
 
 /// The bounds of an exchange or a sync: maxima of `asks` on their way, of `bytes` of the answers to them, as far as can
-/// be estimated, and of `bad` answers and `lost` asks. One ask may always be on its way.
+/// be estimated, and of `bad` answers and `lost` asks. One ask may always be on its way. If `plain`, no ask is an
+/// outline: that takes less of both processors, and more of the link.
 struct Bounds {
     std::uint64_t asks = 256;
     std::uint64_t bytes = 1 << 20;
     std::uint64_t bad = 8;
     std::uint64_t lost = 256;
+    bool plain = false;
 };
 
 /// The verdict on an answer: the `cause` of a Bad or a Refused one, and numbers of new and of known versions.
@@ -1243,8 +1245,10 @@ public:
     Result<std::vector<std::string>> asks(const Replica &replica) {
         std::vector<std::string> asks;
         while (true) {
-            auto ask = detail::bytes(
-                [&](auto... out) { return c::antientropy_exchange_next(at(), detail::handle_of(replica), out...); });
+            auto ask = detail::bytes([&](std::uint8_t *out, std::size_t room, std::uint64_t *need) {
+                if (plain_) room = ANTIENTROPY_ASK_LEN;
+                return c::antientropy_exchange_next(at(), detail::handle_of(replica), out, room, need);
+            });
             if (!ask) return ask.refusal();
             if (ask->empty()) return asks;
             asks.push_back(*std::move(ask));
@@ -1301,10 +1305,11 @@ public:
 private:
     friend class Replica;
 
-    Exchange() = default;
+    explicit Exchange(bool plain) : plain_(plain) {}
 
     c::antientropy_exchange *at() { return handle_.get(); }
 
+    bool plain_;
     detail::Owner<c::antientropy_exchange, c::antientropy_exchange_free> handle_;
 };
 
@@ -1717,7 +1722,7 @@ public:
     /// isn't whole).
     Result<Exchange> exchange_at_moment(std::uint64_t partner, std::string_view offer, const Bounds &bounds = {}) {
         const c::antientropy_bounds most = {bounds.asks, bounds.bytes, bounds.bad, bounds.lost};
-        Exchange opened;
+        Exchange opened(bounds.plain);
         const auto number =
             c::antientropy_exchange_open(at(), opened.at(), partner, detail::data(offer), offer.size(), &most);
         return detail::result(number, std::move(opened));

@@ -14,6 +14,7 @@ type Bounds struct {
 	Bytes uint64 // maximum of bytes of the answers to them, as far as they can be estimated; one may be longer
 	Bad   uint64 // maximum of bad answers: after one more the exchange is over
 	Lost  uint64 // maximum of lost asks: after one more the exchange is over
+	Plain bool   // no ask is an outline: that takes less of both processors, and more of the link
 }
 
 // DefaultBounds returns the bounds of [Replica.Sync]: 256 asks, 1 MiB, 8 bad answers, 256 lost asks.
@@ -99,6 +100,7 @@ type Exchange struct {
 type exchange struct {
 	*replica
 	handle C.struct_antientropy_exchange
+	plain  bool // no ask is an outline
 }
 
 // Exchange opens an exchange with a partner by its offer. It compares the rows now, which are held as a moment and
@@ -155,7 +157,7 @@ func (r *replica) exchange(partner uint16, offer []byte, bounds Bounds) (*Exchan
 		bad:   C.uint64_t(bounds.Bad),
 		lost:  C.uint64_t(bounds.Lost),
 	}
-	made := &exchange{replica: r}
+	made := &exchange{replica: r, plain: bounds.Plain}
 	r.closeOrphans()
 	number := C.antientropy_exchange_open(&r.handle, &made.handle, C.uint64_t(partner), bytesAt(offer),
 		C.size_t(len(offer)), &within)
@@ -201,6 +203,9 @@ func (e *Exchange) Asks() ([][]byte, error) {
 // next returns the next ask to send, and false if there is none now. The caller holds the lock.
 func (e *exchange) next() (ask []byte, found bool, err error) {
 	return bytesIfAny(func(out *C.uint8_t, outLen C.size_t, need *C.uint64_t) C.uint32_t {
+		if e.plain {
+			outLen = C.ANTIENTROPY_ASK_LEN
+		}
 		return C.antientropy_exchange_next(&e.handle, &e.replica.handle, out, outLen, need)
 	})
 }

@@ -168,6 +168,21 @@ func TestPatches(t *testing.T) {
 	}
 }
 
+// Within plain bounds no ask is an outline.
+func TestPlainAsks(t *testing.T) {
+	asker, partner := longRows()
+	bounds := antientropy.DefaultBounds()
+	bounds.Plain = true
+	l := link{}
+	l.change = func(asks, answers [][]byte) ([][]byte, error) {
+		for _, ask := range asks {
+			equal(t, len(ask), antientropy.AskLen)
+		}
+		return answers, nil
+	}
+	equal(t, must(l.sync(asker, partner, bounds)).Accepted, uint64(20))
+}
+
 // A partner is asked plainly if it lies in each patch, or refuses the outlines, as one does that doesn't know them.
 func TestOutlinesWithoutATextCountAsNothing(t *testing.T) {
 	lie := func(patch []byte) []byte {

@@ -262,6 +262,18 @@ void patches_are_taken() {
     CHECK(sure(a.root()) == sure(b.root()));
 }
 
+/// Within plain bounds no ask is an outline.
+void plain_asks() {
+    Replica a = versions(2), b = versions(1);
+    Snapshot snapshot = sure(a.snapshot());
+    const auto plain = [&](const Asks &asks) {
+        for (const auto &ask : asks) CHECK(ask.size() == ANTIENTROPY_ASK_LEN);
+        return serve(snapshot, asks);
+    };
+    const Bounds bounds = {256, 1 << 20, 8, 256, true};
+    CHECK(sure(b.sync(1, sure(snapshot.offer(1)), plain, bounds)).accepted == 10);
+}
+
 /// A partner that lies in each patch, and one before outlines, which refuses them.
 void outlines_without_a_text() {
     for (const bool lies : {true, false}) {
@@ -350,6 +362,7 @@ int main() {
                 {"sync under a deadline", sync_under_a_deadline},
                 {"partner that lies", partner_that_lies},
                 {"patches are taken", patches_are_taken},
+                {"plain asks", plain_asks},
                 {"outlines without a text", outlines_without_a_text},
                 {"not canonical", not_canonical},
                 {"full journal", full_journal},

@@ -38,6 +38,8 @@ use crate::values::{cause_of, Bounds, Progress, Verdict};
 #[must_use = "its session stays open until it is closed"]
 pub struct Exchange {
     pub(crate) handle: Owned,
+    /// Whether no ask is an outline.
+    pub(crate) plain: bool,
 }
 
 impl Exchange {
@@ -64,8 +66,13 @@ impl Exchange {
     /// Returns the next ask to send, or no bytes if there is none now.
     fn next(&mut self, replica: &Replica) -> Result<Vec<u8>, Refusal> {
         let (exchange, mut share) = (self.handle.raw(), replica.handle.share());
-        // SAFETY: as in `sys`.
-        unsafe { bytes(|out, len, need| sys::antientropy_share_exchange_next(exchange, &mut share, out, len, need)) }
+        let most = if self.plain { sys::ASK_LEN } else { usize::MAX };
+        // SAFETY: as in `sys`; the call gets no more room than there is.
+        unsafe {
+            bytes(|out, len, need| {
+                sys::antientropy_share_exchange_next(exchange, &mut share, out, len.min(most), need)
+            })
+        }
     }
 
     /// Takes a partner's answer, which isn't trusted. Answers may arrive in any order, late or twice.

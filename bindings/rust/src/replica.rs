@@ -686,11 +686,13 @@ impl Replica {
     /// Opens an exchange at the moment. Refused as `exchange`, or as `Dirty` if there is none, or if it isn't whole.
     pub fn exchange_at_moment(&mut self, partner: u16, offer: &[u8], bounds: Bounds) -> Result<Exchange, Refusal> {
         let (replica, at, len) = (self.handle.raw(), offer.as_ptr(), offer.len());
+        let Bounds { asks, bytes, bad, lost, plain } = bounds;
+        let most = sys::Bounds { asks, bytes, bad, lost };
         let handle = Owned::make(sys::antientropy_exchange_free, |into| {
             // SAFETY: as in `sys`; `into` is empty and a local one.
-            unsafe { sys::antientropy_exchange_open(replica, into, partner.into(), at, len, &bounds) }
+            unsafe { sys::antientropy_exchange_open(replica, into, partner.into(), at, len, &most) }
         })?;
-        Ok(Exchange { handle })
+        Ok(Exchange { handle, plain })
     }
 
     /// Drops the sessions that have ended, and all that they keep: rows that later puts have changed, and texts.

@@ -10,7 +10,10 @@
 
 use std::ffi::c_void;
 
-use crate::values::{Bounds, Bytes, Counts, HintCounts, Pair, Receipt, Root, SlotCounts};
+use crate::values::{Bytes, Counts, HintCounts, Pair, Receipt, Root, SlotCounts};
+
+/// Length of an ask. With room for no more, no ask is an outline.
+pub const ASK_LEN: usize = 8;
 
 /// A handle. Hints have all of these fields, the other five structs of handles in the header the first two.
 #[repr(C)]
@@ -44,6 +47,14 @@ pub struct OfferParts {
     pub format: u64,
     pub range: u64,
     pub root: Root,
+}
+
+#[repr(C)]
+pub struct Bounds {
+    pub asks: u64,
+    pub bytes: u64,
+    pub bad: u64,
+    pub lost: u64,
 }
 
 #[repr(C)]

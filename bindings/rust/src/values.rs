@@ -282,7 +282,6 @@ pub struct OfferParts {
 }
 
 /// The bounds of an exchange or a sync.
-#[repr(C)]
 #[derive(Clone, Copy, Debug, PartialEq, Eq, Hash)]
 pub struct Bounds {
     /// Maximum of asks on their way. One may always be.
@@ -293,12 +292,14 @@ pub struct Bounds {
     pub bad: u64,
     /// Maximum of lost asks: after one more it is over.
     pub lost: u64,
+    /// Whether no ask is an outline: that takes less of both processors, and more of the link.
+    pub plain: bool,
 }
 
-/// 256 asks, 1 MiB of answers, 8 bad answers, and 256 lost asks.
+/// 256 asks, 1 MiB of answers, 8 bad answers, and 256 lost asks. Asks may be outlines.
 impl Default for Bounds {
     fn default() -> Bounds {
-        Bounds { asks: 256, bytes: 1 << 20, bad: 8, lost: 256 }
+        Bounds { asks: 256, bytes: 1 << 20, bad: 8, lost: 256, plain: false }
     }
 }
 

@@ -210,6 +210,7 @@ fn limits() {
         assert!(text("src/handle.rs").contains(&format!("{limit}: usize = {};", numbers[limit])));
     }
     assert!(text("src/values.rs").contains(&format!("Root = [u8; {}];", numbers["ROOT_LEN"])));
+    assert!(text("src/sys.rs").contains(&format!("ASK_LEN: usize = {};", numbers["ASK_LEN"])));
     assert!(text("src/replica.rs").contains("limit: 1_000_000 }") && numbers["ENTRIES_MAX"] == 1_000_000);
     let leaves = format!("1 => Ok({}), 2 => Ok({}),", numbers["LEAVES_1"], numbers["LEAVES_2"]);
     assert!(text("src/checkpoint.rs").contains(&leaves));

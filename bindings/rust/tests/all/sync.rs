@@ -85,6 +85,18 @@ fn patches_are_taken() {
     assert_eq!((synced.asks, a.root()), (answered.len() as u64, b.root()));
 }
 
+/// Within plain bounds no ask is an outline.
+#[test]
+fn plain_asks() {
+    let (mut a, mut b) = (versions(2), versions(1));
+    let plain = |answers: Answers| {
+        assert!(!answers.iter().flatten().any(|answer| is_patch(answer)));
+        answers
+    };
+    let synced = sync_over(&mut b, &mut a, Bounds { plain: true, ..Bounds::default() }, plain).unwrap();
+    assert_eq!(synced.accepted, 10);
+}
+
 /// A partner that lies in each patch, and one before outlines, which refuses them.
 #[test]
 fn outlines_without_a_text() {
