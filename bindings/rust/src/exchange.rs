@@ -69,9 +69,7 @@ impl Exchange {
         let most = if self.plain { sys::ASK_LEN } else { usize::MAX };
         // SAFETY: as in `sys`; the call gets no more room than there is.
         unsafe {
-            bytes(|out, len, need| {
-                sys::antientropy_share_exchange_next(exchange, &mut share, out, len.min(most), need)
-            })
+            bytes(|out, len, need| sys::antientropy_share_exchange_next(exchange, &mut share, out, len.min(most), need))
         }
     }
 
