@@ -1,5 +1,5 @@
 //! A new range that begins with the versions that a range holds.
-ghost use Rattle.std.specs.Prelude.{◌≡◌, ◌<◌, ◌≤◌, ◌^◌, ℕ, ⊤, [], ◌∷◌, length, map, take, None};
+ghost use Rattle.std.specs.Prelude.{◌≡◌, ◌+◌, ◌<◌, ◌≤◌, ◌^◌, ℕ, ⊤, [], ◌∷◌, length, map, take, None};
 ghost use Rattle.vclock.specs.Answer.{Answers, AnswersAtOnce};
 ghost use Rattle.key_ring.specs.Places.{leaf_bits};
 ghost use Rattle.range_store.specs.Offers.{offers_in, offers_of};
