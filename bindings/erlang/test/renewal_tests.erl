@@ -185,7 +185,7 @@ large_test_() ->
 puts_while({Process, _} = Call, Replica, Counter) ->
     case is_process_alive(Process) of
         true ->
-            rewrite(Replica, Counter + 1),
+            {ok, _} = put_next(Replica, Counter),
             puts_while(Call, Replica, Counter + 1);
         false ->
             Counter
@@ -300,10 +300,10 @@ put_until_closed(Replica, Node, Counter) ->
 %% Puts one key until its counter has a value.
 rewrite(Replica, Counter) ->
     {ok, Top} = antientropy:top_counter(Replica, 1, <<"k">>),
-    [
-        {ok, #{counter := _}} = with_room(fun() -> antientropy:put(Replica, 1, <<"k">>, <<>>, context(Count)) end)
-     || Count <- lists:seq(Top, Counter - 1)
-    ].
+    [{ok, _} = put_next(Replica, Count) || Count <- lists:seq(Top, Counter - 1)].
+
+put_next(Replica, Count) ->
+    with_room(fun() -> antientropy:put(Replica, 1, <<"k">>, <<>>, context(Count)) end).
 
 %% Repeats a call until the journal has room for it.
 with_room(Call) ->
