@@ -17,6 +17,12 @@
     X(new_seeded, 6, LONG)                                                                                             \
     X(close, 1, LONG)                                                                                                  \
     X(renew, 2, LONG)                                                                                                  \
+    X(renew_in_place, 3, LONG)                                                                                         \
+    X(renewal, 3, LONG)                                                                                                \
+    X(renewal_finish, 1, LONG)                                                                                         \
+    X(renewal_close, 1, LONG)                                                                                          \
+    X(keep_renewed, 1, SHORT)                                                                                          \
+    X(renew_if_due, 2, LONG)                                                                                           \
     X(migrate, 1, LONG)                                                                                                \
     X(about, 1, SHORT)                                                                                                 \
     X(count, 1, SHORT)                                                                                                 \

@@ -124,11 +124,12 @@ CALL(EXCHANGE, exchange_left)
     return ok(env, leaves);
 }
 
-/* exchange_close(Exchange) -> ok. Its session is dropped, with the others that have ended, before the lock is free. */
+/* Closes an exchange, and drops its session, with the others that have ended, before the lock is free.
+ * exchange_close(Exchange) -> ok | {renew, Replica, ok} */
 CALL(EXCHANGE, exchange_close)
 {
     if (antientropy_exchange_close(&at->exchange, &at->of->replica) == ANTIENTROPY_OK)
         antientropy_drop_sessions(&at->of->replica);
     antientropy_exchange_free(&at->exchange);
-    return done(env, ANTIENTROPY_OK);
+    return after_change(env, at->of, atoms.ok);
 }

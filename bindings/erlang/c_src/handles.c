@@ -59,6 +59,13 @@ static void drop_exchange(UNUSED ErlNifEnv *env, void *dropped)
     enif_release_resource(at->of);
 }
 
+static void drop_renewal(UNUSED ErlNifEnv *env, void *dropped)
+{
+    struct resource *at = dropped;
+    antientropy_renewal_free(&at->renewal);
+    enif_release_resource(at->of);
+}
+
 static void drop_hints(UNUSED ErlNifEnv *env, void *dropped)
 {
     struct resource *at = dropped;
@@ -82,6 +89,7 @@ bool open_types(ErlNifEnv *env)
         [REPLICA] = {"antientropy_replica", drop_replica},
         [SNAPSHOT] = {"antientropy_snapshot", drop_snapshot},
         [EXCHANGE] = {"antientropy_exchange", drop_exchange},
+        [RENEWAL] = {"antientropy_renewal", drop_renewal},
         [HINTS] = {"antientropy_hints", drop_hints},
         [SLOTS] = {"antientropy_slots", drop_slots},
     };
@@ -151,9 +159,9 @@ static struct resource *make_zero(enum kind kind)
     return made == NULL ? NULL : memset(made, 0, sizeof *made);
 }
 
-struct resource *make_exchange(struct resource *replica)
+struct resource *make_part(enum kind kind, struct resource *replica)
 {
-    struct resource *made = make_zero(EXCHANGE);
+    struct resource *made = make_zero(kind);
     if (made == NULL)
         return NULL;
     enif_keep_resource(replica);

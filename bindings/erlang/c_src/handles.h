@@ -7,10 +7,11 @@
 
 #include "antientropy.h"
 #include "calls.h"
+#include "keeper.h"
 
 #define UNUSED __attribute__((unused))
 
-enum kind { REPLICA, SNAPSHOT, EXCHANGE, HINTS, SLOTS, KINDS };
+enum kind { REPLICA, SNAPSHOT, EXCHANGE, RENEWAL, HINTS, SLOTS, KINDS };
 
 /* An exchange that no process has any more. */
 struct orphan {
@@ -18,15 +19,18 @@ struct orphan {
     struct orphan *next;
 };
 
-/* An exchange keeps the resource of its replica, and has its lock. A replica keeps its orphans until they are closed. */
+/* An exchange and a renewal keep the resource of their replica, and have its lock. A replica keeps its orphans until
+ * they are closed. */
 struct resource {
     ErlNifRWLock *lock;
     struct resource *of;
     _Atomic(struct orphan *) orphans;
+    struct keeper keeper;
     union {
         struct antientropy_replica replica;
         struct antientropy_snapshot snapshot;
         struct antientropy_exchange exchange;
+        struct antientropy_renewal renewal;
         struct antientropy_hints hints;
         struct antientropy_slots slots;
     };
@@ -112,8 +116,8 @@ struct resource *make_resource(enum kind kind);
 /* Closes the orphans of a replica, whose lock the caller has, and drops the sessions that have ended. */
 void close_orphans(struct resource *replica);
 
-/* Makes a resource of a replica's exchange whose handle holds nothing, or returns NULL without memory. */
-struct resource *make_exchange(struct resource *replica);
+/* Makes a resource of a replica's exchange or renewal whose handle holds nothing, or returns NULL without memory. */
+struct resource *make_part(enum kind kind, struct resource *replica);
 
 /* Returns {ok, Handle} or a refusal, and releases the resource. */
 ERL_NIF_TERM handle_result(ErlNifEnv *env, struct resource *made, uint32_t number);

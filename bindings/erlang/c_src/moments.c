@@ -1,5 +1,6 @@
 /* Moments: the rows of a replica at a time, which are hashed in portions while other calls go on. */
-#include "handles.h"
+#include "moments.h"
+
 #include "terms.h"
 
 /* Time for which one call hashes portions: it is on a dirty scheduler. */
@@ -44,9 +45,6 @@ CALL(REPLICA, hash_moment)
     return number == ANTIENTROPY_OK ? ok(env, enif_make_uint64(env, left)) : refused(env, number);
 }
 
-/* A call that is refused as DIRTY without a whole moment. */
-typedef uint32_t of_moment(struct resource *at, void *of);
-
 /* Makes a call of the moment, and then drops the moment: its rows stay with what the call made, and no later hold frees
  * them under the lock. */
 static uint32_t call_and_drop(struct resource *at, of_moment *call, void *of)
@@ -57,10 +55,7 @@ static uint32_t call_and_drop(struct resource *at, of_moment *call, void *of)
     return number;
 }
 
-/* Holds a moment first if `holds`. Makes a call of the moment, and drops it. If it isn't whole, hashes portions of it
- * for some milliseconds, and if it is whole then, makes the call before the lock is free, so that no other moment can
- * take its place. Returns MORE if nodes are left, or DIRTY if the moment was dropped. */
-static uint32_t call_or_hash(struct resource *at, bool holds, uint64_t most, of_moment *call, void *of)
+uint32_t call_or_hash(struct resource *at, bool holds, uint64_t most, of_moment *call, void *of)
 {
     uint64_t left;
     ErlNifTime end = enif_monotonic_time(ERL_NIF_MSEC) + HASH_MS;
@@ -149,7 +144,7 @@ CALL(REPLICA, exchange_of_moment)
     uint32_t number = get_bytes(env, argv[2], &opening.offer);
     if (number != ANTIENTROPY_OK)
         return refused(env, number);
-    opening.made = make_exchange(at);
+    opening.made = make_part(EXCHANGE, at);
     if (opening.made == NULL)
         return refused(env, ANTIENTROPY_NO_MEMORY);
     number = call_or_hash(at, holds, most, open_exchange, &opening);

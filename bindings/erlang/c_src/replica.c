@@ -133,7 +133,7 @@ static ERL_NIF_TERM loaded_result(ErlNifEnv *env, uint32_t number, const struct 
     return ok(env, make_map(env, 2, keys, values));
 }
 
-/* load_rows(Replica, Rows) -> {ok, Loaded} | {error, {row_broken, Offset}} */
+/* load_rows(Replica, Rows) -> {ok, Loaded} | {error, {row_broken, Offset}} | {renew, Replica, Result} */
 CALL(REPLICA, load_rows)
 {
     ErlNifBinary rows;
@@ -141,10 +141,11 @@ CALL(REPLICA, load_rows)
     uint32_t number = get_bytes(env, argv[1], &rows);
     if (number != ANTIENTROPY_OK)
         return refused(env, number);
-    return loaded_result(env, antientropy_load(&at->replica, rows.data, rows.size, &loaded), &loaded);
+    number = antientropy_load(&at->replica, rows.data, rows.size, &loaded);
+    return after_change(env, at, loaded_result(env, number, &loaded));
 }
 
-/* load_format(Replica, Format, Rows) -> {ok, Loaded} | {error, {row_broken, Offset}} */
+/* load_format(Replica, Format, Rows) -> {ok, Loaded} | {error, {row_broken, Offset}} | {renew, Replica, Result} */
 CALL(REPLICA, load_format)
 {
     uint64_t format;
@@ -155,5 +156,6 @@ CALL(REPLICA, load_format)
     uint32_t number = get_bytes(env, argv[2], &rows);
     if (number != ANTIENTROPY_OK)
         return refused(env, number);
-    return loaded_result(env, antientropy_load_format(&at->replica, format, rows.data, rows.size, &loaded), &loaded);
+    number = antientropy_load_format(&at->replica, format, rows.data, rows.size, &loaded);
+    return after_change(env, at, loaded_result(env, number, &loaded));
 }

@@ -63,6 +63,7 @@
     X(put, "put")                                                                                                      \
     X(range, "range")                                                                                                  \
     X(refused, "refused")                                                                                              \
+    X(renew, "renew")                                                                                                  \
     X(report, "report")                                                                                                \
     X(root, "root")                                                                                                    \
     X(rows, "rows")                                                                                                    \

@@ -10,6 +10,16 @@ enum { FEW_VERSIONS = 4 };
 /* Room for entries, if they don't fit in FEW_BYTES. */
 enum { ENTRIES_BYTES = 1 << 20 };
 
+/* Returns {ok, Receipt} or a refusal. */
+static ERL_NIF_TERM receipt_result(ErlNifEnv *env, uint32_t number, const struct antientropy_receipt *receipt)
+{
+    if (number != ANTIENTROPY_OK)
+        return refused(env, number);
+    const ERL_NIF_TERM keys[] = {atoms.number, atoms.counter};
+    const ERL_NIF_TERM values[] = {enif_make_uint64(env, receipt->number), enif_make_uint64(env, receipt->counter)};
+    return ok(env, make_map(env, 2, keys, values));
+}
+
 /* Puts a version: after a read by the put that checks, or by the other one. */
 static ERL_NIF_TERM put_by(ErlNifEnv *env, struct resource *at, const ERL_NIF_TERM argv[], bool after_read)
 {
@@ -32,26 +42,22 @@ static ERL_NIF_TERM put_by(ErlNifEnv *env, struct resource *at, const ERL_NIF_TE
         number = antientropy_put(&at->replica, node, key.data, key.size, context.pairs, context.len, value.kind,
                                  value.bytes.data, value.bytes.size, &receipt);
     drop_clock(&context);
-    if (number != ANTIENTROPY_OK)
-        return refused(env, number);
-    const ERL_NIF_TERM keys[] = {atoms.number, atoms.counter};
-    const ERL_NIF_TERM values[] = {enif_make_uint64(env, receipt.number), enif_make_uint64(env, receipt.counter)};
-    return ok(env, make_map(env, 2, keys, values));
+    return after_change(env, at, receipt_result(env, number, &receipt));
 }
 
-/* put(Replica, Node, Key, Value, Context) -> {ok, Receipt} */
+/* put(Replica, Node, Key, Value, Context) -> {ok, Receipt} | {renew, Replica, Result} */
 CALL(REPLICA, put)
 {
     return put_by(env, at, argv, true);
 }
 
-/* put_unread(Replica, Node, Key, Value, Context) -> {ok, Receipt} */
+/* put_unread(Replica, Node, Key, Value, Context) -> {ok, Receipt} | {renew, Replica, Result} */
 CALL(REPLICA, put_unread)
 {
     return put_by(env, at, argv, false);
 }
 
-/* accept(Replica, Key, Version) -> {ok, new | known} */
+/* accept(Replica, Key, Version) -> {ok, new | known} | {renew, Replica, Result} */
 CALL(REPLICA, accept)
 {
     ErlNifBinary key;
@@ -66,8 +72,8 @@ CALL(REPLICA, accept)
                                 version.value.kind, version.value.bytes.data, version.value.bytes.size, &taken);
     drop_clock(&version.clock);
     if (number != ANTIENTROPY_OK)
-        return refused(env, number);
-    return ok(env, taken == 1 ? atoms.new : atoms.known);
+        return after_change(env, at, refused(env, number));
+    return after_change(env, at, ok(env, taken == 1 ? atoms.new : atoms.known));
 }
 
 /* Reads one of the versions of a key. `versions` becomes the number of them. */

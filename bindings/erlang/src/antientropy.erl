@@ -15,7 +15,8 @@
 -module(antientropy).
 
 -export([version/0, name/1, place/3, compare/2, merge/1, read_offer/1]).
--export([new/0, new/1, new_seeded/3, close/1, renew/1, renew/2, migrate/1, about/1, info/1, count/1, bytes/1]).
+-export([new/0, new/1, new_seeded/3, close/1, migrate/1, about/1, info/1, count/1, bytes/1]).
+-export([renew/1, renew/2, renew_in_place/1, renew_in_place/2, renewal/2, keep_renewed/1]).
 -export([put/4, put/5, put_unread/5, accept/3, get/2, read/3, count_versions/2, value/3, clock/3, row/2]).
 -export([key_after/3, keys/1, keys/2, fold_keys/3, entry/2, entries/2, fold_entries/4, top_counter/3, top_counter/4]).
 -export([packed_entries/2, unpack_entries/1]).
@@ -155,6 +156,43 @@ renew(Replica) ->
 renew(Replica, Limit) ->
     antientropy_nif:renew(Replica, Limit).
 
+%% @doc Renews a replica in its place, with room for 1,000,000 entries: see {@link renew_in_place/2}.
+-spec renew_in_place(replica()) -> ok | refused().
+renew_in_place(Replica) ->
+    renew_in_place(Replica, ?LIMIT).
+
+%% @doc Renews a replica as {@link renew/2} does, in its place, while other processes put.
+%%
+%% It holds the rows now as a moment, as {@link snapshot/1} does, makes the new journal of them without the lock, and
+%% accepts what was put meanwhile. Puts wait only for its steps under the lock: the last one accepts a few entries. The
+%% handle stays, for all processes that have it. The sessions and the moment are gone then, so the report of an exchange
+%% is `gone'. The numbers of entries go on: those since the moment keep theirs, with the source `copy', and a log that
+%% has all entries before it reads on.
+%%
+%% Refused: `bad_ring' (the limit), `journal_full' (more versions are held than the limit, or accepted meanwhile),
+%% `stale' (another process has renewed or migrated the replica meanwhile). The replica is unchanged then.
+-spec renew_in_place(replica(), Limit :: pos_integer()) -> ok | refused().
+renew_in_place(Replica, Limit) ->
+    antientropy_moment:renew_in_place(Replica, Limit).
+
+%% @doc Makes a renewal as {@link renew_in_place/2} does, and leaves it to its program when it takes effect: see {@link
+%% antientropy_renewal}. Refused: `bad_ring', `journal_full', `stale'.
+-spec renewal(replica(), Limit :: pos_integer()) -> {ok, antientropy_renewal:renewal()} | refused().
+renewal(Replica, Limit) ->
+    antientropy_moment:renewal(Replica, Limit).
+
+%% @doc Lets a replica be renewed in its place by itself, with its limit, from now on.
+%%
+%% A put, an acceptance, a load or the end of an exchange that finds a renewal due starts a process for it, one at a
+%% time. It is due when nine tenths of the limit are used and also half of the room that the last renewal left. So a
+%% journal that its rows alone fill isn't renewed for ever. No put waits for a renewal but as {@link renew_in_place/2}
+%% says. A put is refused as `journal_full' only if the last tenth of the limit is used before the renewal has ended.
+%%
+%% A log that lacks entries of before a renewal gets `bad_position': it reads from `first' of {@link count/1} on then.
+-spec keep_renewed(replica()) -> ok | refused().
+keep_renewed(Replica) ->
+    antientropy_keeper:after_change(antientropy_nif:keep_renewed(Replica)).
+
 %% @doc Converts a replica of format 1 to format 2. All nodes become dirty, and open sessions are cancelled.
 -spec migrate(replica()) -> ok | refused().
 migrate(Replica) ->
@@ -215,7 +253,7 @@ bytes(Replica) ->
 -spec put(replica(), Node :: non_neg_integer(), Key :: binary(), value_like()) -> {ok, Receipt} | refused() when
     Receipt :: #{number := non_neg_integer(), counter := pos_integer()}.
 put(Replica, Node, Key, Value) ->
-    antientropy_nif:put(Replica, Node, Key, Value, #{}).
+    antientropy_keeper:after_change(antientropy_nif:put(Replica, Node, Key, Value, #{})).
 
 %% @doc Puts a value, or a tombstone, at a node, after a read: the context is the clock of all that was read.
 %%
@@ -229,7 +267,7 @@ put(Replica, Node, Key, Value) ->
     Context :: clock_like(),
     Receipt :: #{number := non_neg_integer(), counter := pos_integer()}.
 put(Replica, Node, Key, Value, Context) ->
-    antientropy_nif:put(Replica, Node, Key, Value, Context).
+    antientropy_keeper:after_change(antientropy_nif:put(Replica, Node, Key, Value, Context)).
 
 %% @doc Puts as {@link put/5} does, for a caller that has made its check itself.
 %%
@@ -240,14 +278,14 @@ put(Replica, Node, Key, Value, Context) ->
     Context :: clock_like(),
     Receipt :: #{number := non_neg_integer(), counter := pos_integer()}.
 put_unread(Replica, Node, Key, Value, Context) ->
-    antientropy_nif:put_unread(Replica, Node, Key, Value, Context).
+    antientropy_keeper:after_change(antientropy_nif:put_unread(Replica, Node, Key, Value, Context)).
 
 %% @doc Accepts a version of another replica, as a copy. Returns `known' if the replica had it.
 %%
 %% Refused: `bad_clock', `clock_full', `bad_key', `bad_value', `other_range', `crowded', `journal_full'.
 -spec accept(replica(), Key :: binary(), version_like()) -> {ok, new | known} | refused().
 accept(Replica, Key, Version) ->
-    antientropy_nif:accept(Replica, Key, Version).
+    antientropy_keeper:after_change(antientropy_nif:accept(Replica, Key, Version)).
 
 %% @doc Returns all versions held for a key, as they are at one moment. Several are concurrent.
 -spec get(replica(), Key :: binary()) -> {ok, [version()]} | refused().
@@ -398,7 +436,7 @@ is_to_hash(Options) ->
     Loaded :: #{new := non_neg_integer(), known := non_neg_integer()},
     Offset :: non_neg_integer().
 load_rows(Replica, Rows) ->
-    antientropy_nif:load_rows(Replica, Rows).
+    antientropy_keeper:after_change(antientropy_nif:load_rows(Replica, Rows)).
 
 %% @doc Accepts all versions in rows of a format and of any leaves, in ascending order of key, as copies, or none.
 %%
@@ -409,7 +447,7 @@ load_rows(Replica, Rows) ->
     Loaded :: #{new := non_neg_integer(), known := non_neg_integer()},
     Offset :: non_neg_integer().
 load_format(Replica, Format, Rows) ->
-    antientropy_nif:load_format(Replica, Format, Rows).
+    antientropy_keeper:after_change(antientropy_nif:load_format(Replica, Format, Rows)).
 
 %% @doc Writes a checkpoint of the rows now (docs/FORMATS.md), and returns the number of entries that it covers: the
 %% position of a log that goes on from it.

@@ -80,4 +80,4 @@ left(Exchange) ->
 %% @doc Closes it: cancels its session if that is open, and drops it, with the others that have ended.
 -spec close(exchange()) -> ok.
 close(Exchange) ->
-    antientropy_nif:exchange_close(Exchange).
+    antientropy_keeper:after_change(antientropy_nif:exchange_close(Exchange)).

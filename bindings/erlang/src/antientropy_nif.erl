@@ -4,16 +4,16 @@
 -on_load(load/0).
 
 -export([
-    version/0, name/1, place/3, compare/2, merge/2, read_offer/1, new/4, new_seeded/6, close/1, renew/2, migrate/1,
-    about/1, count/1, bytes/1, rehash/1, rehash_some/2, hold/1, drop_moment/1, hash_moment/2, moment/1,
-    snapshot_of_moment/3, exchange_of_moment/6, load_rows/2, load_format/3, put/5, put_unread/5, accept/3, get/2,
-    read/3, count_versions/2, value/3, clock/3, row/2, key_after/3, entry/2, packed_entries/2, top_counter/4,
-    snapshot/1, snapshot_share/1, snapshot_close/1, snapshot_info/1, snapshot_bytes/1, snapshot_row/2,
-    snapshot_key_after/3, root/1, digest/3, offer/2, serve/3, rows/2, exchange_asks/1, exchange_take/2, exchange_lose/2,
-    exchange_go_on/1, exchange_progress/1, exchange_left/1, exchange_close/1, drop_sessions/1, hints_new/0,
-    hints_restore/1, hints_close/1, hint_keep/4, hint_next/3, hint/2, hint_confirm/3, hints_renew/1, hints_count/1,
-    hints_bytes/1, slots_new/3, slots_close/1, slot_lend/1, slot_give_back/1, slots_sample/3, slots_adjust/2,
-    slots_set_target/2, slots_count/1
+    version/0, name/1, place/3, compare/2, merge/2, read_offer/1, new/4, new_seeded/6, close/1, renew/2,
+    renew_in_place/3, renewal/3, renewal_finish/1, renewal_close/1, keep_renewed/1, renew_if_due/2, migrate/1, about/1,
+    count/1, bytes/1, rehash/1, rehash_some/2, hold/1, drop_moment/1, hash_moment/2, moment/1, snapshot_of_moment/3,
+    exchange_of_moment/6, load_rows/2, load_format/3, put/5, put_unread/5, accept/3, get/2, read/3, count_versions/2,
+    value/3, clock/3, row/2, key_after/3, entry/2, packed_entries/2, top_counter/4, snapshot/1, snapshot_share/1,
+    snapshot_close/1, snapshot_info/1, snapshot_bytes/1, snapshot_row/2, snapshot_key_after/3, root/1, digest/3,
+    offer/2, serve/3, rows/2, exchange_asks/1, exchange_take/2, exchange_lose/2, exchange_go_on/1, exchange_progress/1,
+    exchange_left/1, exchange_close/1, drop_sessions/1, hints_new/0, hints_restore/1, hints_close/1, hint_keep/4,
+    hint_next/3, hint/2, hint_confirm/3, hints_renew/1, hints_count/1, hints_bytes/1, slots_new/3, slots_close/1,
+    slot_lend/1, slot_give_back/1, slots_sample/3, slots_adjust/2, slots_set_target/2, slots_count/1
 ]).
 
 -define(NOT_LOADED, erlang:nif_error(not_loaded)).
@@ -34,6 +34,12 @@ new(_Format, _Bits, _Range, _Limit) -> ?NOT_LOADED.
 new_seeded(_Format, _Bits, _Range, _Limit, _First, _Second) -> ?NOT_LOADED.
 close(_Replica) -> ?NOT_LOADED.
 renew(_Replica, _Limit) -> ?NOT_LOADED.
+renew_in_place(_Replica, _Limit, _Most) -> ?NOT_LOADED.
+renewal(_Replica, _Limit, _Most) -> ?NOT_LOADED.
+renewal_finish(_Renewal) -> ?NOT_LOADED.
+renewal_close(_Renewal) -> ?NOT_LOADED.
+keep_renewed(_Replica) -> ?NOT_LOADED.
+renew_if_due(_Replica, _Most) -> ?NOT_LOADED.
 migrate(_Replica) -> ?NOT_LOADED.
 about(_Replica) -> ?NOT_LOADED.
 count(_Replica) -> ?NOT_LOADED.

@@ -9,9 +9,6 @@
 -define(LOOP, ["open", "open_at_moment", "outstanding", "ask", "ask_at", "outline_at", "take", "session",
                "cancel"]).
 
-%% The renewal beside the puts, which only C has.
--define(RENEWAL, ["renewal_begin", "renewal_build", "renewal_catch_up", "renewal_finish", "renewal_free"]).
-
 %% The function for each call of the header.
 -define(FUNCTIONS, #{
     "version" => {antientropy, version, 0},
@@ -21,6 +18,11 @@
     "new_seeded" => {antientropy, new_seeded, 3},
     "free" => {antientropy, close, 1},
     "renew" => {antientropy, renew, 2},
+    "renewal_begin" => {antientropy, renewal, 2},
+    "renewal_build" => {antientropy, renewal, 2},
+    "renewal_catch_up" => {antientropy, renewal, 2},
+    "renewal_finish" => {antientropy_renewal, finish, 1},
+    "renewal_free" => {antientropy_renewal, close, 1},
     "migrate" => {antientropy, migrate, 1},
     "count" => {antientropy, count, 1},
     "bytes" => {antientropy, bytes, 1},
@@ -164,13 +166,13 @@ is_exported({Module, Function, Arity}) ->
     erlang:function_exported(Module, Function, Arity).
 
 %% The names of the calls in the header, but for those by shares, which its inline functions make, those of C's own
-%% loop and of its renewal, key_next and hash_moment. key_next is key_after with the key's memory for the result.
-%% hash_moment is the calls of a portion in one: the replica would be locked meanwhile.
+%% loop, key_next and hash_moment. key_next is key_after with the key's memory for the result. hash_moment is the calls
+%% of a portion in one: the replica would be locked meanwhile.
 declared() ->
     Declared = "(?m)^(?:static inline )?(?:uint32_t|void) antientropy_(?!share_)(\\w+)\\(",
     All = found([text(?HEADER)], Declared),
-    ?assertEqual([], (?LOOP ++ ?RENEWAL) -- All),
-    All -- ["key_next", "hash_moment" | ?LOOP ++ ?RENEWAL].
+    ?assertEqual([], ?LOOP -- All),
+    All -- ["key_next", "hash_moment" | ?LOOP].
 
 %% The first group of each match, sorted.
 found(Texts, Pattern) ->

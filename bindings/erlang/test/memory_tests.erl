@@ -28,6 +28,19 @@ exchanges_test_() ->
         {ok, [_]} = antientropy_exchange:asks(Exchange)
     end).
 
+%% A renewal frees the old range, and a refused one what it has made. One that nobody closed is freed.
+renewals_test_() ->
+    Replica = replica(),
+    [{ok, _} = antientropy:put(Replica, 1, <<Key>>, ?VALUE) || Key <- lists:seq(1, 64)],
+    freed(65_536, fun() ->
+        {ok, Versions} = antientropy:get(Replica, <<1>>),
+        {ok, Context} = antientropy:merge([Clock || #{clock := Clock} <- Versions]),
+        {ok, _} = antientropy:put(Replica, 1, <<1>>, ?VALUE, Context),
+        ok = antientropy:renew_in_place(Replica, 10_000),
+        {error, journal_full} = antientropy:renew_in_place(Replica, 10),
+        {ok, _} = antientropy:renewal(Replica, 10_000)
+    end).
+
 closed_replicas_test_() ->
     freed(4 * ?MIB, fun() ->
         Replica = replica(),

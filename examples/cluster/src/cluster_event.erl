@@ -5,7 +5,9 @@
 
 -export_type([name/0, fields/0]).
 
--type name() :: down | up | new_life | ready | checkpoint | renewal | hints_refused | sync_failed | settings_differ.
+-type name() ::
+    down | up | new_life | ready | checkpoint | renewal | renewal_refused | hints_refused | sync_failed
+    | settings_differ.
 -type fields() :: [{Name :: atom(), Value :: integer() | atom() | string()}].
 %% (No value is one of a client.)
 

@@ -22,6 +22,8 @@
 
 %% Answers that wait at most for one sync of the log.
 -define(MOST_WAITING, 512).
+%% Time after which a renewal that was refused is tried again.
+-define(RENEW_AGAIN_MS, 1000).
 
 -type counts() :: #{
     range := cluster_ring:range(),
@@ -56,8 +58,9 @@
     %% Entries logged since the last checkpoint, and the process that saves one now.
     since_checkpoint :: non_neg_integer(),
     saver :: pid() | undefined,
-    %% Entries of the journal after the last renewal.
+    %% Entries of the journal after the last renewal, and the renewal in progress.
     held = 0 :: non_neg_integer(),
+    renewal = none :: cluster_renewal:renewal(),
     waiting = [] :: [{gen_server:from(), request(), Answer :: term()}],
     offers = 0 :: non_neg_integer(),
     offered = #{} :: #{cluster_ring:place() => {Number :: pos_integer(), antientropy_snapshot:snapshot()}},
@@ -160,7 +163,7 @@ answer_bytes({ok, Answer}) -> byte_size(Answer);
 answer_bytes({error, _}) -> 0.
 
 %% @doc Returns the replica, into which this process may sync until it gives it back or ends. Refused: `disk_full',
-%% `busy' (a renewal waits for others that borrowed it).
+%% `busy' (a renewal is in progress, or waits for others that borrowed it).
 -spec borrow(cluster_ring:range()) -> {ok, antientropy:replica()} | {error, busy | disk_full}.
 borrow(Range) ->
     call(Range, borrow).
@@ -190,12 +193,7 @@ dump(Range) ->
 %% the log. If the range has another replica then, does both again: entries of the one before may be lost.
 with_snapshot(Range, Request) ->
     Replica = call(Range, replica),
-    case antientropy:snapshot(Replica) of
-        {ok, Snapshot} -> request_with(Range, Replica, Snapshot, Request);
-        {error, empty} -> with_snapshot(Range, Request)
-    end.
-
-request_with(Range, Replica, Snapshot, Request) ->
+    {ok, Snapshot} = antientropy:snapshot(Replica),
     case call(Range, Request(Replica, Snapshot)) of
         other_replica ->
             ok = antientropy_snapshot:close(Snapshot),
@@ -260,6 +258,14 @@ handle_info(timeout, State) ->
 handle_info({saved, Saver, Saved}, #state{saver = Saver} = State) ->
     wait(adopt(Saved, State#state{saver = undefined}));
 handle_info({saved, _, _}, State) ->
+    wait(State);
+handle_info({renewal, _, _} = Message, State) ->
+    wait(renewal_received(Message, State));
+handle_info({'DOWN', _, process, Maker, _} = Message, #state{renewal = {making, Maker, _}} = State) ->
+    wait(renewal_received(Message, State));
+handle_info(renew_again, #state{renewal = later} = State) ->
+    wait(State#state{renewal = none});
+handle_info(renew_again, State) ->
     wait(State);
 handle_info({'DOWN', Monitor, process, _, _}, State) ->
     wait(returned(Monitor, State));
@@ -422,6 +428,7 @@ logged({full, Log}, _, State) ->
 refuse_all(#state{range = Range, life = Life, log = Log, waiting = Waiting, offered = Offered} = State) ->
     ok = cluster_log:close(Log),
     ok = stop_saver(State),
+    ok = cluster_renewal:drop(State#state.renewal),
     [ok = antientropy_snapshot:close(Snapshot) || {_, Snapshot} <- maps:values(Offered)],
     case load(Range, Life) of
         {ok, Loaded} ->
@@ -452,7 +459,7 @@ lost(Why, #state{life = Life}) ->
 %% Sends the answers, when everything in them is in the log.
 answer_all(#state{waiting = Waiting} = State) ->
     [gen_server:reply(From, Answer) || {From, _, Answer} <- lists:reverse(Waiting)],
-    join_if_complete(renew_if_due(checkpoint_if_due(State#state{waiting = []}))).
+    join_if_complete(renew_if_due(renewed_if_made(checkpoint_if_due(State#state{waiting = []})))).
 
 %% ---- checkpoints
 
@@ -503,7 +510,8 @@ note_saved(Range, Seconds) -> cluster_metrics:set(snapshot_saved, [{range, Range
 %% ---- syncs and renewals
 
 lend(Borrower, #state{borrowers = Borrowers, replica = Replica} = State) ->
-    case is_renewal_due(State) andalso map_size(Borrowers) > 0 of
+    IsWanted = is_renewal_due(State) andalso map_size(Borrowers) > 0,
+    case IsWanted orelse cluster_renewal:is_in_progress(State#state.renewal) of
         true -> {{error, busy}, State};
         false -> {{ok, Replica}, State#state{borrowers = Borrowers#{monitor(process, Borrower) => Borrower}}}
     end.
@@ -549,17 +557,40 @@ join_if_complete(#state{range = Range, log = Log, lacking = []} = State) ->
 join_if_complete(State) ->
     State.
 
-%% Renews the replica, unless a process syncs into it: it would go on with the old one.
-renew_if_due(#state{range = Range, borrowers = Borrowers, replica = Replica} = State) ->
+%% Starts a renewal, unless a process syncs into the replica: its session would end.
+renew_if_due(#state{renewal = none, borrowers = Borrowers, replica = Replica} = State) ->
     case map_size(Borrowers) =:= 0 andalso is_logged(State) andalso is_renewal_due(State) of
-        true ->
-            Renewed = cluster_replica:renewed(Replica, cluster_settings:limit()),
-            Held = cluster_replica:used(Renewed),
-            ok = cluster_event:note(renewal, [{range, Range}, {entries, Held}]),
-            State#state{replica = Renewed, held = Held};
+        true -> State#state{renewal = cluster_renewal:start(Replica)};
+        false -> State
+    end;
+renew_if_due(State) ->
+    State.
+
+%% Puts a renewal that is made in its place when everything is in the log: nobody else changes the replica meanwhile.
+renewed_if_made(#state{range = Range, replica = Replica, renewal = {made, _} = Made} = State) ->
+    case is_logged(State) andalso cluster_renewal:finish(Made, Replica) of
         false ->
-            State
-    end.
+            State;
+        {ok, Held} ->
+            ok = cluster_event:note(renewal, [{range, Range}, {entries, Held}]),
+            State#state{renewal = none, held = Held};
+        {error, Cause} ->
+            renewal_refused(Cause, State)
+    end;
+renewed_if_made(State) ->
+    State.
+
+renewal_received(Message, #state{renewal = Renewal} = State) ->
+    with_renewal(cluster_renewal:received(Message, Renewal), State).
+
+with_renewal({refused, Cause}, State) -> renewal_refused(Cause, State);
+with_renewal(Renewal, State) -> State#state{renewal = Renewal}.
+
+%% The range goes on, and tries again later.
+renewal_refused(Cause, #state{range = Range} = State) ->
+    ok = cluster_event:note(renewal_refused, [{range, Range}, {cause, Cause}]),
+    _ = erlang:send_after(?RENEW_AGAIN_MS, self(), renew_again),
+    State#state{renewal = later}.
 
 %% At nine tenths of the limit, once half of the room that the last renewal left is used.
 is_renewal_due(#state{replica = Replica, held = Held}) ->
@@ -571,13 +602,27 @@ is_renewal_due(#state{replica = Replica, held = Held}) ->
 is_nearly_full(#state{held = Held}) ->
     Held * 20 >= cluster_settings:limit() * 19.
 
-%% Logs and answers all that waits if the journal has no room: then it can be renewed.
-with_room(#state{replica = Replica} = State) ->
+%% If the journal has no room, logs and answers all that waits, and waits for a renewal in progress.
+with_room(State) ->
+    case has_room(State) of
+        true -> State;
+        false -> with_renewal_awaited(all_logged(State))
+    end.
+
+%% The last twentieth of the room isn't used while a renewal is in progress: keys that aren't held would fill it.
+has_room(#state{replica = Replica, renewal = Renewal}) ->
     {ok, #{entries := Entries, first := First, limit := Limit}} = antientropy:count(Replica),
-    case Entries - First < Limit orelse is_logged(State) of
+    Used = Entries - First,
+    Used * 20 < Limit * 19 orelse (Used < Limit andalso not cluster_renewal:is_in_progress(Renewal)).
+
+all_logged(State) ->
+    case is_logged(State) of
         true -> State;
         false -> commit(State)
     end.
+
+with_renewal_awaited(#state{renewal = Renewal} = State) ->
+    renewed_if_made(with_renewal(cluster_renewal:awaited(Renewal), State)).
 
 name(Range) ->
     list_to_atom("cluster_range_" ++ integer_to_list(Range)).

@@ -1,7 +1,7 @@
 %% @doc What a range does with its replica: its start from the disk, puts, reads, and the test for what it has lost.
 -module(cluster_replica).
 
--export([open/2, entries/1, used/1, sizes/1, renewed/2, root/1]).
+-export([open/2, entries/1, used/1, sizes/1, root/1]).
 -export([put/5, own/3, read/3, read_apart/4, forgotten/3]).
 
 %% Scans of the journal for single entries: one pass for all costs more, and not more for more of them.
@@ -57,6 +57,11 @@ refuse(Range, Life, Limit) ->
     Held = used(renewed(Replica, ?NO_LIMIT)),
     cluster_app:refuse(io_lib:format("the limit ~b is smaller than the ~b versions of range ~b", [Limit, Held, Range])).
 
+renewed(Replica, Limit) ->
+    {ok, Renewed} = antientropy:renew(Replica, Limit),
+    ok = antientropy:close(Replica),
+    Renewed.
+
 %% @doc Returns the number of the next entry: it goes on over renewals.
 -spec entries(antientropy:replica()) -> non_neg_integer().
 entries(Replica) ->
@@ -82,13 +87,6 @@ sizes(Replica) ->
     {ok, Bytes} = antientropy:bytes(Replica),
     Sizes = maps:with([limit, dirty, sessions], Counts),
     Sizes#{entries => Entries - First, bytes => Bytes}.
-
-%% @doc Renews a replica.
--spec renewed(antientropy:replica(), Limit :: pos_integer()) -> antientropy:replica().
-renewed(Replica, Limit) ->
-    {ok, Renewed} = antientropy:renew(Replica, Limit),
-    ok = antientropy:close(Replica),
-    Renewed.
 
 %% @doc Returns the digest of the root, or `null' if a node of the tree has no digest.
 -spec root(antientropy:replica()) -> binary() | null.

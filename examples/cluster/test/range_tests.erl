@@ -64,8 +64,7 @@ renewal_test_() ->
         start(),
         fill(1, 20),
         [put_again(key(Number)) || _ <- lists:seq(1, 5), Number <- lists:seq(1, 20)],
-        {ok, Replica} = cluster_range:borrow(?RANGE),
-        ok = cluster_range:give_back(?RANGE, Replica, some),
+        Replica = replica(),
         #{entries := Entries, limit := 40} = cluster_range:counts(?RANGE),
         ?assert(Entries < 40),
         ?assertMatch({ok, #{entries := 120}}, antientropy:about(Replica)),
@@ -76,6 +75,105 @@ renewal_test_() ->
         put_again(key(1)),
         ?assertMatch({ok, [#{clock := #{33 := 7}}]}, versions(key(1)))
     end).
+
+%% Puts, reads and writes of the log go on while a renewal is in progress, and a sync has to wait. So has a put when a
+%% twentieth of the room is left.
+beside_puts_test_() ->
+    with_maker(fun made_when_told/1, [{limit, 100}], fun(_) ->
+        start(),
+        [ok = take_all(Partner) || Partner <- [2, 3]],
+        Replica = replica(),
+        Clock = rewrite(key(1), #{}, 90),
+        Maker = maker(),
+        Later = rewrite(key(1), Clock, 5),
+        {ok, #{first := 0, entries := 95}} = antientropy:count(Replica),
+        ?assertMatch({ok, <<_, _/binary>>}, cluster_range:row(?RANGE, key(1))),
+        ?assertEqual({error, busy}, cluster_range:borrow(?RANGE)),
+        Before = dump(),
+        restart(),
+        ?assertEqual(Before, dump()),
+        Again = maker(),
+        {Putting, Monitor} = spawn_monitor(fun() -> exit({put, rewrite(key(1), Later, 1)}) end),
+        receive
+            {'DOWN', Monitor, process, Putting, Early} -> error(Early)
+        after 100 -> Again ! make
+        end,
+        receive
+            {'DOWN', Monitor, process, Putting, Result} -> ?assertEqual({put, #{33 => 96}}, Result)
+        end,
+        ?assertMatch({ok, #{first := 94, entries := 96}}, antientropy:count(replica())),
+        Renewed = dump(),
+        restart(),
+        ?assertEqual(Renewed, dump()),
+        [Process ! make || Process <- [Maker, maker()]]
+    end).
+
+%% A range goes on if the process that renews crashes, or is refused, and tries again.
+renewal_refused_test_() ->
+    with_maker(fun crashed_then_refused/1, [{limit, 100}], fun(_) ->
+        start(),
+        Clock = rewrite(key(1), #{}, 90),
+        room:until(fun() -> events(renewal_refused) =:= 1 end),
+        Later = rewrite(key(1), Clock, 5),
+        Before = dump(),
+        room:until(fun() -> events(renewal) =:= 1 end),
+        ?assertEqual(2, events(renewal_refused)),
+        ?assertMatch(#{entries := 1}, cluster_range:counts(?RANGE)),
+        ?assertEqual(Before, dump()),
+        ?assertEqual(#{33 => 96}, rewrite(key(1), Later, 1))
+    end).
+
+%% Runs a test with a function in place of that which makes a renewal.
+with_maker(Make, Settings, Test) ->
+    room:test(Settings, fun(Folder) ->
+        true = register(?MODULE, self()),
+        replaced:with({antientropy_moment, renewal, 2}, Make, fun() -> Test(Folder) end),
+        true = unregister(?MODULE)
+    end).
+
+made_when_told(Arguments) ->
+    ?MODULE ! {maker, self()},
+    receive
+        make -> made(Arguments)
+    end.
+
+made([Replica, Limit]) ->
+    antientropy_nif:renewal(Replica, Limit, 64).
+
+crashed_then_refused(Arguments) ->
+    case events(renewal_refused) of
+        0 -> exit(crashed);
+        1 -> {error, no_memory};
+        2 -> made(Arguments)
+    end.
+
+%% Returns the process that makes a renewal, when it has begun.
+maker() ->
+    receive
+        {maker, Maker} -> Maker
+    end.
+
+events(Name) ->
+    lists:sum([Count || {[{event, Event}], Count} <- cluster_metrics:values(events), Event =:= Name]).
+
+%% Puts a key some times, and returns its clock.
+rewrite(Key, Clock, Times) ->
+    Put = fun(_, Context) ->
+        {ok, #{clock := Next}} = cluster_range:put(?RANGE, Key, <<"value">>, Context),
+        Next
+    end,
+    lists:foldl(Put, Clock, lists:seq(1, Times)).
+
+%% Returns the replica when no renewal is in progress.
+replica() ->
+    case cluster_range:borrow(?RANGE) of
+        {ok, Replica} ->
+            ok = cluster_range:give_back(?RANGE, Replica, some),
+            Replica;
+        {error, busy} ->
+            timer:sleep(1),
+            replica()
+    end.
 
 %% A range that is full of held versions refuses keys that it doesn't hold, and takes puts and deletes of the others.
 full_test_() ->
@@ -132,8 +230,8 @@ busy_test_() ->
         ?assertMatch({ok, #{entries := 37}}, antientropy:count(Replica)),
         {error, busy} = call_elsewhere(fun() -> cluster_range:borrow(?RANGE) end),
         ok = cluster_range:give_back(?RANGE, Replica, some),
-        ?assertMatch(#{entries := 5}, cluster_range:counts(?RANGE)),
-        ?assertEqual({error, empty}, antientropy:count(Replica))
+        room:until(fun() -> maps:get(entries, cluster_range:counts(?RANGE)) =:= 5 end),
+        ?assertMatch({ok, #{entries := 37, first := 32}}, antientropy:count(Replica))
     end).
 
 %% Syncs leave no session, so no number of them renews the range.

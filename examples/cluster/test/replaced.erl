@@ -1,0 +1,32 @@
+%% @doc A module in which one function is replaced by a function of a test.
+-module(replaced).
+
+-export([with/3]).
+-export([call/1]).
+
+%% @doc Runs a test with the function in place of the other one, whose arguments it gets as a list.
+with({Module, Name, Arity}, Function, Test) ->
+    ok = persistent_term:put(?MODULE, Function),
+    {module, Module} = code:ensure_loaded(Module),
+    File = code:which(Module),
+    {ok, {Module, [{abstract_code, {raw_abstract_v1, Forms}}]}} = beam_lib:chunks(File, [abstract_code]),
+    {ok, Module, Code} = compile:forms([with_call(Form, Name, Arity) || Form <- Forms]),
+    {module, Module} = code:load_binary(Module, File, Code),
+    try
+        Test()
+    after
+        _ = code:purge(Module),
+        {module, Module} = code:load_file(Module)
+    end.
+
+%% @private
+call(Arguments) ->
+    (persistent_term:get(?MODULE))(Arguments).
+
+with_call({function, At, Name, Arity, _}, Name, Arity) ->
+    Arguments = [{var, At, list_to_atom("A" ++ integer_to_list(Number))} || Number <- lists:seq(1, Arity)],
+    List = lists:foldr(fun(Argument, Rest) -> {cons, At, Argument, Rest} end, {nil, At}, Arguments),
+    Call = {call, At, {remote, At, {atom, At, ?MODULE}, {atom, At, call}}, [List]},
+    {function, At, Name, Arity, [{clause, At, Arguments, [], [Call]}]};
+with_call(Form, _, _) ->
+    Form.
