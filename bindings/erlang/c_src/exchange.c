@@ -6,10 +6,11 @@
 CALL(EXCHANGE, exchange_asks)
 {
     uint8_t ask[ANTIENTROPY_ASK_ROOM];
+    size_t room = at->is_plain ? ANTIENTROPY_ASK_LEN : sizeof ask;
     uint64_t len;
     ERL_NIF_TERM asks = enif_make_list(env, 0);
     for (;;) {
-        uint32_t number = antientropy_exchange_next(&at->exchange, &at->of->replica, ask, sizeof ask, &len);
+        uint32_t number = antientropy_exchange_next(&at->exchange, &at->of->replica, ask, room, &len);
         if (number != ANTIENTROPY_OK)
             return refused(env, number);
         if (len == 0)

@@ -26,6 +26,7 @@ struct resource {
     struct resource *of;
     _Atomic(struct orphan *) orphans;
     struct keeper keeper;
+    bool is_plain; /* an exchange's: no ask is an outline */
     union {
         struct antientropy_replica replica;
         struct antientropy_snapshot snapshot;

@@ -123,22 +123,23 @@ static uint32_t open_exchange(struct resource *at, void *of)
     return number;
 }
 
-static bool get_bounds(ErlNifEnv *env, ERL_NIF_TERM map, struct antientropy_bounds *bounds)
+static bool get_bounds(ErlNifEnv *env, ERL_NIF_TERM map, struct antientropy_bounds *bounds, bool *is_plain)
 {
-    ERL_NIF_TERM asks, bytes, bad, lost;
+    ERL_NIF_TERM asks, bytes, bad, lost, plain;
     return enif_get_map_value(env, map, atoms.asks, &asks) && get_u64(env, asks, &bounds->asks)
         && enif_get_map_value(env, map, atoms.bytes, &bytes) && get_u64(env, bytes, &bounds->bytes)
         && enif_get_map_value(env, map, atoms.bad, &bad) && get_u64(env, bad, &bounds->bad)
-        && enif_get_map_value(env, map, atoms.lost, &lost) && get_u64(env, lost, &bounds->lost);
+        && enif_get_map_value(env, map, atoms.lost, &lost) && get_u64(env, lost, &bounds->lost)
+        && enif_get_map_value(env, map, atoms.plain, &plain) && get_bool(plain, is_plain);
 }
 
 /* exchange_of_moment(Replica, Partner, Offer, Bounds, Holds, Most) -> {ok, Exchange} | more */
 CALL(REPLICA, exchange_of_moment)
 {
-    bool holds;
+    bool is_plain, holds;
     uint64_t most;
     struct opening opening = {0};
-    if (!get_u64(env, argv[1], &opening.partner) || !get_bounds(env, argv[3], &opening.bounds)
+    if (!get_u64(env, argv[1], &opening.partner) || !get_bounds(env, argv[3], &opening.bounds, &is_plain)
         || !get_bool(argv[4], &holds) || !get_u64(env, argv[5], &most))
         return enif_make_badarg(env);
     uint32_t number = get_bytes(env, argv[2], &opening.offer);
@@ -147,6 +148,7 @@ CALL(REPLICA, exchange_of_moment)
     opening.made = make_part(EXCHANGE, at);
     if (opening.made == NULL)
         return refused(env, ANTIENTROPY_NO_MEMORY);
+    opening.made->is_plain = is_plain;
     number = call_or_hash(at, holds, most, open_exchange, &opening);
     enif_rwlock_rwunlock(at->lock);
     antientropy_snapshot_free(&opening.moment);

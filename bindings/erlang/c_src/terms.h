@@ -60,6 +60,7 @@
     X(owner, "owner")                                                                                                  \
     X(partner, "partner")                                                                                              \
     X(pending, "pending")                                                                                              \
+    X(plain, "plain")                                                                                                  \
     X(put, "put")                                                                                                      \
     X(range, "range")                                                                                                  \
     X(refused, "refused")                                                                                              \

@@ -29,7 +29,7 @@
 
 -define(OPTIONS, #{format => 2, bits => 0, range => 0, limit => 1000000}).
 -define(LIMIT, 1000000).
--define(BOUNDS, #{asks => 256, bytes => 1 bsl 20, bad => 8, lost => 256}).
+-define(BOUNDS, #{asks => 256, bytes => 1 bsl 20, bad => 8, lost => 256, plain => false}).
 %% No journal has more entries.
 -define(ALL, 16#ffffffffffffffff).
 
@@ -540,9 +540,9 @@ rehash_some(Replica, Most) ->
 %%
 %% It compares the rows of a moment, which it holds and hashes as {@link snapshot/1} does. So it may ask for leaves that
 %% differ only because the replica has gone on. If the roots are equal it is finished, and has no session. Of the bounds
-%% those that aren't there are 256 asks, 1 MiB of bytes, and 8 bad answers and 256 lost asks. Refused: `bad_clock' (the
-%% partner is over 65,535), `bad_message', `other_format', `other_range', `sessions_full' (64 sessions are open, or
-%% 1,024 are kept).
+%% those that aren't there are 256 asks, 1 MiB of bytes, and 8 bad answers and 256 lost asks, and asks may be outlines.
+%% Refused: `bad_clock' (the partner is over 65,535), `bad_message', `other_format', `other_range', `sessions_full' (64
+%% sessions are open, or 1,024 are kept).
 -spec exchange(replica(), Partner :: non_neg_integer(), Offer :: iodata(), antientropy_exchange:bounds()) ->
     {ok, antientropy_exchange:exchange()} | refused().
 exchange(Replica, Partner, Offer, Bounds) ->

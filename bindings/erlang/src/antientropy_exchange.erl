@@ -13,10 +13,15 @@
 
 -opaque exchange() :: reference().
 -type bounds() :: #{
-    asks => non_neg_integer(), bytes => non_neg_integer(), bad => non_neg_integer(), lost => non_neg_integer()
+    asks => non_neg_integer(),
+    bytes => non_neg_integer(),
+    bad => non_neg_integer(),
+    lost => non_neg_integer(),
+    plain => boolean()
 }.
 %% The most asks on their way, and bytes of the answers to them, as far as they can be estimated: one ask may always be
-%% on its way, and its answer may be longer. After more bad answers or lost asks the exchange is over.
+%% on its way, and its answer may be longer. After more bad answers or lost asks the exchange is over. If `plain', no ask
+%% is an outline: that takes less of both processors, and more of the link.
 -type cause() :: none | bad_message | not_asked | wrong_digest | journal_full | no_memory.
 -type verdict() :: #{
     verdict := taken | left | bad | late | refused | failed,

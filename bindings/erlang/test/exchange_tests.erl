@@ -276,6 +276,17 @@ patches_test() ->
     {Sent, Answered} = sync_long_rows(fun(Patch) -> {ok, Patch} end),
     ?assert(3 * Sent < Answered).
 
+%% Within plain bounds no ask is an outline.
+plain_asks_test() ->
+    [A, B] = [replica(), replica()],
+    Value = binary:copy(<<"v">>, 300),
+    [{ok, _} = antientropy:put(Each, 1, <<"key">>, Value) || Each <- [A, B]],
+    {ok, _} = antientropy:put(A, 1, <<"key">>, <<"new">>, #{1 => 1}),
+    {Snapshot, Offer} = offered(A),
+    Serve = fun(<<2, _:7/binary>> = Ask) -> {ok, serve(Snapshot, Ask)} end,
+    Reach = fun(Asks) -> lists:map(Serve, Asks) end,
+    ?assertMatch({ok, #{accepted := 1}}, antientropy:sync(B, 1, Offer, Reach, #{plain => true})).
+
 %% A partner is asked plainly if it lies in each patch, or refuses the outlines, as one does that doesn't know them.
 outlines_without_a_text_count_as_nothing_test() ->
     Lie = fun(Patch) -> {ok, support:flip(Patch, byte_size(Patch) - 1)} end,
