@@ -3,17 +3,21 @@
 from __future__ import annotations
 
 import os
-from ctypes import CDLL, byref, c_uint64, create_string_buffer
+from ctypes import CDLL, Array, byref, c_uint64, c_void_p, cast, create_string_buffer
 from ctypes.util import find_library
+from pathlib import Path
 from threading import RLock
-from typing import Any, Callable, Optional, Tuple, Type, Union
+from typing import Any, Callable, Optional, Tuple, Union
 
 from ._calls import CALLS, PREFIX, READS, SHARE
+from ._convert import to_first
 from ._refused import Refused, class_of
 
 _MAJOR = 2
 _SONAME = f"libantientropy.so.{_MAJOR}"
 _VARIABLE = "ANTIENTROPY_LIBRARY"
+#: The library of a package that was built with one.
+_PACKAGED = Path(__file__).with_name("libantientropy.so")
 _NAME_ROOM = 64
 _NUMBERS = range(1, 256)
 
@@ -40,28 +44,27 @@ class Library:
             raise AttributeError(call)
         function = getattr(self._dll, PREFIX + name)
         function.restype, function.argtypes = CALLS[name]
-        setattr(self, call, function)
-        return function
+        typed: Callable[..., Any] = function
+        setattr(self, call, typed)
+        return typed
 
-    def prepared(self, call: str) -> Callable[..., Any]:
-        """Returns a call that takes ctypes objects and bytes as they are: it converts and checks no argument."""
-        function = self._dll[PREFIX + call]
-        function.restype = CALLS[call][0]
-        return function
+    def addresses(self, calls: Tuple[str, ...]) -> Array[c_void_p]:
+        """Return the addresses of calls, for the extension."""
+        return (c_void_p * len(calls))(*(cast(self._dll[PREFIX + call], c_void_p).value for call in calls))
 
     def parts(self) -> Tuple[int, int, int]:
-        """Returns the major, the minor and the patch number of the version."""
+        """Return the major, the minor and the patch number of the version."""
         rest, patch = divmod(self.version(), 100)
         major, minor = divmod(rest, 100)
         return major, minor, patch
 
     def refusal(self, call: str, number: int) -> Refused:
-        """Returns the exception of a call that returned a number other than 0."""
+        """Return the exception of a call that returned a number other than 0."""
         name = self.names.get(number, "")
-        return (class_of(name) if name else Refused)(call, number, name)
+        return class_of(name)(call, number, name)
 
     def check(self, call: str, *args: Any) -> None:
-        """Makes a call that needs no handle, and raises if it is refused."""
+        """Make a call that needs no handle, and raise if it is refused."""
         number = getattr(self, call)(*args)
         if number:
             raise self.refusal(call, number)
@@ -69,7 +72,7 @@ class Library:
     def _name(self, number: int) -> str:
         room, need = create_string_buffer(_NAME_ROOM), c_uint64()
         self.name(number, room, _NAME_ROOM, byref(need))
-        return room[: need.value].decode("ascii")
+        return to_first(room, need.value).decode("ascii")
 
     def _number(self, wanted: str) -> int:
         return next(number for number, name in self.names.items() if name == wanted)
@@ -81,7 +84,7 @@ _lock = RLock()
 
 
 def load_library(path: Union[str, os.PathLike[str]]) -> None:
-    """Loads the library from a path. Everything that is made later uses it."""
+    """Load the library from a path. Everything that is made later uses it."""
     global _current
     library = Library(os.fspath(path))
     with _lock:
@@ -89,7 +92,7 @@ def load_library(path: Union[str, os.PathLike[str]]) -> None:
 
 
 def current() -> Library:
-    """Returns the library in use. The first call loads it, if `load_library` didn't."""
+    """Return the library in use. The first call loads it, if `load_library` didn't."""
     global _current
     if _current is None:
         with _lock:
@@ -98,18 +101,14 @@ def current() -> Library:
     return _current
 
 
-def refusal_class(name: str) -> Optional[Type[Refused]]:
-    """Returns the class of a refusal by its name, or None if the library has no such name."""
-    return class_of(name) if name in current().names.values() else None
-
-
 def version() -> Tuple[int, int, int]:
-    """Returns the major, the minor and the patch number of the library's version."""
+    """Return the major, the minor and the patch number of the library's version."""
     return current().parts()
 
 
 def _load_default() -> Library:
-    path = os.environ.get(_VARIABLE) or find_library("antientropy") or _SONAME
+    packaged = str(_PACKAGED) if _PACKAGED.exists() else None
+    path = os.environ.get(_VARIABLE) or packaged or find_library("antientropy") or _SONAME
     try:
         return Library(path)
     except OSError as error:

@@ -26,7 +26,7 @@ class _Renewal(Handle):
     _free = "renewal_free"
 
     def catch_up(self, replica: Replica) -> None:
-        """Accepts entries until few are left.
+        """Accept entries until few are left.
 
         It accepts more of them at once if other threads put as many meanwhile, so it ends.
         """
@@ -37,13 +37,13 @@ class _Renewal(Handle):
                 most *= 2
 
     def _catch_up_some(self, replica: Replica, most: int) -> int:
-        """Accepts the next entries, and returns the number of those that are left."""
+        """Accept the next entries, and return the number of those that are left."""
         with replica._lock:
             return self._words_held(1, "share_renewal_catch_up", replica._share(), most)[0]
 
 
 def renew_in_place(replica: Replica, limit: int) -> None:
-    """Renews a replica in its place."""
+    """Renew a replica in its place."""
     fits(limit, 64)
     with _Renewal(replica._library) as renewal:
         to_change = replica._to_change()
@@ -71,39 +71,37 @@ class Keeper:
         self._held = 0
 
     def start_held(self, replica: Replica) -> None:
-        """Renews the replica by itself from now on."""
+        """Renew the replica by itself from now on."""
         counts = replica.count()
         self.is_on, self._limit, self._first = True, counts.limit, counts.first
 
     def note_held(self, replica: Replica) -> None:
-        """Notes the journal that a renewal left."""
+        """Note the journal that a renewal left."""
         counts = replica.count()
         self._limit, self._first, self._held = counts.limit, counts.first, counts.entries - counts.first
 
     def is_due(self, entries: int) -> bool:
-        """True if a renewal is due at a count of entries.
+        """Return True if a renewal is due at a count of entries.
 
         It is at nine tenths of the limit, once half of the room that the last renewal left is used.
         """
         used, room = entries - self._first, self._limit - self._held
         return used * 10 >= self._limit * 9 and used > self._held and (used - self._held) * 2 >= room
 
-    def renew_if_due_held(self, replica: Replica, entries: int) -> None:
-        """Starts a thread that renews the replica, if that is due at a count of entries."""
-        if self.is_on and not self._is_at_work and self.is_due(entries):
-            self._is_at_work = True
-            try:
-                Thread(target=self._renew, args=(replica,), name="antientropy renewal", daemon=True).start()
-            except RuntimeError:  # (no thread can be started now: the next put tries again)
-                self._is_at_work = False
-
-    def count_and_renew_held(self, replica: Replica) -> None:
-        """Does so at the count of entries now."""
-        if self.is_on and replica._struct.held:
-            self.renew_if_due_held(replica, replica.count().entries)
+    def renew_if_due(self, replica: Replica) -> None:
+        """Start a thread that renews the replica, if that is due at the count of entries now."""
+        if not self.is_on:
+            return
+        with replica._lock:
+            if replica._struct.held and not self._is_at_work and self.is_due(replica.count().entries):
+                self._is_at_work = True
+                try:
+                    Thread(target=self._renew, args=(replica,), name="antientropy renewal", daemon=True).start()
+                except RuntimeError:  # (no thread can be started now: the next put tries again)
+                    self._is_at_work = False
 
     def _renew(self, replica: Replica) -> None:
-        """Renews the replica.
+        """Renew the replica.
 
         A renewal that fails counts as one that has dropped no entry: another one is due when half of the room that is
         left is used.

@@ -14,13 +14,15 @@ import json
 import sqlite3
 import sys
 from contextlib import closing
+from io import TextIOWrapper
 from pathlib import Path
 from typing import Any, Callable, Dict, Iterator, List, NamedTuple, Optional, TextIO, Tuple
 
 import antientropy
 from antientropy import Receipt, Snapshot, Version
 
-from sqlite_store import Doubt, SqliteStore
+from journal_file import Doubt
+from sqlite_store import SqliteStore
 
 Pairs = List[Tuple[int, int]]
 
@@ -57,7 +59,7 @@ class LineServer:
         }
 
     def run(self) -> None:
-        """Answers until the lines end. The first line that it writes has the number of the node."""
+        """Answer until the lines end. The first line that it writes has the number of the node."""
         self._say(self._store.node)
         for line in self._lines:
             self._say(self._answer(line))
@@ -75,7 +77,7 @@ class LineServer:
             return {"refused": "Doubt", "why": str(doubt)}
 
     def _read_request(self, line: str) -> Tuple[Callable[..., Any], List[Any]]:
-        """Returns a call with its arguments. Raises ValueError if the line has none."""
+        """Return a call with its arguments. Raises ValueError if the line has none."""
         name, *args = _read_list(json.loads(line))
         call = self._calls.get(_read_text(name))
         if call is None or len(args) != len(call.readers):
@@ -95,7 +97,7 @@ class LineServer:
         return [[entry.number, entry.key.hex(), *_to_json(entry.version)] for entry in self._store.entries(start)]
 
     def _offer(self) -> str:
-        """Offers a new snapshot in place of the last."""
+        """Offer a new snapshot in place of the last."""
         if self._offered is not None:
             self._offered.close()
         self._offered = self._store.snapshot()
@@ -103,7 +105,7 @@ class LineServer:
         return self._offered.offer(self._offers).hex()
 
     def _serve(self, asks: List[bytes]) -> Any:
-        """Answers asks for the last offer."""
+        """Answer asks for the last offer."""
         if self._offered is None:
             return {"refused": "NoOffer"}
         return [self._offered.serve(self._offers, ask).hex() for ask in asks]
@@ -112,7 +114,7 @@ class LineServer:
         return self._store.sync(partner, offer, self._reach).accepted
 
     def _reach(self, asks: List[bytes]) -> List[Optional[bytes]]:
-        """Brings asks to the partner. A line that isn't a list of answers has none."""
+        """Bring asks to the partner. A line that isn't a list of answers has none."""
         self._say([ask.hex() for ask in asks])
         try:
             return [_read_value(answer) for answer in _read_list(json.loads(next(self._lines, "[]")))]
@@ -166,7 +168,7 @@ def _read_asks(said: Any) -> List[bytes]:
 
 
 def start(call: str, path: str, *words: str) -> Optional[SqliteStore]:
-    """Does what a command says. Returns the store, if it is to be served."""
+    """Do what a command says. Return the store, if it is to be served."""
     if call == "create":
         SqliteStore.create(Path(path), *map(int, words))
     elif call == "renumber":
@@ -181,8 +183,9 @@ def start(call: str, path: str, *words: str) -> Optional[SqliteStore]:
 
 
 def main() -> None:
-    """Makes, renumbers or serves a store, or says in one line why it can't."""
-    sys.stdin.reconfigure(errors="replace")  # type: ignore[union-attr]
+    """Make, renumber or serve a store, or say in one line why it can't."""
+    if isinstance(sys.stdin, TextIOWrapper):
+        sys.stdin.reconfigure(errors="replace")
     try:
         store = start(*sys.argv[1:])
     except Doubt as doubt:
