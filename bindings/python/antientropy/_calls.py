@@ -22,6 +22,9 @@ CLOCK_MAX = 32
 #: Bytes of a digest.
 ROOT_LEN = 32
 
+#: Bytes of an ask. With room for no more, no ask is an outline.
+ASK_LEN = 8
+
 #: Bytes of the longest packed entry.
 ENTRY_MAX = 66_122
 

@@ -6,7 +6,7 @@ from contextlib import suppress
 from ctypes import byref, c_uint64
 from typing import TYPE_CHECKING, Any, Callable, Iterable, List, Optional, Tuple
 
-from ._calls import HandleStruct
+from ._calls import ASK_LEN, HandleStruct
 from ._convert import fits, to_bytes
 from ._handle import Handle
 from ._moment import at_moment
@@ -45,7 +45,8 @@ class Exchange(Handle):
         self._replica = replica
         super().__init__(replica._library)
         self._lock = replica._lock
-        offer, words = to_bytes(offer), (c_uint64 * len(bounds))(*(fits(bound, 64) for bound in bounds))
+        *most, self._plain = bounds
+        offer, words = to_bytes(offer), (c_uint64 * len(most))(*(fits(bound, 64) for bound in most))
         args = fits(partner, 64), offer, len(offer), words
         at_moment(replica, replica._to_change(), lambda: self._open_held(*args))
 
@@ -60,7 +61,12 @@ class Exchange(Handle):
         exchange has stopped or is over.
         """
         with self._to_change():
-            return list(iter(lambda: self._bytes_held("share_exchange_next", self._replica._share()), b""))
+            return list(iter(self._next_held, b""))
+
+    def _next_held(self) -> bytes:
+        """Return the next ask to send, or no bytes if there is none now."""
+        room = ASK_LEN if self._plain else None
+        return self._bytes_held("share_exchange_next", self._replica._share(), room=room)
 
     def take(self, answer: bytes) -> Verdict:
         """Take a partner's answer, which isn't trusted, and judge it by the node that it names.

@@ -123,11 +123,12 @@ class Handle:
         with self._lock:
             return self._bytes_held(call, *args)
 
-    def _bytes_held(self, call: str, *args: Any) -> bytes:
+    def _bytes_held(self, call: str, *args: Any, room: Optional[int] = None) -> bytes:
+        """Return the bytes that a call writes: at first into `room` bytes, or as many as there are if it is None."""
         function, results = getattr(self._library, call), self._take_results()
         need = byref(results.need)
         handle = self._share() if call in READS else self._at
-        number = function(handle, *args, results.room, len(results.room), need)
+        number = function(handle, *args, results.room, room or len(results.room), need)
         if number == self._library.small:
             results.room = create_string_buffer(results.need.value)
             number = function(handle, *args, results.room, len(results.room), need)

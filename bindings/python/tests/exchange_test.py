@@ -250,6 +250,20 @@ class SyncTest(ExchangeCase):
         sent, answered = self.sync_long_rows(lambda patch: patch)
         self.assertLess(3 * sent, answered)
 
+    def test_plain_asks(self):
+        """Within plain bounds no ask is an outline."""
+        asker, partner = self.replica(), self.replica()
+        for replica in asker, partner:
+            replica.put(1, b"key", b"v" * 300)
+        partner.put(1, b"key", b"new", {1: 1})
+        snapshot = self.snapshot_of(partner)
+
+        def answer(asks):
+            self.assertNotIn(OUTLINE, [ask[0] for ask in asks])
+            return reach(snapshot)(asks)
+
+        self.assertEqual(asker.sync(1, snapshot.offer(1), answer, Bounds(plain=True)).accepted, 1)
+
     def test_outlines_without_a_text_count_as_nothing(self):
         """A partner is asked plainly if it lies in each patch, or refuses the outlines."""
         for change in (lambda patch: patch[:-1] + bytes([patch[-1] ^ 1]), lambda patch: None):

@@ -91,6 +91,7 @@ class HeaderTest(unittest.TestCase):
         self.assertEqual(_calls.CLOCK_MAX, numbers["CLOCK_MAX"])
         self.assertEqual(_calls.KEY_MAX, numbers["KEY_MAX"])
         self.assertEqual(_calls.ROOT_LEN, numbers["ROOT_LEN"])
+        self.assertEqual(_calls.ASK_LEN, numbers["ASK_LEN"])
         self.assertEqual(_calls.ENTRY_MAX, numbers["ENTRY_MAX"])
         self.assertEqual(_checkpoint._LEAVES, {1: numbers["LEAVES_1"], 2: numbers["LEAVES_2"]})
         self.assertEqual(antientropy.version()[0], numbers["VERSION_MAJOR"])
