@@ -12,8 +12,9 @@
 
 #include <pthread.h>
 #include <stdatomic.h>
+#include <unistd.h>
 
-enum { LIMIT = 1000000, STEP = 200, FEW = 50, PUTS_MAX = 100000, US_A_PUT = 100, WAIT_MS = 100 };
+enum { LIMIT = 1000000, STEP = 64, FEW = 64, PUTS_MAX = 100000, US_A_PUT = 100, WAIT_MS = 100 };
 
 static struct antientropy_replica shared;
 static pthread_rwlock_t lock;
@@ -93,11 +94,16 @@ static unsigned renew_beside(void)
     must("begin", antientropy_renewal_begin(&shared, LIMIT, &renewal));
     pthread_rwlock_unlock(&lock);
     must("build", antientropy_renewal_build(&renewal));
-    do {
+    for (;;) {
         pthread_rwlock_rdlock(&lock);
+        double begin = now_ms();
         must("catch_up", antientropy_renewal_catch_up(&renewal, &shared, STEP, &left));
+        double took = now_ms() - begin;
         pthread_rwlock_unlock(&lock);
-    } while (left > FEW);
+        if (left <= FEW)
+            break;
+        usleep((useconds_t)(1e3 * took)); /* the puts that waited are made */
+    }
     pthread_rwlock_wrlock(&lock);
     must("finish", antientropy_renewal_finish(&renewal, &shared));
     must("count", antientropy_count(&shared, &after));

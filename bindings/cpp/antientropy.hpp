@@ -41,6 +41,7 @@
 #include <algorithm>
 #include <cassert>
 #include <cerrno>
+#include <chrono>
 #include <cstddef>
 #include <cstdint>
 #include <cstdio>
@@ -58,6 +59,7 @@
 #include <string>
 #include <string_view>
 #include <system_error>
+#include <thread>
 #include <utility>
 #include <variant>
 #include <vector>
@@ -1788,23 +1790,33 @@ private:
 
     /// Number of entries that a renewal accepts at once, at first, and maximum number of those that it leaves to its
     /// finish.
-    static constexpr std::uint64_t at_once = 256, few = 64;
+    static constexpr std::uint64_t at_once = 64, few = 64;
 
-    /// Accepts entries until few are left. It accepts more at once if other threads put as many meanwhile, so it ends.
+    /// Accepts entries until few are left. After each step the lock is left to others for as long, so that all puts
+    /// that waited are made. If they outrun it nevertheless, it accepts more at once and waits no more, so it ends.
     template <class Lock>
     Result<void> catch_up(Lock &lock, Renewal &renewal) {
+        using Time = std::chrono::steady_clock;
         std::uint64_t most = at_once, before = UINT64_MAX, left = 0;
-        do {
+        bool outrun = false;
+        while (true) {
+            Time::duration took;
             {
                 const std::lock_guard<Lock> guard(lock);
+                const auto begin = Time::now();
                 const auto done =
                     detail::done(c::antientropy_renewal_catch_up(renewal.get(), at(), most, &left));
                 if (!done) return done;
+                took = Time::now() - begin;
             }
-            if (left >= before) most *= 2;
+            if (left <= few) return {};
+            if (left >= before) {
+                outrun = true;
+                most *= 2;
+            }
+            if (!outrun) std::this_thread::sleep_for(took);
             before = left;
-        } while (left > few);
-        return {};
+        }
     }
 
     /// The limit if a renewal is due, or 0.

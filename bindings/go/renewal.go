@@ -3,9 +3,11 @@ package antientropy
 // #include <antientropy.h>
 import "C"
 
+import "time"
+
 const (
 	// catchUpEntries is the number of entries that a renewal accepts under the lock to read, at first.
-	catchUpEntries = 256
+	catchUpEntries = 64
 	// fewEntries is the maximum number of entries that a renewal leaves to its finish.
 	fewEntries = 64
 )
@@ -54,27 +56,32 @@ func (n *renewal) build() error {
 	return check(C.antientropy_renewal_build(&n.handle))
 }
 
-// catchUp accepts entries until few are left. It accepts more at once if other goroutines put as many meanwhile, so it
-// ends.
+// catchUp accepts entries until few are left. After each step it leaves the lock to others for as long, so that all puts
+// that waited are made. If they outrun it nevertheless, it accepts more at once and waits no more, so it ends.
 func (n *renewal) catchUp(r *replica) error {
-	most := uint64(catchUpEntries)
-	left, err := n.catchUpSome(r, most)
+	most, outrun := uint64(catchUpEntries), false
+	left, took, err := n.catchUpSome(r, most)
 	for err == nil && left > fewEntries {
+		if !outrun {
+			time.Sleep(took)
+		}
 		before := left
-		if left, err = n.catchUpSome(r, most); left >= before {
-			most *= 2
+		if left, took, err = n.catchUpSome(r, most); left >= before {
+			most, outrun = 2*most, true
 		}
 	}
 	return err
 }
 
-// catchUpSome accepts the next entries, and returns the number of those that are left.
-func (n *renewal) catchUpSome(r *replica, most uint64) (left uint64, err error) {
+// catchUpSome accepts the next entries. It returns the number of those that are left, and the time for which it had the
+// lock.
+func (n *renewal) catchUpSome(r *replica, most uint64) (left uint64, took time.Duration, err error) {
 	var count C.uint64_t
 	held := r.reading()
 	defer held.lock.RUnlock()
+	begin := time.Now()
 	err = check(C.antientropy_renewal_catch_up(&n.handle, &held.handle, C.uint64_t(most), &count))
-	return uint64(count), err
+	return uint64(count), time.Since(begin), err
 }
 
 // finish accepts the entries that are left, and puts the new replica in the place of the old one.

@@ -3,13 +3,14 @@
 #include "renewal.h"
 
 #include <string.h>
+#include <time.h>
 
 #include "keeper.h"
 #include "moments.h"
 #include "terms.h"
 
 /* The entries that a renewal accepts at once, at first, and the most that it leaves to its finish. */
-enum { AT_ONCE = 128, FEW = 64 };
+enum { AT_ONCE = 64, FEW = 64 };
 
 /* A renewal that is to begin with the rows of the moment. */
 struct beginning {
@@ -34,20 +35,35 @@ static uint32_t begin_at_moment(struct resource *at, uint64_t limit, uint64_t mo
     return number;
 }
 
-/* Accepts entries until few are left. It accepts more at once if other calls add as many meanwhile, so it ends. */
+/* Waits for some nanoseconds. */
+static void wait_ns(ErlNifTime ns)
+{
+    struct timespec time = {.tv_sec = ns / 1000000000, .tv_nsec = ns % 1000000000};
+    nanosleep(&time, NULL);
+}
+
+/* Accepts entries until few are left. After each step the lock is left to others for as long, so that all calls that
+ * waited are made. If they outrun it nevertheless, it accepts more at once and waits no more, so it ends. */
 static uint32_t catch_up(struct resource *at, struct antientropy_renewal *renewal)
 {
     uint64_t most = AT_ONCE, before, left = UINT64_MAX;
-    uint32_t number;
-    do {
+    bool outrun = false;
+    for (;;) {
         before = left;
         enif_rwlock_rlock(at->lock);
-        number = antientropy_renewal_catch_up(renewal, &at->replica, most, &left);
+        ErlNifTime begin = enif_monotonic_time(ERL_NIF_NSEC);
+        uint32_t number = antientropy_renewal_catch_up(renewal, &at->replica, most, &left);
+        ErlNifTime took = enif_monotonic_time(ERL_NIF_NSEC) - begin;
         enif_rwlock_runlock(at->lock);
-        if (left >= before)
+        if (number != ANTIENTROPY_OK || left <= FEW)
+            return number;
+        if (left >= before) {
+            outrun = true;
             most *= 2;
-    } while (number == ANTIENTROPY_OK && left > FEW);
-    return number;
+        }
+        if (!outrun)
+            wait_ns(took);
+    }
 }
 
 /* Makes the new replica. The lock is free while it is built, and between the steps that hash and catch up. */

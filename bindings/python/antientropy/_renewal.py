@@ -3,7 +3,8 @@
 from __future__ import annotations
 
 from threading import Thread
-from typing import TYPE_CHECKING
+from time import perf_counter, sleep
+from typing import TYPE_CHECKING, Tuple
 
 from ._convert import fits
 from ._handle import Handle
@@ -14,7 +15,7 @@ if TYPE_CHECKING:
     from ._replica import Replica
 
 #: The entries that a renewal accepts at once, at first.
-_AT_ONCE = 256
+_AT_ONCE = 64
 
 #: The most entries that a renewal leaves to its finish.
 _FEW = 64
@@ -28,18 +29,25 @@ class _Renewal(Handle):
     def catch_up(self, replica: Replica) -> None:
         """Accept entries until few are left.
 
-        It accepts more of them at once if other threads put as many meanwhile, so it ends.
+        After each step the lock is left to others for as long, so that all puts that waited are made. If they outrun it
+        nevertheless, it accepts more at once and waits no more, so it ends.
         """
-        most, left = _AT_ONCE, self._catch_up_some(replica, _AT_ONCE)
+        most, outrun = _AT_ONCE, False
+        left, took = self._catch_up_some(replica, most)
         while left > _FEW:
-            before, left = left, self._catch_up_some(replica, most)
+            if not outrun:
+                sleep(took)
+            before = left
+            left, took = self._catch_up_some(replica, most)
             if left >= before:
-                most *= 2
+                most, outrun = 2 * most, True
 
-    def _catch_up_some(self, replica: Replica, most: int) -> int:
-        """Accept the next entries, and return the number of those that are left."""
+    def _catch_up_some(self, replica: Replica, most: int) -> Tuple[int, float]:
+        """Accept the next entries. Return the number of those that are left, and the seconds for which it had the lock."""
         with replica._lock:
-            return self._words_held(1, "share_renewal_catch_up", replica._share(), most)[0]
+            begin = perf_counter()
+            left = self._words_held(1, "share_renewal_catch_up", replica._share(), most)[0]
+            return left, perf_counter() - begin
 
 
 def renew_in_place(replica: Replica, limit: int) -> None:

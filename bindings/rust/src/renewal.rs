@@ -1,5 +1,8 @@
 //! Renewals of a replica in its place, between other calls of it.
 
+use std::thread;
+use std::time::{Duration, Instant};
+
 use crate::handle::{written, Owned};
 use crate::moment::{at_moment, Access};
 use crate::refusal::{check, Refusal};
@@ -7,7 +10,7 @@ use crate::replica::Replica;
 use crate::sys;
 
 /// Number of entries that a renewal accepts at once, at first.
-const AT_ONCE: u64 = 256;
+const AT_ONCE: u64 = 64;
 
 /// Maximum number of entries that a renewal leaves to its finish.
 const FEW: u64 = 64;
@@ -59,16 +62,28 @@ pub(crate) fn renew<A: Access>(access: &mut A, limit: u64) -> Result<(), Refusal
     access.with(|replica| renewal.finish(replica))
 }
 
-/// Accepts entries until few are left. It accepts more at once if other threads put as many meanwhile, so it ends.
+/// Accepts entries until few are left. After each step the lock is left to others for as long, so that all puts that
+/// waited are made. If they outrun it nevertheless, it accepts more at once and waits no more, so it ends.
 fn catch_up<A: Access>(access: &mut A, renewal: &mut Renewal) -> Result<(), Refusal> {
-    let mut most = AT_ONCE;
-    let mut left = access.with(|replica| renewal.catch_up(replica, most))?;
+    let (mut most, mut outrun) = (AT_ONCE, false);
+    let (mut left, mut took) = step(access, renewal, most)?;
     while left > FEW {
+        if !outrun {
+            thread::sleep(took);
+        }
         let before = left;
-        left = access.with(|replica| renewal.catch_up(replica, most))?;
+        (left, took) = step(access, renewal, most)?;
         if left >= before {
-            most *= 2;
+            (most, outrun) = (most * 2, true);
         }
     }
     Ok(())
+}
+
+/// Accepts the next entries. Returns the number of those that are left, and the time for which it had the lock.
+fn step<A: Access>(access: &mut A, renewal: &mut Renewal, most: u64) -> Result<(u64, Duration), Refusal> {
+    access.with(|replica| {
+        let begin = Instant::now();
+        Ok((renewal.catch_up(replica, most)?, begin.elapsed()))
+    })
 }
