@@ -12,6 +12,8 @@
 -define(MOST_LOST, 4096).
 %% Bytes that a reply may have over their estimate, at most: a row alone may have 4 MB.
 -define(MOST_EXCESS, 8_000_000).
+%% Time between two tries to borrow a replica that is to be renewed.
+-define(BUSY_MS, 5).
 
 -type counts() :: #{rounds := non_neg_integer(), keys := non_neg_integer(), bytes := non_neg_integer()}.
 %% Numbers of rounds, of versions that were taken, and of bytes of answers.
@@ -116,7 +118,7 @@ grown(Failed, Excess) ->
     maps:from_list([{Pull, Grow(Pull)} || {Pull, silent} <- maps:to_list(Failed)]).
 
 %% A sync that fails is said once, until it fails for another cause. (That a place is down has a line of its own.)
-note_failure({_, Why}) when Why =:= down; Why =:= busy; Why =:= disk_full ->
+note_failure({_, Why}) when Why =:= down; Why =:= disk_full ->
     ok;
 note_failure({{Range, Partner}, Why}) ->
     cluster_event:note(sync_failed, [{range, Range}, {partner, Partner}, {cause, Why}]).
@@ -163,8 +165,18 @@ pull_admitted(Pull, Excess) ->
 -spec pull(pull(), Excess :: non_neg_integer()) -> pulled().
 pull({Range, Partner} = Pull, Excess) ->
     case cluster_wire:call(Partner, cluster_range, offer, [Range, cluster_ring:here()]) of
-        {ok, {ok, Offer}} -> pull_offered(Pull, Excess, Offer, cluster_range:borrow(Range));
+        {ok, {ok, Offer}} -> pull_offered(Pull, Excess, Offer, borrowed(Range));
         down -> {down, 0, 0}
+    end.
+
+%% Borrows the replica, as soon as no renewal is in the way: a start must not go on without this pull.
+borrowed(Range) ->
+    case cluster_range:borrow(Range) of
+        {error, busy} ->
+            timer:sleep(?BUSY_MS),
+            borrowed(Range);
+        Borrowed ->
+            Borrowed
     end.
 
 pull_offered({Range, Partner}, Excess, Offer, {ok, Replica}) ->

@@ -77,7 +77,7 @@ renewal_test_() ->
     end).
 
 %% Puts, reads and writes of the log go on while a renewal is in progress, and a sync has to wait. So has a put when a
-%% twentieth of the room is left.
+%% twentieth of the limit is left.
 beside_puts_test_() ->
     with_maker(fun made_when_told/1, [{limit, 100}], fun(_) ->
         start(),
@@ -85,15 +85,16 @@ beside_puts_test_() ->
         Replica = replica(),
         Clock = rewrite(key(1), #{}, 90),
         Maker = maker(),
-        Later = rewrite(key(1), Clock, 5),
-        {ok, #{first := 0, entries := 95}} = antientropy:count(Replica),
+        Later = rewrite(key(1), Clock, 4),
+        {ok, #{first := 0, entries := 94}} = antientropy:count(Replica),
         ?assertMatch({ok, <<_, _/binary>>}, cluster_range:row(?RANGE, key(1))),
         ?assertEqual({error, busy}, cluster_range:borrow(?RANGE)),
         Before = dump(),
         restart(),
         ?assertEqual(Before, dump()),
         Again = maker(),
-        {Putting, Monitor} = spawn_monitor(fun() -> exit({put, rewrite(key(1), Later, 1)}) end),
+        Last = rewrite(key(1), Later, 1),
+        {Putting, Monitor} = spawn_monitor(fun() -> exit({put, rewrite(key(1), Last, 1)}) end),
         receive
             {'DOWN', Monitor, process, Putting, Early} -> error(Early)
         after 100 -> Again ! make
@@ -104,8 +105,9 @@ beside_puts_test_() ->
         ?assertMatch({ok, #{first := 94, entries := 96}}, antientropy:count(replica())),
         Renewed = dump(),
         restart(),
+        maker() ! make,
         ?assertEqual(Renewed, dump()),
-        [Process ! make || Process <- [Maker, maker()]]
+        Maker ! make
     end).
 
 %% A range goes on if the process that renews crashes, or is refused, and tries again.
