@@ -1384,7 +1384,7 @@ public:
 
     /// Renews the replica as `renew_in_place` does, while threads share it by a lock: a std::shared_mutex, say. The
     /// caller doesn't hold it. It holds the rows now as a moment, makes the new journal of them without the lock, and
-    /// accepts what was put meanwhile. Other threads wait only for its steps under the lock: some 256 entries at once,
+    /// accepts what was put meanwhile. Other threads wait only for its steps under the lock: some 64 entries at once,
     /// and a few at last. The numbers of entries go on: those since the moment keep theirs, and a log that has all
     /// entries before it reads on.
     /// Refused as `renew_in_place`; later Stale (another thread has renewed or migrated the replica meanwhile),

@@ -110,7 +110,7 @@ where
 /// Renews a shared replica in its place, as [`Replica::renew_in_place`] does.
 ///
 /// It holds the rows now as a moment, makes the new journal of them without the lock, and accepts what was put
-/// meanwhile. Other threads wait only for its steps under the lock: some 256 entries at once, and a few at last. The
+/// meanwhile. Other threads wait only for its steps under the lock: some 64 entries at once, and a few at last. The
 /// numbers of entries go on: those since the moment keep theirs, and a log that has all entries before it reads on.
 ///
 /// Refused as `BadRing` (the limit), `JournalFull` (more versions are held than the limit, or accepted meanwhile) or
