@@ -4,34 +4,17 @@
  * finish. After each renewal the entries since the moment have the keys that the writer noted, and older numbers are no
  * positions. Then a renewal is refused for another replica. It ends with status 1 if a call returns another number than
  * the one wanted, or if something isn't so. */
-#define _GNU_SOURCE
-#include "antientropy.h"
+#include "shared.h"
 
-#include <pthread.h>
 #include <sched.h>
-#include <stdio.h>
-#include <stdlib.h>
 #include <string.h>
 
 enum { KEYS = 200, RENEWALS = 5, PUTS_MAX = 1000000, BEHIND = 20, STEP = 7, PORTION = 64 };
-
-/* The replica of node 1, which both threads use. Its lock lets a waiting writer go first. */
-static struct antientropy_replica shared;
-static pthread_rwlock_t lock = PTHREAD_RWLOCK_WRITER_NONRECURSIVE_INITIALIZER_NP;
 
 /* Under the lock: the number of puts, the key of each entry's number, and 1 when the renewals are over. */
 static unsigned put_count;
 static unsigned char noted[PUTS_MAX];
 static int over;
-
-/* Ends the program unless a call returned the number that is wanted. */
-static void want(const char *call, uint32_t got, uint32_t wanted)
-{
-    if (got != wanted) {
-        printf("%s returned %s, not %s\n", call, antientropy_strerror(got), antientropy_strerror(wanted));
-        exit(1);
-    }
-}
 
 static void ok(const char *call, uint32_t got)
 {
@@ -45,23 +28,6 @@ static void is(const char *what, bool holds)
         printf("it isn't so that %s\n", what);
         exit(1);
     }
-}
-
-/* Takes the lock for calls that take the replica as const. */
-static void lock_to_read(void)
-{
-    pthread_rwlock_rdlock(&lock);
-}
-
-/* Takes the lock for any calls. */
-static void lock_to_write(void)
-{
-    pthread_rwlock_wrlock(&lock);
-}
-
-static void unlock(void)
-{
-    pthread_rwlock_unlock(&lock);
 }
 
 /* ---- the writer */

@@ -2,49 +2,14 @@
  * four others read it at once. A ninth makes snapshots of it, whose nodes it hashes without the lock, and syncs another
  * replica from them. Then four threads read one snapshot without a lock: by one handle at once, and each by a handle of
  * its own. It ends with status 1 if a call returns another number than the one wanted, or a read another version. */
-#define _GNU_SOURCE
-#include "antientropy.h"
+#include "shared.h"
 
-#include <pthread.h>
-#include <stdio.h>
-#include <stdlib.h>
 #include <string.h>
 
 enum { WRITERS = 4, READERS = 4, KEYS = 500, SYNCS = 10, ROOM = 1 << 16, PORTION = 16 };
 
-/* The replica of node 1, which all threads use. Its lock lets a waiting writer go first: with the usual one of glibc,
- * readers that follow one another without pause keep the writers out. */
-static struct antientropy_replica shared;
-static pthread_rwlock_t lock = PTHREAD_RWLOCK_WRITER_NONRECURSIVE_INITIALIZER_NP;
-
 /* The names of the writers, with which their keys begin. */
 static char names[WRITERS][2] = {"a", "b", "c", "d"};
-
-/* Ends the program unless a call returned the number that is wanted. */
-static void want(const char *call, uint32_t got, uint32_t wanted)
-{
-    if (got != wanted) {
-        printf("%s returned %s, not %s\n", call, antientropy_strerror(got), antientropy_strerror(wanted));
-        exit(1);
-    }
-}
-
-/* Takes the lock for calls that take the replica as const. */
-static void lock_to_read(void)
-{
-    pthread_rwlock_rdlock(&lock);
-}
-
-/* Takes the lock for any calls. */
-static void lock_to_write(void)
-{
-    pthread_rwlock_wrlock(&lock);
-}
-
-static void unlock(void)
-{
-    pthread_rwlock_unlock(&lock);
-}
 
 /* The key of a number: those of each writer in turn. */
 static const char *key_of(int number, char *key, size_t len)
