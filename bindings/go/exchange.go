@@ -204,7 +204,7 @@ func (e *Exchange) Asks() ([][]byte, error) {
 func (e *exchange) next() (ask []byte, found bool, err error) {
 	return bytesIfAny(func(out *C.uint8_t, outLen C.size_t, need *C.uint64_t) C.uint32_t {
 		if e.plain {
-			outLen = C.ANTIENTROPY_ASK_LEN
+			outLen = AskLen
 		}
 		return C.antientropy_exchange_next(&e.handle, &e.replica.handle, out, outLen, need)
 	})
