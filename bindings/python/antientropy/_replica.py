@@ -215,8 +215,9 @@ class Replica(Versions):
         put = self.put if self._keeper.is_on else self._put_read
         receipts: List[Receipt] = []
         for item in items:
+            key, value, context = item if len(item) == 3 else (*item, ())
             try:
-                receipts.append(put(node, *item))
+                receipts.append(put(node, key, value, context))
             except Refused as refused:
                 refused.done = tuple(receipts)
                 raise
