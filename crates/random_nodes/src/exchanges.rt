@@ -3,6 +3,7 @@
 ghost use Rattle.std.specs.Prelude.{◌<◌};
 
 use crate::book::{Book, Ruling, Took, Way};
+use crate::catch_ups::CatchUps;
 use crate::mirror::Mirror;
 use crate::outlines::{Outline, outline_of, text_by};
 use crate::pairs::Closed;
@@ -68,8 +69,8 @@ pub(crate) struct Patches {
     pub(crate) of_leaves: u64,
 }
 
-/// Has a closed node take from another one what it lacks by an exchange with random events, and compares all that it
-/// shows.
+/// Has a closed node take from another one what it lacks by an exchange with random events, which is seldom renewed beside
+/// them, and compares all that it shows.
 pub(crate) fn exchange_with(
     alloc: Global,
     random: &mut Random,
@@ -77,12 +78,15 @@ pub(crate) fn exchange_with(
     there: &mut Closed,
     tally: &mut Tally,
 ) -> Result<(), Trouble> {
+    let mut catch_ups = CatchUps::draw(*random);
+    catch_ups.step(alloc, here, tally)?;
     feed(alloc, random, here, there)?;
     let partner = Partner::draw(alloc, random, &there.mirror)?;
-    here.range.hold(alloc)?;
+    here.hold(alloc)?;
     if let Some(mut dialogue) = open(alloc, random, here, &partner)? {
         for _ in 0..EVENTS {
             dialogue.run_event(alloc, random, here, there, &partner)?;
+            catch_ups.step(alloc, here, tally)?;
             dialogue.check(alloc, here)?;
         }
         dialogue.answer_rest(alloc, random, here, &partner)?;
@@ -92,6 +96,7 @@ pub(crate) fn exchange_with(
         dialogue.close(here);
         dialogue.check(alloc, here)?;
     }
+    catch_ups.end(alloc, here, tally)?;
     here.check(alloc)
 }
 

@@ -9,6 +9,7 @@
 #![tactic(auto)]
 
 mod book;
+mod catch_ups;
 mod deliveries;
 mod exchanges;
 mod failures;
