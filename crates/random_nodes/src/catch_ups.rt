@@ -1,6 +1,7 @@
 //! Renewals of a closed node beside the events of its exchange: each begins from a moment, is made, catches up with some
 //! entries at a time, and is finished. Seldom a stranger is tried in place of the node.
 
+use crate::exchanges::{copy, draw_copy};
 use crate::mirror::Mirror;
 use crate::pairs::Closed;
 use crate::ranges::{Range, config_of};
@@ -84,7 +85,7 @@ impl CatchUps {
 }
 
 impl Stage {
-    /// Does a step, mostly.
+    /// Does the next step, or has the node accept a random version in place of it.
     fn next(
         self,
         alloc: Global,
@@ -92,11 +93,15 @@ impl Stage {
         here: &mut Closed,
         tally: &mut Tally,
     ) -> Result<Stage, Trouble> {
-        match (self, random.once_in(2)) {
-            (Stage::None, true) => begin(alloc, random, here),
-            (Stage::Begun(start, moment), true) => make(alloc, random, start, moment),
-            (Stage::Made(made), true) => made.go_on(alloc, random, here, tally),
-            (stage, _) => Ok(stage),
+        if random.once_in(2) {
+            let (key, version) = draw_copy(random);
+            copy(alloc, here, key, version)?;
+            return Ok(self);
+        }
+        match self {
+            Stage::None => begin(alloc, random, here),
+            Stage::Begun(start, moment) => make(alloc, random, start, moment),
+            Stage::Made(made) => made.go_on(alloc, random, here, tally),
         }
     }
 }
@@ -160,7 +165,7 @@ impl Made {
         here: &mut Closed,
         tally: &mut Tally,
     ) -> Result<Stage, Trouble> {
-        match random.below(12) {
+        match random.below(16) {
             0 => self.finish(alloc, here, tally),
             1 => {
                 let mut stranger = draw_stranger(alloc, random, &here.mirror)?;

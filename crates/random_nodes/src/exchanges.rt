@@ -680,7 +680,7 @@ fn feed(
 }
 
 /// Draws a key and a version for it, whose value is often long.
-fn draw_copy(random: &mut Random) -> (u64, PlainVersion) {
+pub(crate) fn draw_copy(random: &mut Random) -> (u64, PlainVersion) {
     let (key, mut version) = (1 + random.below(KEYS - 1), random.version());
     if version.value.is_some() && random.once_in(2) {
         version.value = Some(LONG);
@@ -689,7 +689,12 @@ fn draw_copy(random: &mut Random) -> (u64, PlainVersion) {
 }
 
 /// Has a node accept a version as a copy.
-fn copy(alloc: Global, here: &mut Closed, key: u64, version: PlainVersion) -> Result<(), Trouble> {
+pub(crate) fn copy(
+    alloc: Global,
+    here: &mut Closed,
+    key: u64,
+    version: PlainVersion,
+) -> Result<(), Trouble> {
     let wanted = here.mirror.plain.accept(key, &version);
     let sent = version.version(alloc)?;
     let reply = here.range.copy(alloc, SEAT, key_bytes(key), sent);
