@@ -69,8 +69,8 @@ pub(crate) struct Patches {
     pub(crate) of_leaves: u64,
 }
 
-/// Has a closed node take from another one what it lacks by an exchange with random events, which is seldom renewed beside
-/// them, and compares all that it shows.
+/// Has a closed node take from another one what it lacks by an exchange with random events, and compares all that it
+/// shows. Seldom the node is renewed beside these events.
 pub(crate) fn exchange_with(
     alloc: Global,
     random: &mut Random,
