@@ -46,14 +46,24 @@ struct Made {
 }
 
 impl CatchUps {
-    /// Draws whether a node is renewed: in one of five lists some node is.
-    pub(crate) fn draw(mut random: Random) -> CatchUps {
+    /// Draws whether a node is renewed: in one of five lists some node is. If so, a renewal begins.
+    pub(crate) fn draw(
+        alloc: Global,
+        mut random: Random,
+        here: &mut Closed,
+    ) -> Result<CatchUps, Trouble> {
         let mut random = Random::new(random.below(u64::MAX));
-        CatchUps {
-            is_due: random.once_in(14),
+        let is_due = random.once_in(14);
+        let stage = if is_due {
+            begin(alloc, &mut random, here)?
+        } else {
+            Stage::None
+        };
+        Ok(CatchUps {
             random,
-            stage: Stage::None,
-        }
+            is_due,
+            stage,
+        })
     }
 
     /// Does the next step of the renewals, and compares its result.
@@ -106,9 +116,9 @@ impl Stage {
     }
 }
 
-/// Begins a renewal from a moment that is held now, or from the last one, which is hashed.
+/// Begins a renewal from the last moment, which is hashed, or seldom from one that is held now.
 fn begin(alloc: Global, random: &mut Random, here: &mut Closed) -> Result<Stage, Trouble> {
-    if random.once_in(2) {
+    if random.once_in(4) {
         here.hold(alloc)?;
     } else {
         here.range.hash_moment(alloc)?;

@@ -78,8 +78,7 @@ pub(crate) fn exchange_with(
     there: &mut Closed,
     tally: &mut Tally,
 ) -> Result<(), Trouble> {
-    let mut catch_ups = CatchUps::draw(*random);
-    catch_ups.step(alloc, here, tally)?;
+    let mut catch_ups = CatchUps::draw(alloc, *random, here)?;
     feed(alloc, random, here, there)?;
     let partner = Partner::draw(alloc, random, &there.mirror)?;
     here.hold(alloc)?;
