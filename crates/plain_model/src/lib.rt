@@ -2,6 +2,7 @@
 //! with which `random_nodes` compares the libraries. It shares no code with them, only the types of their results.
 #![tactic(auto)]
 
+pub mod catch_ups;
 pub mod draws;
 pub mod leaves;
 pub mod messages;

@@ -43,6 +43,7 @@ pub enum Fault {
     RowBroken,
     Stranger,
     BadRing,
+    Stale,
 }
 
 impl Fault {
@@ -68,7 +69,8 @@ impl Fault {
             | (Fault::BadMessage, Refusal::BadMessage)
             | (Fault::RowBroken, Refusal::RowBroken(_))
             | (Fault::Stranger, Refusal::Stranger)
-            | (Fault::BadRing, Refusal::BadRing) => true,
+            | (Fault::BadRing, Refusal::BadRing)
+            | (Fault::Stale, Refusal::Stale) => true,
             _ => false,
         }
     }

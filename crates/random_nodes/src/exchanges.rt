@@ -3,6 +3,7 @@
 ghost use Rattle.std.specs.Prelude.{◌<◌};
 
 use crate::book::{Book, Ruling, Took, Way};
+use crate::catch_ups::CatchUps;
 use crate::mirror::Mirror;
 use crate::outlines::{Outline, outline_of, text_by};
 use crate::pairs::Closed;
@@ -69,7 +70,7 @@ pub(crate) struct Patches {
 }
 
 /// Has a closed node take from another one what it lacks by an exchange with random events, and compares all that it
-/// shows.
+/// shows. Seldom the node is renewed beside these events.
 pub(crate) fn exchange_with(
     alloc: Global,
     random: &mut Random,
@@ -77,12 +78,14 @@ pub(crate) fn exchange_with(
     there: &mut Closed,
     tally: &mut Tally,
 ) -> Result<(), Trouble> {
+    let mut catch_ups = CatchUps::draw(alloc, *random, here)?;
     feed(alloc, random, here, there)?;
     let partner = Partner::draw(alloc, random, &there.mirror)?;
-    here.range.hold(alloc)?;
+    here.hold(alloc)?;
     if let Some(mut dialogue) = open(alloc, random, here, &partner)? {
         for _ in 0..EVENTS {
             dialogue.run_event(alloc, random, here, there, &partner)?;
+            catch_ups.step(alloc, here, tally)?;
             dialogue.check(alloc, here)?;
         }
         dialogue.answer_rest(alloc, random, here, &partner)?;
@@ -92,6 +95,7 @@ pub(crate) fn exchange_with(
         dialogue.close(here);
         dialogue.check(alloc, here)?;
     }
+    catch_ups.end(alloc, here, tally)?;
     here.check(alloc)
 }
 
@@ -675,7 +679,7 @@ fn feed(
 }
 
 /// Draws a key and a version for it, whose value is often long.
-fn draw_copy(random: &mut Random) -> (u64, PlainVersion) {
+pub(crate) fn draw_copy(random: &mut Random) -> (u64, PlainVersion) {
     let (key, mut version) = (1 + random.below(KEYS - 1), random.version());
     if version.value.is_some() && random.once_in(2) {
         version.value = Some(LONG);
@@ -684,7 +688,12 @@ fn draw_copy(random: &mut Random) -> (u64, PlainVersion) {
 }
 
 /// Has a node accept a version as a copy.
-fn copy(alloc: Global, here: &mut Closed, key: u64, version: PlainVersion) -> Result<(), Trouble> {
+pub(crate) fn copy(
+    alloc: Global,
+    here: &mut Closed,
+    key: u64,
+    version: PlainVersion,
+) -> Result<(), Trouble> {
     let wanted = here.mirror.plain.accept(key, &version);
     let sent = version.version(alloc)?;
     let reply = here.range.copy(alloc, SEAT, key_bytes(key), sent);

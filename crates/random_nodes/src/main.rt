@@ -1,14 +1,15 @@
 //! Runs lists of random steps that are done to three nodes, with their real workers, in one thread. At each point of a
 //! rehash worker, before each call of a sync worker's link, and before a load takes its lock, the gate may take the next
 //! steps of the list, three deep. So each list is one interleaving of whole nodes, which its seed repeats. At the end the
-//! nodes are closed, and each takes from the next one by an exchange with random events. All results and states are
-//! compared with a plain program written from the definitions.
+//! nodes are closed, and each takes from the next one by an exchange with random events, beside which some are renewed.
+//! All results and states are compared with a plain program written from the definitions.
 //!
 //! The words on the command line are the seed of the first list, the number of lists, and the number of steps of a list.
 //! The defaults are 0, 1,000 and 60.
 #![tactic(auto)]
 
 mod book;
+mod catch_ups;
 mod deliveries;
 mod exchanges;
 mod failures;

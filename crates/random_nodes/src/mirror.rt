@@ -217,20 +217,17 @@ impl Mirror {
         self.moments = self.moments.wrapping_add(1);
     }
 
+    /// Returns the range at the moment.
+    pub(crate) fn at_moment(&self) -> Result<PlainRange, Trouble> {
+        match self.moment {
+            Some(front) => self.plain.first(front),
+            None => Err(Trouble::Differs("whether a range has a moment")),
+        }
+    }
+
     /// Returns the tree of the moment.
     pub(crate) fn moment_tree(&self, alloc: Global) -> Result<Tree, Trouble> {
-        let Some(front) = self.moment else {
-            return Err(Trouble::Differs("whether a range has a moment"));
-        };
-        let mut entries = self.plain.entries.clone()?;
-        entries.truncate(front);
-        let plain = PlainRange {
-            format: self.plain.format,
-            part: self.plain.part,
-            limit: self.plain.limit,
-            entries,
-        };
-        Ok(Tree::new(alloc, &plain)?)
+        Tree::new(alloc, &self.at_moment()?)
     }
 
     /// Returns the tree that was offered under a root, if there is one.
@@ -307,14 +304,19 @@ impl Mirror {
 
     /// Begins anew with the versions held, as entries of a seat, without sessions; and with the hints that are pending.
     pub(crate) fn renew(&mut self, alloc: Global, seat: u16, limit: u64) -> Result<(), Trouble> {
-        self.plain.entries = self.plain.held_entries(alloc, seat)?;
-        self.plain.limit = limit;
+        let renewal = self.plain.renewal(alloc, seat, limit)?;
+        self.replace_range(alloc, renewal.range);
+        self.hints.retain(|hint| hint.is_pending);
+        Ok(())
+    }
+
+    /// Puts another range in the place of this one, without sessions.
+    pub(crate) fn replace_range(&mut self, alloc: Global, plain: PlainRange) {
+        self.plain = plain;
         self.set_moment(None);
         self.walks = Vec::new(alloc);
         self.sessions = Vec::new(alloc);
         self.partners = Vec::new(alloc);
-        self.hints.retain(|hint| hint.is_pending);
-        Ok(())
     }
 }
 

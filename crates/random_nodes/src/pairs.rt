@@ -55,6 +55,14 @@ impl Closed {
         Ok(())
     }
 
+    /// Holds the rows now as a moment, and hashes it.
+    pub(crate) fn hold(&mut self, alloc: Global) -> Result<(), Refusal> {
+        self.range.hold(alloc)?;
+        let front = self.mirror.plain.entries.len();
+        self.mirror.set_moment(Some(front));
+        Ok(())
+    }
+
     /// Compares the digests of the clean nodes of a depth.
     fn check_digests(&self, tree: &Tree, depth: u8) -> Result<(), Trouble> {
         for index in 0..width(depth) {

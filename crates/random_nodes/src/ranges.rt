@@ -6,7 +6,10 @@ use plain_model::plain::{Part, PlainRange, are_equal, is_entry, key_bytes};
 use plain_model::trouble::{Trouble, expect};
 use plain_model::walks::Walk;
 use range_journal::{Journal, Source};
-use range_state::{Accepted, RangeConfig, RangeState, Reconciled, Record, reconcile};
+use range_state::{
+    Accepted, RangeConfig, RangeState, Reconciled, Record, Renewal, RenewalStart, Unfinished,
+    reconcile,
+};
 use std::alloc::Global;
 use tree_nodes::{Digest, NodeAt, Text};
 use vclock::{Format, Refusal};
@@ -92,6 +95,11 @@ impl Range {
     /// Holds the rows now as a moment, and hashes it.
     pub(crate) fn hold(&mut self, alloc: Global) -> Result<(), Refusal> {
         let _before = self.state.hold_moment(alloc)?;
+        self.hash_moment(alloc)
+    }
+
+    /// Hashes the moment, if there is one.
+    pub(crate) fn hash_moment(&mut self, alloc: Global) -> Result<(), Refusal> {
         for _level in 0..4 {
             self.state.hash_moment(alloc, 10_000)?;
         }
@@ -102,6 +110,35 @@ impl Range {
     pub(crate) fn renew(&mut self, alloc: Global, seat: u16, limit: u64) -> Result<(), Refusal> {
         self.state = self.state.renewed(alloc, seat, limit)?;
         Ok(())
+    }
+
+    /// Begins a renewal from the moment.
+    pub(crate) fn begin_renewal(&self, alloc: Global) -> Result<RenewalStart, Refusal> {
+        self.state.begin_renewal(alloc)
+    }
+
+    /// Has a renewal accept some of the later entries, and returns the number of those that are left.
+    pub(crate) fn catch_up(
+        &self,
+        alloc: Global,
+        renewal: &mut Renewal,
+        seat: u16,
+        most: u64,
+    ) -> Result<u64, Refusal> {
+        renewal.catch_up(alloc, seat, &self.state, most)
+    }
+
+    /// Puts the new range of a renewal in the place of this one, which it returns.
+    pub(crate) fn finish(
+        &mut self,
+        alloc: Global,
+        renewal: Renewal,
+        seat: u16,
+    ) -> Result<Range, Unfinished> {
+        match renewal.finish(alloc, seat, &mut self.state) {
+            Ok(old) => Ok(Range::from(old)),
+            Err(unfinished) => Err(unfinished),
+        }
     }
 
     /// Migrates to format 2, unless it has that format.

@@ -14,6 +14,9 @@ pub(crate) struct Tally {
     cancelled: u64,
     refused: u64,
     exchanges: Exchanges,
+    /// The renewals that were finished beside exchanges, and the entries with which they caught up.
+    renewals: u64,
+    later: u64,
 }
 
 /// The counts of exchanges.
@@ -49,6 +52,8 @@ impl Tally {
                 inner_patches: 0,
                 leaf_patches: 0,
             },
+            renewals: 0,
+            later: 0,
         }
     }
 
@@ -86,6 +91,12 @@ impl Tally {
         *count = count.wrapping_add(1);
     }
 
+    /// Counts a renewal that was finished, with this number of later entries.
+    pub(crate) fn count_renewal(&mut self, later: u64) {
+        self.renewals = self.renewals.wrapping_add(1);
+        self.later = self.later.wrapping_add(later);
+    }
+
     /// Returns the number of finished syncs.
     pub(crate) fn finished(&self) -> u64 {
         self.finished
@@ -109,6 +120,8 @@ impl Tally {
         exchanges.gone = exchanges.gone.wrapping_add(more.gone);
         exchanges.inner_patches = exchanges.inner_patches.wrapping_add(more.inner_patches);
         exchanges.leaf_patches = exchanges.leaf_patches.wrapping_add(more.leaf_patches);
+        self.renewals = self.renewals.wrapping_add(other.renewals);
+        self.later = self.later.wrapping_add(other.later);
     }
 }
 
@@ -136,6 +149,11 @@ impl fmt::Display for Tally {
             f,
             "; patches of {} inner nodes and {} leaves",
             exchanges.inner_patches, exchanges.leaf_patches
+        )?;
+        write!(
+            f,
+            "; {} renewals beside exchanges, which caught up with {} entries",
+            self.renewals, self.later
         )
     }
 }
