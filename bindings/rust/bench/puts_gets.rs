@@ -46,7 +46,7 @@ fn main() -> Result<(), Refusal> {
     let mut replica = Replica::new(Config { format: 1, ..Config::default() })?;
     let mut met = 0;
     let puts = measure(keys, |item| {
-        replica.put(1, item.key.as_bytes(), Some(&item.value), &NO_CONTEXT)?;
+        replica.put(1, item.key.as_bytes(), &item.value, &NO_CONTEXT)?;
         Ok(())
     })?;
     let gets = measure(keys, |item| {

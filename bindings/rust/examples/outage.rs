@@ -35,11 +35,11 @@ fn values(replica: &Replica, key: &[u8]) -> Result<String, Refusal> {
 
 fn main() -> Result<(), Refusal> {
     let (mut a, mut b) = (Replica::new(Config::default())?, Replica::new(Config::default())?);
-    a.put(A, b"order", Some(b"paid"), &Clock::new())?;
+    a.put(A, b"order", b"paid", &Clock::new())?;
     sync(&mut b, &mut a, A)?;
-    a.put(A, b"cart", Some(b"milk"), &Clock::new())?;
-    a.put(A, b"gift", Some(b"wrapped"), &Clock::new())?;
-    b.put(B, b"cart", Some(b"eggs"), &Clock::new())?;
+    a.put(A, b"cart", b"milk", &Clock::new())?;
+    a.put(A, b"gift", b"wrapped", &Clock::new())?;
+    b.put(B, b"cart", b"eggs", &Clock::new())?;
     println!("a has {} keys, b has {}", a.keys().count(), b.keys().count());
     println!("roots equal: {}", equal(&mut a, &mut b)?);
     println!("b took {}", count(sync(&mut b, &mut a, A)?.accepted));
@@ -50,7 +50,7 @@ fn main() -> Result<(), Refusal> {
     }
     let versions = a.get(b"cart")?;
     let context = merge(versions.iter().map(|version| &version.clock))?;
-    a.put(A, b"cart", Some(b"milk, eggs"), &context)?;
+    a.put(A, b"cart", b"milk, eggs", &context)?;
     sync(&mut b, &mut a, A)?;
     println!("merged: {}", values(&b, b"cart")?);
     println!("roots equal: {}", equal(&mut a, &mut b)?);

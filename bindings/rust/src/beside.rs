@@ -61,7 +61,7 @@ impl<L: Lock> Access for Shared<'_, L> {
 /// use antientropy::{snapshot_beside, Clock, Config, Refusal, Replica};
 /// let shared = RwLock::new(Replica::new(Config::default())?);
 /// thread::scope(|scope| {
-///     scope.spawn(|| shared.write().unwrap().put(1, b"cart", Some(b"milk"), &Clock::new()));
+///     scope.spawn(|| shared.write().unwrap().put(1, b"cart", b"milk", &Clock::new()));
 ///     scope.spawn(|| shared.read().unwrap().get(b"cart")); // threads read at once
 ///     let snapshot = snapshot_beside(&shared)?;
 ///     assert!(snapshot.entries() <= 1);
@@ -90,7 +90,7 @@ pub fn exchange_beside<L: Lock>(shared: &L, partner: u16, offer: &[u8], bounds: 
 ///
 /// use antientropy::{sync_beside, Bounds, Clock, Config, Replica};
 /// let (mut a, b) = (Replica::new(Config::default())?, Mutex::new(Replica::new(Config::default())?));
-/// a.put(1, b"cart", Some(b"milk"), &Clock::new())?;
+/// a.put(1, b"cart", b"milk", &Clock::new())?;
 /// let offered = a.snapshot()?;
 /// let offer = offered.offer(7)?;
 /// let synced = sync_beside(&b, Bounds::default(), 1, &offer, |asks| {
@@ -132,7 +132,7 @@ pub fn renew_beside<L: Lock>(shared: &L, limit: u64) -> Result<(), Refusal> {
 /// let shared = RwLock::new(Replica::new(Config { limit: 10, ..Config::default() })?);
 /// let mut context = Clock::new();
 /// for _ in 0..100 {
-///     let receipt = shared.write().unwrap().put(1, b"cart", Some(b"milk"), &context)?;
+///     let receipt = shared.write().unwrap().put(1, b"cart", b"milk", &context)?;
 ///     context = Clock::from([(1, receipt.counter)]);
 ///     renew_if_due(&shared)?; // better in a thread of its own
 /// }

@@ -92,7 +92,7 @@ impl From<Refusal> for CheckpointError {
 }
 
 /// Writes the checkpoint of a snapshot.
-pub(crate) fn save(snapshot: &Snapshot, file: &mut (impl Write + ?Sized)) -> Result<(), CheckpointError> {
+pub(crate) fn save(snapshot: &Snapshot, file: &mut impl Write) -> Result<(), CheckpointError> {
     file.write_all(MAGIC)?;
     file.write_all(&[snapshot.format(), snapshot.bits()])?;
     file.write_all(&snapshot.range().to_be_bytes())?;
@@ -107,7 +107,7 @@ pub(crate) fn save(snapshot: &Snapshot, file: &mut (impl Write + ?Sized)) -> Res
 }
 
 /// Returns a replica with the rows of a checkpoint.
-pub(crate) fn load(file: &mut (impl Read + ?Sized), limit: u64) -> Result<Replica, CheckpointError> {
+pub(crate) fn load(file: &mut impl Read, limit: u64) -> Result<Replica, CheckpointError> {
     if &read_array(file)? != MAGIC {
         return Err(Damage::NotCheckpoint.into());
     }
@@ -132,7 +132,7 @@ fn leaves(format: u8) -> Result<u16, Damage> {
     }
 }
 
-fn load_leaves(replica: &mut Replica, file: &mut (impl Read + ?Sized), leaves: u16) -> Result<(), CheckpointError> {
+fn load_leaves(replica: &mut Replica, file: &mut impl Read, leaves: u16) -> Result<(), CheckpointError> {
     for leaf in 0..leaves {
         let len = u64::from_be_bytes(read_array(file)?);
         let rows = read(file, len)?;
@@ -155,7 +155,7 @@ fn load_rows(replica: &mut Replica, leaf: u16, rows: &[u8]) -> Result<(), Checkp
 }
 
 /// Reads `len` bytes. A damaged length may be huge, so the memory grows with the bytes that are there.
-fn read(file: &mut (impl Read + ?Sized), len: u64) -> Result<Vec<u8>, CheckpointError> {
+fn read(file: &mut impl Read, len: u64) -> Result<Vec<u8>, CheckpointError> {
     let mut bytes = Vec::new();
     file.take(len).read_to_end(&mut bytes)?;
     if bytes.len() as u64 == len {
@@ -166,7 +166,7 @@ fn read(file: &mut (impl Read + ?Sized), len: u64) -> Result<Vec<u8>, Checkpoint
 }
 
 /// Reads the bytes of a field.
-fn read_array<const N: usize>(file: &mut (impl Read + ?Sized)) -> Result<[u8; N], CheckpointError> {
+fn read_array<const N: usize>(file: &mut impl Read) -> Result<[u8; N], CheckpointError> {
     let mut bytes = [0; N];
     match file.read_exact(&mut bytes) {
         Ok(()) => Ok(bytes),

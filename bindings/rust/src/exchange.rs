@@ -19,7 +19,7 @@ use crate::values::{cause_of, Bounds, Progress, Verdict};
 /// ```
 /// use antientropy::{Bounds, Clock, Config, Replica, Report};
 /// let (mut a, mut b) = (Replica::new(Config::default())?, Replica::new(Config::default())?);
-/// a.put(1, b"cart", Some(b"milk"), &Clock::new())?;
+/// a.put(1, b"cart", b"milk", &Clock::new())?;
 /// let offered = a.snapshot()?;
 /// let mut exchange = b.exchange(1, &offered.offer(7)?, Bounds::default())?;
 /// while exchange.progress(&b)?.report == Report::Waiting {

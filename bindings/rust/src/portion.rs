@@ -15,7 +15,7 @@ use crate::sys;
 /// use antientropy::{Clock, Config, Replica};
 /// let shared = Mutex::new(Replica::new(Config::default())?);
 /// let locked = || shared.lock().unwrap();
-/// locked().put(1, b"cart", Some(b"milk"), &Clock::new())?;
+/// locked().put(1, b"cart", b"milk", &Clock::new())?;
 /// locked().hold()?;
 /// let snapshot = loop {
 ///     let mut portion = locked().take_portion(64)?;

@@ -10,7 +10,7 @@ use crate::sys;
 const NAME_ROOM: usize = 64;
 
 macro_rules! refusals {
-    ($($(#[$doc:meta])* $name:ident = $number:literal,)*) => {
+    ($(#[doc = $doc:literal] $name:ident = $number:literal,)*) => {
         /// The cause for which the library refused a call. Except as the header says, a refused call changes nothing.
         ///
         /// The page `docs/FORMATS.md` says what to do at each cause.
@@ -19,12 +19,13 @@ macro_rules! refusals {
         /// use antientropy::Refusal;
         /// assert_eq!(Refusal::from(6), Refusal::StaleContext);
         /// assert_eq!(Refusal::StaleContext.number(), 6);
-        /// assert_eq!(Refusal::StaleContext.to_string(), "StaleContext");
+        /// assert_eq!(Refusal::StaleContext.name(), "StaleContext");
+        /// assert_eq!(Refusal::BadKey.to_string(), "the key has no byte, or over 255");
         /// ```
         #[derive(Clone, Copy, Debug, PartialEq, Eq, Hash)]
         #[non_exhaustive]
         pub enum Refusal {
-            $($(#[$doc])* $name,)*
+            $(#[doc = $doc] $name,)*
             /// A number that this crate doesn't know.
             Other(u32),
         }
@@ -46,6 +47,14 @@ macro_rules! refusals {
                     Refusal::Other(number) => number,
                 }
             }
+
+            /// Returns the sentence that is the variant's documentation, or no text for another number.
+            fn sentence(self) -> &'static str {
+                match self {
+                    $(Refusal::$name => $doc,)*
+                    Refusal::Other(_) => "",
+                }
+            }
         }
     };
 }
@@ -65,7 +74,7 @@ refusals! {
     StaleContext = 6,
     /// The key would have over 64 versions.
     Crowded = 7,
-    /// The journal has no room for the entries; of a renewal, or no numbers are left.
+    /// The journal has no room, or no numbers are left for a renewal's entries.
     JournalFull = 8,
     /// A key or an offer is of another range, or the rows are of two leaves.
     OtherRange = 9,
@@ -115,15 +124,24 @@ refusals! {
     BadPosition = 37,
 }
 
-/// Writes the name that the library has for the number.
+impl Refusal {
+    /// Returns the name that the library has for the number: no text if it has none.
+    #[must_use]
+    pub fn name(self) -> String {
+        // SAFETY: no handle; the rest as in `sys`.
+        let name =
+            unsafe { fill::<u8, NAME_ROOM>(|room, len, need| sys::antientropy_name(self.number(), room, len, need)) };
+        String::from_utf8_lossy(&name.unwrap_or_default()).into_owned()
+    }
+}
+
+/// Writes the cause as a sentence, without a capital letter and a full stop.
 impl fmt::Display for Refusal {
     fn fmt(&self, out: &mut fmt::Formatter<'_>) -> fmt::Result {
-        let number = self.number();
-        // SAFETY: no handle; the rest as in `sys`.
-        let name = unsafe { fill::<u8, NAME_ROOM>(|room, len, need| sys::antientropy_name(number, room, len, need)) };
-        match name {
-            Ok(name) if !name.is_empty() => out.write_str(&String::from_utf8_lossy(&name)),
-            _ => write!(out, "refusal {number}"),
+        let sentence = self.sentence().trim().trim_end_matches('.');
+        match sentence.chars().next() {
+            Some(first) => write!(out, "{}{}", first.to_lowercase(), &sentence[first.len_utf8()..]),
+            None => write!(out, "refusal {}", self.number()),
         }
     }
 }

@@ -74,10 +74,10 @@ impl Default for Config {
 /// ```
 /// use antientropy::{merge, Clock, Config, Replica};
 /// let mut replica = Replica::new(Config::default())?;
-/// replica.put(1, b"cart", Some(b"milk"), &Clock::new())?;
+/// replica.put(1, b"cart", b"milk", &Clock::new())?;
 /// let versions = replica.get(b"cart")?;
 /// let context = merge(versions.iter().map(|version| &version.clock))?;
-/// replica.put(1, b"cart", Some(b"milk, eggs"), &context)?;
+/// replica.put(1, b"cart", b"milk, eggs", &context)?;
 /// assert_eq!(replica.count_versions(b"cart")?, 1);
 /// # Ok::<(), antientropy::Refusal>(())
 /// ```
@@ -147,7 +147,7 @@ impl Replica {
     /// let mut replica = Replica::new(Config { limit: 10, ..Config::default() })?;
     /// let mut context = Clock::new();
     /// while !replica.is_renewal_due()? {
-    ///     let receipt = replica.put(1, b"cart", Some(b"milk"), &context)?;
+    ///     let receipt = replica.put(1, b"cart", b"milk", &context)?;
     ///     context = Clock::from([(1, receipt.counter)]);
     /// }
     /// assert_eq!(replica.count()?.entries, 9);
@@ -206,30 +206,47 @@ impl Replica {
 
 /// Versions.
 impl Replica {
-    /// Puts a value, or a tombstone for `None`, at a node, after a read: the context is the clock of all that was read.
+    /// Puts a value at a node, after a read: the context is the clock of all that was read.
     ///
     /// The new version replaces each held version whose clock is at most its clock. The client has read each of these:
     /// `StaleContext` means that a held version has a greater counter of the node than the context, so another client
     /// has put in between. Read again then.
     ///
-    /// Refused as `BadClock`, `ClockFull`, `BadKey`, `BadValue`, `OtherRange`, `CounterFull`, `StaleContext`, `Crowded`
-    /// or `JournalFull`.
-    pub fn put(&mut self, node: u16, key: &[u8], value: Option<&[u8]>, context: &Clock) -> Result<Receipt, Refusal> {
-        self.put_by(sys::antientropy_put_read, node, key, value, context)
+    /// # Errors
+    ///
+    /// `BadClock`, `ClockFull`, `BadKey`, `BadValue`, `OtherRange`, `CounterFull`, `StaleContext`, `Crowded` or
+    /// `JournalFull`.
+    pub fn put(&mut self, node: u16, key: &[u8], value: &[u8], context: &Clock) -> Result<Receipt, Refusal> {
+        self.put_by(sys::antientropy_put_read, node, key, Some(value), context)
+    }
+
+    /// Puts a tombstone at a node, after a read, as [`put`](Replica::put) puts a value.
+    ///
+    /// # Errors
+    ///
+    /// As of `put`, and `BadValue` in format 1, which has no tombstones.
+    pub fn delete(&mut self, node: u16, key: &[u8], context: &Clock) -> Result<Receipt, Refusal> {
+        self.put_by(sys::antientropy_put_read, node, key, None, context)
     }
 
     /// Puts as [`put`](Replica::put) does, for a caller that has made its check itself.
     ///
-    /// The new version replaces even a held version that the client hasn't read. Refused as `put`, but as
-    /// `StaleContext` only if a held version has seen all of the new version's clock.
-    pub fn put_unread(
-        &mut self,
-        node: u16,
-        key: &[u8],
-        value: Option<&[u8]>,
-        context: &Clock,
-    ) -> Result<Receipt, Refusal> {
-        self.put_by(sys::antientropy_put, node, key, value, context)
+    /// The new version replaces even a held version that the client hasn't read.
+    ///
+    /// # Errors
+    ///
+    /// As of `put`, but `StaleContext` only if a held version has seen all of the new version's clock.
+    pub fn put_unread(&mut self, node: u16, key: &[u8], value: &[u8], context: &Clock) -> Result<Receipt, Refusal> {
+        self.put_by(sys::antientropy_put, node, key, Some(value), context)
+    }
+
+    /// Puts a tombstone as [`put_unread`](Replica::put_unread) puts a value.
+    ///
+    /// # Errors
+    ///
+    /// As of `put_unread`, and `BadValue` in format 1, which has no tombstones.
+    pub fn delete_unread(&mut self, node: u16, key: &[u8], context: &Clock) -> Result<Receipt, Refusal> {
+        self.put_by(sys::antientropy_put, node, key, None, context)
     }
 
     /// Makes one of the two calls that put.
@@ -360,7 +377,7 @@ impl Replica {
     /// ```
     /// # use antientropy::{Clock, Config, Replica};
     /// # let mut replica = Replica::new(Config::default())?;
-    /// replica.put(1, b"cart", Some(b"milk"), &Clock::new())?;
+    /// replica.put(1, b"cart", b"milk", &Clock::new())?;
     /// let keys: Result<Vec<_>, _> = replica.keys().collect();
     /// assert_eq!(keys?, [b"cart"]);
     /// # Ok::<(), antientropy::Refusal>(())
@@ -417,9 +434,9 @@ impl Replica {
     /// ```
     /// # use antientropy::{Clock, Config, Replica};
     /// # let mut replica = Replica::new(Config::default())?;
-    /// replica.put(1, b"cart", Some(b"milk"), &Clock::new())?;
+    /// replica.put(1, b"cart", b"milk", &Clock::new())?;
     /// let logged = replica.count()?.entries;
-    /// replica.put(1, b"gift", Some(b"wrapped"), &Clock::new())?;
+    /// replica.put(1, b"gift", b"wrapped", &Clock::new())?;
     /// for entry in replica.entries(logged)? {
     ///     assert_eq!(entry?.key, b"gift");
     /// }
@@ -438,7 +455,7 @@ impl Replica {
     /// # use std::io::Write;
     /// # use antientropy::{Clock, Config, Replica};
     /// # let (mut replica, mut log, mut logged) = (Replica::new(Config::default())?, Vec::new(), 0);
-    /// replica.put(1, b"cart", Some(b"milk"), &Clock::new())?;
+    /// replica.put(1, b"cart", b"milk", &Clock::new())?;
     /// loop {
     ///     let packed = replica.packed_entries(logged)?;
     ///     if packed.bytes.is_empty() {
@@ -465,7 +482,7 @@ impl Replica {
     /// ```
     /// # use antientropy::{Clock, Config, Replica};
     /// # let mut replica = Replica::new(Config::default())?;
-    /// replica.put(1, b"cart", Some(b"milk"), &Clock::new())?;
+    /// replica.put(1, b"cart", b"milk", &Clock::new())?;
     /// assert_eq!(replica.top_counter(1, b"cart", u64::MAX)?, 1);
     /// # Ok::<(), antientropy::Refusal>(())
     /// ```
@@ -509,7 +526,7 @@ impl Replica {
     /// ```
     /// # use antientropy::{Clock, Config, Replica};
     /// # let mut replica = Replica::new(Config::default())?;
-    /// replica.put(1, b"cart", Some(b"milk"), &Clock::new())?;
+    /// replica.put(1, b"cart", b"milk", &Clock::new())?;
     /// while replica.rehash_some(100)? > 0 {}
     /// replica.snapshot_if_clean()?;
     /// # Ok::<(), antientropy::Refusal>(())
@@ -578,14 +595,14 @@ impl Replica {
     /// ```
     /// # use antientropy::{Clock, Config, Replica};
     /// # let mut replica = Replica::new(Config::default())?;
-    /// # replica.put(1, b"cart", Some(b"milk"), &Clock::new())?;
+    /// # replica.put(1, b"cart", b"milk", &Clock::new())?;
     /// let mut file = Vec::new();
     /// assert_eq!(replica.save(&mut file)?, 1);
     /// let mut loaded = Replica::load(&mut file.as_slice(), 1_000_000)?;
     /// assert_eq!(loaded.root()?, replica.root()?);
     /// # Ok::<(), Box<dyn std::error::Error>>(())
     /// ```
-    pub fn save(&mut self, file: &mut (impl Write + ?Sized)) -> Result<u64, CheckpointError> {
+    pub fn save<W: Write>(&mut self, file: W) -> Result<u64, CheckpointError> {
         let snapshot = self.snapshot()?;
         snapshot.save(file)?;
         Ok(snapshot.entries())
@@ -595,8 +612,8 @@ impl Replica {
     ///
     /// The root finds damage, but no forged file. Compare [`about`](Replica::about) with your configuration. Entries
     /// are numbered from 0. Refused as `BadRing` (the file's bits or range, or the limit) or `JournalFull`.
-    pub fn load(file: &mut (impl Read + ?Sized), limit: u64) -> Result<Replica, CheckpointError> {
-        checkpoint::load(file, limit)
+    pub fn load<R: Read>(mut file: R, limit: u64) -> Result<Replica, CheckpointError> {
+        checkpoint::load(&mut file, limit)
     }
 }
 
@@ -614,9 +631,9 @@ impl Replica {
     /// ```
     /// # use antientropy::{Clock, Config, Replica};
     /// # let mut replica = Replica::new(Config::default())?;
-    /// replica.put(1, b"cart", Some(b"milk"), &Clock::new())?;
+    /// replica.put(1, b"cart", b"milk", &Clock::new())?;
     /// replica.hold()?;
-    /// replica.put(1, b"gift", Some(b"wrapped"), &Clock::new())?;
+    /// replica.put(1, b"gift", b"wrapped", &Clock::new())?;
     /// while replica.hash_moment(100)? > 0 {} // other calls may be made between
     /// assert_eq!((replica.moment()?.entries(), replica.count()?.front), (1, 1));
     /// # Ok::<(), antientropy::Refusal>(())
@@ -716,7 +733,7 @@ impl Replica {
     /// ```
     /// # use antientropy::{Clock, Config, Replica};
     /// # let (mut a, mut b) = (Replica::new(Config::default())?, Replica::new(Config::default())?);
-    /// a.put(1, b"cart", Some(b"milk"), &Clock::new())?;
+    /// a.put(1, b"cart", b"milk", &Clock::new())?;
     /// let offered = a.snapshot()?;
     /// let offer = offered.offer(7)?;
     /// let synced = b.sync(1, &offer, |asks| asks.iter().map(|ask| offered.serve(7, ask).ok()).collect())?;
@@ -766,7 +783,7 @@ pub struct RowsRefused {
 impl fmt::Display for RowsRefused {
     fn fmt(&self, out: &mut fmt::Formatter<'_>) -> fmt::Result {
         match self.offset {
-            Some(offset) => write!(out, "{} at byte {}", self.refusal, offset),
+            Some(offset) => write!(out, "{}, at byte {}", self.refusal, offset),
             None => self.refusal.fmt(out),
         }
     }

@@ -17,7 +17,7 @@ use crate::values::{About, Root};
 /// ```
 /// use antientropy::{read_offer, Clock, Config, Replica};
 /// let mut replica = Replica::new(Config::default())?;
-/// replica.put(1, b"cart", Some(b"milk"), &Clock::new())?;
+/// replica.put(1, b"cart", b"milk", &Clock::new())?;
 /// let snapshot = replica.snapshot()?;
 /// let offer = snapshot.offer(7)?;
 /// assert_eq!(read_offer(&offer)?.root, snapshot.root()?);
@@ -46,7 +46,7 @@ impl Snapshot {
     /// ```
     /// # use antientropy::{Clock, Config, Replica};
     /// # let mut replica = Replica::new(Config::default())?;
-    /// replica.put(1, b"cart", Some(b"milk"), &Clock::new())?;
+    /// replica.put(1, b"cart", b"milk", &Clock::new())?;
     /// let snapshot = replica.snapshot()?;
     /// let shared = snapshot.share()?;
     /// let reader = std::thread::spawn(move || shared.row(b"cart"));
@@ -153,7 +153,7 @@ impl Snapshot {
     }
 
     /// Writes a checkpoint of the rows (`docs/FORMATS.md`).
-    pub fn save(&self, file: &mut (impl Write + ?Sized)) -> Result<(), CheckpointError> {
-        checkpoint::save(self, file)
+    pub fn save<W: Write>(&self, mut file: W) -> Result<(), CheckpointError> {
+        checkpoint::save(self, &mut file)
     }
 }

@@ -53,9 +53,9 @@ impl Write for Broken {
 
 fn shopping() -> Replica {
     let mut replica = with_limit(1000);
-    replica.put(1, b"cart", Some(&b"milk".repeat(1000)), &NONE).unwrap();
+    replica.put(1, b"cart", &b"milk".repeat(1000), &NONE).unwrap();
     replica.accept(b"cart", &live([(2, 1)], b"eggs")).unwrap();
-    replica.put(1, b"list", None, &NONE).unwrap();
+    replica.delete(1, b"list", &NONE).unwrap();
     replica
 }
 
@@ -92,7 +92,7 @@ fn find(file: &[u8], word: &[u8]) -> usize {
 #[test]
 fn checkpoint_of_the_page() {
     let mut replica = Replica::new(Config { format: 1, ..Config::default() }).unwrap();
-    replica.put(1, b"a", Some(b"x"), &NONE).unwrap();
+    replica.put(1, b"a", b"x", &NONE).unwrap();
     let mut file = Vec::new();
     assert_eq!(replica.save(&mut file).unwrap(), 1);
     let row = replica.row(b"a").unwrap().unwrap();
@@ -124,7 +124,7 @@ fn range_of_the_file() {
 fn log_after_the_checkpoint() {
     let mut replica = shopping();
     let logged = replica.save(&mut Vec::new()).unwrap();
-    replica.put(1, b"later", Some(b""), &Clock::new()).unwrap();
+    replica.put(1, b"later", b"", &Clock::new()).unwrap();
     assert_eq!(replica.entries(logged).unwrap().map(|entry| entry.unwrap().key).collect::<Vec<_>>(), [b"later"]);
 }
 
@@ -196,5 +196,5 @@ fn huge_length() {
 fn limit() {
     let error = Replica::load(&mut saved().as_slice(), 2).err().unwrap();
     assert!(matches!(error, CheckpointError::Refused(Refusal::JournalFull)));
-    assert_eq!(error.to_string(), "the checkpoint is refused: JournalFull");
+    assert_eq!(error.to_string(), format!("the checkpoint is refused: {}", Refusal::JournalFull));
 }

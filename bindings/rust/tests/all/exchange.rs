@@ -81,11 +81,11 @@ fn a_sync_under_a_deadline() {
     let mut b = Replica::new(Config::default()).unwrap();
     let keys: Vec<_> = (0..100_000).map(|n| format!("key {n}").into_bytes()).collect();
     for key in &keys {
-        b.put(1, key, Some(&[b'o'; 100]), &NONE).unwrap();
+        b.put(1, key, &[b'o'; 100], &NONE).unwrap();
     }
     let mut a = b.renew(1_000_000).unwrap();
     for key in &keys[..1_100] {
-        a.put(1, key, Some(&[b'n'; 100]), &Clock::from([(1, 1)])).unwrap();
+        a.put(1, key, &[b'n'; 100], &Clock::from([(1, 1)])).unwrap();
     }
     let snapshot = a.snapshot().unwrap();
     let offer = snapshot.offer(7).unwrap();
@@ -98,7 +98,7 @@ fn a_sync_under_a_deadline() {
             exchange.take(&mut b, &answer).unwrap();
         }
         ticks += 1;
-        b.put(2, format!("own {ticks}").as_bytes(), Some(b""), &NONE).unwrap();
+        b.put(2, format!("own {ticks}").as_bytes(), b"", &NONE).unwrap();
     }
     let progress = exchange.progress(&b).unwrap();
     assert_eq!((progress.report, progress.accepted, sessions(&b)), (Report::Finished, 1_100, (1, 0)));

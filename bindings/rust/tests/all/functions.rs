@@ -60,5 +60,5 @@ fn refusals() {
     assert_eq!((Refusal::Other(99).number(), Refusal::Crowded.number()), (99, 7));
     assert_eq!(Refusal::Other(99).to_string(), "refusal 99");
     let error: Box<dyn std::error::Error + Send + Sync> = Refusal::Crowded.into();
-    assert_eq!(error.to_string(), "Crowded");
+    assert_eq!(error.to_string(), "the key would have over 64 versions");
 }

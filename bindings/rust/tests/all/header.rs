@@ -157,7 +157,7 @@ fn refusals_have_the_names_of_the_header() {
     for (name, number) in causes.split(',').filter_map(|cause| cause.split_once(" = ")) {
         let refusal = Refusal::from(number.trim().parse::<u32>().unwrap());
         let name = camel(name.trim().strip_prefix("ANTIENTROPY_").unwrap());
-        assert_eq!((format!("{refusal:?}"), refusal.to_string()), (name.clone(), name));
+        assert_eq!((format!("{refusal:?}"), refusal.name()), (name.clone(), name));
         count += 1;
     }
     let all = (1..256).filter(|number| !matches!(Refusal::from(*number), Refusal::Other(_))).count();

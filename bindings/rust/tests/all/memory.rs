@@ -34,11 +34,11 @@ fn replicas_snapshots_and_portions() {
     assert_freed(VALUE.len() * usize::from(KEYS), || {
         let mut replica = replica();
         for n in 0..KEYS {
-            replica.put(1, &[n], Some(VALUE), &NONE).unwrap();
+            replica.put(1, &[n], VALUE, &NONE).unwrap();
         }
         let snapshot = replica.snapshot().unwrap().share().unwrap();
         replica.renew_in_place(1_000).unwrap();
-        replica.put(1, b"later", Some(VALUE), &NONE).unwrap();
+        replica.put(1, b"later", VALUE, &NONE).unwrap();
         replica.hold().unwrap();
         let mut portion = replica.take_portion(u64::MAX).unwrap();
         drop(replica);

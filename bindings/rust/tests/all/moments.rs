@@ -13,7 +13,7 @@ fn snapshots() {
     let snapshot = replica.snapshot().unwrap();
     let root = snapshot.root().unwrap();
     assert_eq!((snapshot.format(), snapshot.bits(), snapshot.range(), snapshot.entries()), (2, 0, 0, 50));
-    replica.put(1, b"later", Some(b""), &NONE).unwrap();
+    replica.put(1, b"later", b"", &NONE).unwrap();
     assert_ne!(replica.root().unwrap(), root);
     drop(replica);
     let parts = read_offer(&snapshot.offer(8).unwrap()).unwrap();
@@ -51,7 +51,7 @@ fn a_moment() {
     let mut replica = filled(50);
     let dirty = replica.count().unwrap().dirty;
     replica.hold().unwrap();
-    replica.put(1, b"later", Some(b""), &NONE).unwrap();
+    replica.put(1, b"later", b"", &NONE).unwrap();
     assert_eq!(replica.hash_moment(0), Ok(dirty));
     assert_eq!(replica.hash_moment(10), Ok(dirty - 10));
     let mut portion = replica.take_portion(10).unwrap();
@@ -88,10 +88,10 @@ fn no_moment_is_left() {
     assert_no_moment(&mut replica, 50);
     assert_eq!(replica.sync(2, &offer, |asks| serve(&snapshot, 1, asks)).unwrap().asks, 0);
     assert_no_moment(&mut replica, 50);
-    replica.put(1, b"later", Some(b""), &NONE).unwrap();
+    replica.put(1, b"later", b"", &NONE).unwrap();
     assert_eq!(replica.exchange(2, b"", Bounds::default()).unwrap_err(), Refusal::BadMessage);
     assert_no_moment(&mut replica, 51);
-    replica.put(1, b"last", Some(b""), &NONE).unwrap();
+    replica.put(1, b"last", b"", &NONE).unwrap();
     replica.exchange(2, &offer, Bounds::default()).unwrap().close(&mut replica).unwrap();
     assert_no_moment(&mut replica, 52);
 }
@@ -101,7 +101,7 @@ fn an_exchange_at_the_moment() {
     let offer = filled(50).snapshot().unwrap().offer(7).unwrap();
     let mut replica = filled(50);
     replica.hold().unwrap();
-    replica.put(2, b"later", Some(b""), &NONE).unwrap();
+    replica.put(2, b"later", b"", &NONE).unwrap();
     while replica.hash_moment(10).unwrap() > 0 {}
     let mut exchange = replica.exchange_at_moment(1, &offer, Bounds::default()).unwrap();
     assert_eq!(exchange.progress(&replica).unwrap().report, Report::Finished);
@@ -141,7 +141,7 @@ struct Busy {
 impl AsMut<Replica> for Busy {
     fn as_mut(&mut self) -> &mut Replica {
         self.locked += 1;
-        self.replica.put(2, &self.locked.to_be_bytes(), Some(b""), &NONE).unwrap();
+        self.replica.put(2, &self.locked.to_be_bytes(), b"", &NONE).unwrap();
         self.replica.drop_sessions().unwrap();
         if self.locked == 2 {
             self.replica.drop_moment().unwrap();

@@ -29,7 +29,7 @@ impl<'a> Writer<'a> {
         let (key, counter) = (self.puts % self.keys, self.puts / self.keys);
         let context = if counter > 0 { Clock::from([(1, counter)]) } else { NONE };
         let receipt = loop {
-            match self.shared.write().unwrap().put(1, &key.to_be_bytes(), Some(b"value"), &context) {
+            match self.shared.write().unwrap().put(1, &key.to_be_bytes(), b"value", &context) {
                 Err(Refusal::JournalFull) => thread::yield_now(),
                 result => break result.unwrap(),
             }
@@ -68,15 +68,15 @@ impl<'a> Writer<'a> {
 #[test]
 fn a_renewal_in_place() {
     let mut replica = with_limit(10);
-    replica.put(1, b"cart", Some(b"milk"), &NONE).unwrap();
-    replica.put(1, b"cart", Some(b"eggs"), &Clock::from([(1, 1)])).unwrap();
+    replica.put(1, b"cart", b"milk", &NONE).unwrap();
+    replica.put(1, b"cart", b"eggs", &Clock::from([(1, 1)])).unwrap();
     let root = replica.root().unwrap();
     replica.renew_in_place(5).unwrap();
     let counts = replica.count().unwrap();
     assert_eq!((counts.entries, counts.first, counts.limit), (2, 1, 5));
     assert_eq!(replica.root(), Ok(root));
     assert_eq!(replica.entries(2).unwrap().count(), 0);
-    assert_eq!(replica.put(1, b"gift", Some(b"toys"), &NONE).unwrap().number, 2);
+    assert_eq!(replica.put(1, b"gift", b"toys", &NONE).unwrap().number, 2);
     assert_eq!(replica.entries(2).unwrap().next().unwrap().unwrap().key, b"gift");
     assert_refused(Refusal::BadPosition, &mut replica, |replica| replica.packed_entries(0));
     assert_refused(Refusal::Dirty, &mut replica, |replica| replica.moment());
@@ -145,7 +145,7 @@ fn put_more(replica: &mut Replica, puts: u64) {
     let entries = replica.count().unwrap().entries;
     for counter in entries..entries + puts {
         let context = if counter > 0 { Clock::from([(1, counter)]) } else { NONE };
-        replica.put(1, b"key", Some(b""), &context).unwrap();
+        replica.put(1, b"key", b"", &context).unwrap();
     }
 }
 
@@ -207,12 +207,10 @@ fn a_replica_that_is_renewed_when_it_is_due() {
 fn rows_fill_a_journal() {
     let (shared, mut renewals) = (Mutex::new(with_limit(100)), 0);
     for n in 0..100_u32 {
-        shared.lock().unwrap().put(1, &n.to_be_bytes(), Some(b""), &NONE).unwrap();
+        shared.lock().unwrap().put(1, &n.to_be_bytes(), b"", &NONE).unwrap();
         renewals += u32::from(renew_if_due(&shared).unwrap());
     }
     assert_eq!(renewals, 5, "at 90, 95, 98, 99 and 100 entries");
     assert_eq!(renew_if_due(&shared), Ok(false));
-    assert_refused(Refusal::JournalFull, &mut shared.lock().unwrap(), |replica| {
-        replica.put(1, b"last", Some(b""), &NONE)
-    });
+    assert_refused(Refusal::JournalFull, &mut shared.lock().unwrap(), |replica| replica.put(1, b"last", b"", &NONE));
 }

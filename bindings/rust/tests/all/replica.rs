@@ -8,7 +8,7 @@ use crate::support::{assert_refused, crowd, filled, live, replica, state, with_l
 #[test]
 fn put_and_read() {
     let mut replica = replica();
-    assert_eq!(replica.put(1, b"cart", Some(b"milk"), &NONE), Ok(Receipt { number: 0, counter: 1 }));
+    assert_eq!(replica.put(1, b"cart", b"milk", &NONE), Ok(Receipt { number: 0, counter: 1 }));
     assert_eq!(replica.accept(b"cart", &live([(2, 4)], b"eggs")), Ok(true));
     assert_eq!(replica.accept(b"cart", &live([(2, 4)], b"eggs")), Ok(false));
     let versions = replica.get(b"cart").unwrap();
@@ -37,8 +37,8 @@ fn nothing_is_held() {
 #[test]
 fn tombstones_and_empty_values() {
     let mut replica = replica();
-    replica.put(1, b"gone", None, &NONE).unwrap();
-    replica.put(1, b"empty", Some(b""), &NONE).unwrap();
+    replica.delete(1, b"gone", &NONE).unwrap();
+    replica.put(1, b"empty", b"", &NONE).unwrap();
     let gone = Version { clock: Clock::from([(1, 1)]), value: None };
     assert_eq!((gone.kind(), replica.get(b"gone").unwrap()), (Kind::Tombstone, vec![gone]));
     assert_eq!(replica.value(b"gone", 0), Ok(Some((Kind::Tombstone, vec![]))));
@@ -50,7 +50,7 @@ fn tombstones_and_empty_values() {
 fn long_values() {
     let mut replica = replica();
     let value: Vec<u8> = (0..65_536u32).map(|n| n as u8).collect();
-    replica.put(1, b"long", Some(&value), &NONE).unwrap();
+    replica.put(1, b"long", &value, &NONE).unwrap();
     assert_eq!(replica.get(b"long").unwrap()[0].value.as_deref(), Some(&value[..]));
     assert_eq!(replica.value(b"long", 0).unwrap().unwrap().1, value);
     assert_eq!(replica.entry(0).unwrap().unwrap().version.value, Some(value));
@@ -77,7 +77,7 @@ fn keys_and_entries() {
 fn put_often(replica: &mut Replica, key: &[u8], puts: u64) {
     for _ in 0..puts {
         let context = merge(replica.get(key).unwrap().iter().map(|version| &version.clock)).unwrap();
-        replica.put(1, key, Some(b"milk"), &context).unwrap();
+        replica.put(1, key, b"milk", &context).unwrap();
     }
 }
 
@@ -90,9 +90,9 @@ fn entries_of_all_kinds() {
     let first = || Replica::new(Config { format: 1, ..Config::default() }).unwrap();
     let (mut migrated, mut second) = (first(), replica());
     migrated.migrate().unwrap();
-    second.put(2, b"gone", None, &NONE).unwrap();
+    second.delete(2, b"gone", &NONE).unwrap();
     for mut replica in [first(), migrated, second] {
-        replica.put(1, b"cart", Some(b"milk"), &(2..=32).map(|node| (node, node)).collect()).unwrap();
+        replica.put(1, b"cart", b"milk", &(2..=32).map(|node| (node, node)).collect()).unwrap();
         replica.accept(&[b'k'; 255], &live([(1, 1), (65_535, u64::MAX)], &[b'v'; 4096])).unwrap();
         replica.accept(b"empty", &live([(3, 1)], b"")).unwrap();
         let entries = entries_of(&replica, 0);
@@ -106,7 +106,7 @@ fn entries_of_all_kinds() {
 #[test]
 fn packed_entries() {
     let mut replica = replica();
-    replica.put(1, b"a", Some(b"x"), &NONE).unwrap();
+    replica.put(1, b"a", b"x", &NONE).unwrap();
     let page = b"\x00\x00\x01a\x00\x01\x00\x01\x00\x01\x00\x00\x00\x00\x00\x00\x00\x01\x00\x00\x00\x01x";
     assert_eq!(replica.packed_entries(0), Ok(Packed { bytes: page.to_vec(), next: 1 }));
     assert_eq!(replica.packed_entries(1), Ok(Packed { bytes: vec![], next: 1 }));
@@ -116,7 +116,7 @@ fn packed_entries() {
 fn entries_of_several_calls() {
     let (mut replica, value) = (replica(), [b'v'; 65_536]);
     for n in 0..40 {
-        replica.put(1, &[n], Some(&value), &NONE).unwrap();
+        replica.put(1, &[n], &value, &NONE).unwrap();
     }
     let packed = replica.packed_entries(0).unwrap();
     assert_eq!((packed.bytes.len(), packed.next), (15 * (22 + value.len()), 15));
@@ -169,14 +169,14 @@ fn bad_positions() {
 fn two_clients() {
     let mut replica = replica();
     let both = Clock::from([(1, 1), (2, 1)]);
-    replica.put(1, b"cart", Some(b"milk"), &NONE).unwrap();
+    replica.put(1, b"cart", b"milk", &NONE).unwrap();
     replica.accept(b"cart", &live([(2, 1)], b"eggs")).unwrap();
-    replica.put(1, b"cart", Some(b"bread"), &Clock::from([(1, 1)])).unwrap();
-    assert_refused(Refusal::StaleContext, &mut replica, |replica| replica.put(1, b"cart", Some(b"tea"), &both));
+    replica.put(1, b"cart", b"bread", &Clock::from([(1, 1)])).unwrap();
+    assert_refused(Refusal::StaleContext, &mut replica, |replica| replica.put(1, b"cart", b"tea", &both));
     let tops = [u64::MAX, 3, 2].map(|entries| replica.top_counter(1, b"cart", entries).unwrap());
     assert_eq!(tops, [2, 2, 1]);
     assert_eq!(replica.top_counter(0, b"cart", 1), Err(Refusal::BadClock));
-    replica.put_unread(1, b"cart", Some(b"tea"), &both).unwrap();
+    replica.put_unread(1, b"cart", b"tea", &both).unwrap();
     assert_eq!(replica.get(b"cart").unwrap(), [live([(1, 2), (2, 1)], b"tea")]);
 }
 
@@ -190,8 +190,8 @@ fn keys_of_no_leaf() {
 #[test]
 fn counts_and_renewal() {
     let mut replica = with_limit(10);
-    let first = replica.put(1, b"cart", Some(b"milk"), &NONE).unwrap();
-    replica.put(1, b"cart", Some(b"eggs"), &Clock::from([(1, first.counter)])).unwrap();
+    let first = replica.put(1, b"cart", b"milk", &NONE).unwrap();
+    replica.put(1, b"cart", b"eggs", &Clock::from([(1, first.counter)])).unwrap();
     replica.rehash().unwrap();
     let counts = Counts { entries: 2, limit: 10, ..Counts::default() };
     assert_eq!(replica.count(), Ok(counts));
@@ -217,14 +217,14 @@ fn lengths(replica: &Replica) -> (u64, u64) {
 fn sizes_in_bytes() {
     let mut replica = replica();
     assert_eq!(replica.bytes(), Ok(Bytes::default()));
-    replica.put(1, b"cart", Some(b"milk"), &NONE).unwrap();
-    replica.put(1, b"cart", Some(b"milk, eggs"), &Clock::from([(1, 1), (7, 3)])).unwrap();
+    replica.put(1, b"cart", b"milk", &NONE).unwrap();
+    replica.put(1, b"cart", b"milk, eggs", &Clock::from([(1, 1), (7, 3)])).unwrap();
     replica.accept(b"list", &Version { clock: Clock::from([(2, 5)]), value: None }).unwrap();
     let snapshot = replica.snapshot().unwrap();
     let (rows, journal) = lengths(&replica);
     assert!(journal == 8 + 10 + 14 + 20 + 4 + 10 && rows != journal);
     assert_eq!(replica.bytes(), Ok(Bytes { rows, journal, sessions: 0 }));
-    replica.put(1, b"gift", Some(b"tea"), &NONE).unwrap();
+    replica.put(1, b"gift", b"tea", &NONE).unwrap();
     let (later, _) = lengths(&replica);
     assert_eq!(replica.bytes(), Ok(Bytes { rows: later, journal: journal + 17, sessions: 0 }));
     assert_eq!((snapshot.bytes(), later > rows), (Ok(rows), true));
@@ -249,7 +249,7 @@ fn rehash_by_steps() {
     let [mut replica, mut other] = [(); 2].map(|()| {
         let mut replica = Replica::new(Config { format: 1, ..Config::default() }).unwrap();
         for n in 0..50 {
-            replica.put(1, format!("key {n}").as_bytes(), Some(b"value"), &NONE).unwrap();
+            replica.put(1, format!("key {n}").as_bytes(), b"value", &NONE).unwrap();
         }
         replica
     });
@@ -267,11 +267,11 @@ fn rehash_by_steps() {
 #[test]
 fn migration() {
     let mut replica = Replica::new(Config { format: 1, ..Config::default() }).unwrap();
-    replica.put(1, b"cart", Some(b"milk"), &NONE).unwrap();
-    assert_refused(Refusal::BadValue, &mut replica, |replica| replica.put(1, b"cart", None, &NONE));
+    replica.put(1, b"cart", b"milk", &NONE).unwrap();
+    assert_refused(Refusal::BadValue, &mut replica, |replica| replica.delete(1, b"cart", &NONE));
     replica.migrate().unwrap();
     assert_eq!((replica.about().unwrap().format, replica.snapshot().unwrap().format()), (2, 2));
-    replica.put(1, b"cart", None, &Clock::from([(1, 1)])).unwrap();
+    replica.delete(1, b"cart", &Clock::from([(1, 1)])).unwrap();
 }
 
 #[test]
@@ -291,9 +291,9 @@ fn bad_rings() {
 #[test]
 fn a_seed_leaves_the_rows_unchanged() {
     let mut seeded = Replica::seeded(Config::default(), [1, 2]).unwrap();
-    seeded.put(1, b"cart", Some(b"milk"), &Clock::new()).unwrap();
+    seeded.put(1, b"cart", b"milk", &Clock::new()).unwrap();
     let mut plain = Replica::new(Config::default()).unwrap();
-    plain.put(1, b"cart", Some(b"milk"), &Clock::new()).unwrap();
+    plain.put(1, b"cart", b"milk", &Clock::new()).unwrap();
     assert_eq!(seeded.get(b"cart"), plain.get(b"cart"));
 }
 
@@ -301,7 +301,7 @@ fn a_seed_leaves_the_rows_unchanged() {
 fn refused_puts() {
     let mut replica = filled(1);
     let mut refused = |cause, node, key: &[u8], value: &[u8], context: &Clock| {
-        assert_refused(cause, &mut replica, |replica| replica.put(node, key, Some(value), context));
+        assert_refused(cause, &mut replica, |replica| replica.put(node, key, value, context));
     };
     refused(Refusal::BadClock, 0, b"key", b"", &NONE);
     refused(Refusal::BadClock, 1, b"key", b"", &Clock::from([(1, 0)]));
@@ -318,7 +318,7 @@ fn refused_puts() {
 fn other_range() {
     let range = 1 - place(2, 1, b"key").unwrap().range;
     let mut other = Replica::new(Config { bits: 1, range, ..Config::default() }).unwrap();
-    assert_refused(Refusal::OtherRange, &mut other, |other| other.put(1, b"key", Some(b""), &NONE));
+    assert_refused(Refusal::OtherRange, &mut other, |other| other.put(1, b"key", b"", &NONE));
     assert_refused(Refusal::OtherRange, &mut other, |other| other.accept(b"key", &live([(1, 1)], b"")));
 }
 
@@ -333,8 +333,8 @@ fn crowded() {
 #[test]
 fn journal_full() {
     let mut replica = with_limit(1);
-    replica.put(1, b"key", Some(b""), &NONE).unwrap();
-    assert_refused(Refusal::JournalFull, &mut replica, |replica| replica.put(1, b"other", Some(b""), &NONE));
+    replica.put(1, b"key", b"", &NONE).unwrap();
+    assert_refused(Refusal::JournalFull, &mut replica, |replica| replica.put(1, b"other", b"", &NONE));
 }
 
 #[test]
@@ -352,7 +352,7 @@ fn rows_of_before_a_migration() {
     let (mut from, mut again, mut to) = (first(), first(), replica());
     let mut rows = Vec::new();
     for key in [b"key 0", b"key 1", b"key 2"] {
-        from.put(1, key, Some(b"value"), &NONE).unwrap();
+        from.put(1, key, b"value", &NONE).unwrap();
         rows.append(&mut from.row(key).unwrap().unwrap());
     }
     assert_eq!(to.load_format(1, &rows).unwrap().taken, 3);
@@ -372,7 +372,7 @@ fn broken_rows() {
     let refused = replica.load_rows(&row[..row.len() - 1]).unwrap_err();
     assert_eq!(refused.refusal, Refusal::RowBroken);
     assert!(refused.offset.unwrap() < row.len() as u64);
-    assert_eq!(refused.to_string(), format!("RowBroken at byte {}", refused.offset.unwrap()));
+    assert_eq!(refused.to_string(), format!("the bytes aren't texts of rows, at byte {}", refused.offset.unwrap()));
     assert_refused(Refusal::RowBroken, &mut replica, |replica| Ok(replica.load_rows(b"?")?));
 }
 
@@ -382,5 +382,5 @@ fn rows_of_two_leaves() {
     let rows: Vec<u8> = [b"key 0", b"key 1"].iter().flat_map(|key| replica.row(*key).unwrap().unwrap()).collect();
     let refused = RowsRefused { refusal: Refusal::OtherRange, offset: None };
     assert_eq!(replica.load_rows(&rows), Err(refused));
-    assert_eq!(refused.to_string(), "OtherRange");
+    assert_eq!(refused.to_string(), Refusal::OtherRange.to_string());
 }

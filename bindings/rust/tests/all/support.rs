@@ -20,7 +20,7 @@ pub fn with_limit(limit: u64) -> Replica {
 pub fn filled(keys: usize) -> Replica {
     let mut replica = replica();
     for n in 0..keys {
-        replica.put(1, format!("key {n}").as_bytes(), Some(b"value"), &NONE).unwrap();
+        replica.put(1, format!("key {n}").as_bytes(), b"value", &NONE).unwrap();
     }
     replica
 }

@@ -34,7 +34,7 @@ fn lie(mut answer: Vec<u8>) -> Vec<u8> {
 #[test]
 fn both_ways() {
     let (mut a, mut b) = (filled(300), replica());
-    b.put(2, b"other", Some(b""), &NONE).unwrap();
+    b.put(2, b"other", b"", &NONE).unwrap();
     let few_at_once = |answers: Answers| {
         assert!(answers.len() <= 10);
         answers

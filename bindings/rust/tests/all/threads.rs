@@ -26,7 +26,7 @@ fn a_replica_moves_to_another_thread() {
     let mut replica = filled(100);
     let root = replica.root().unwrap();
     let moved = thread::spawn(move || {
-        replica.put(2, b"there", Some(b""), &NONE).unwrap();
+        replica.put(2, b"there", b"", &NONE).unwrap();
         replica
     });
     let mut replica = moved.join().unwrap();
@@ -38,7 +38,7 @@ fn a_replica_moves_to_another_thread() {
 fn a_lock_lets_threads_share_a_replica() {
     let shared = Mutex::new(replica());
     let put = |node: u16, n: u64| {
-        shared.lock().unwrap().put(node, format!("{node} {n}").as_bytes(), Some(b""), &NONE).unwrap();
+        shared.lock().unwrap().put(node, format!("{node} {n}").as_bytes(), b"", &NONE).unwrap();
     };
     thread::scope(|scope| {
         for node in 1..=4 {
@@ -67,7 +67,7 @@ fn threads_read_a_replica_at_once() {
             scope.spawn(|| while !keys.iter().all(|key| read(&shared.read().unwrap(), key)) {});
         }
         keys.iter().for_each(|key| {
-            shared.write().unwrap().put(1, key, Some(key), &NONE).unwrap();
+            shared.write().unwrap().put(1, key, key, &NONE).unwrap();
         });
         snapshot_beside(&shared).unwrap();
     });
@@ -89,7 +89,7 @@ fn one_thread_serves_a_snapshot_while_another_puts() {
     });
     let writer = thread::spawn(move || {
         for n in 0..500 {
-            a.put(1, format!("late {n}").as_bytes(), Some(b""), &NONE).unwrap();
+            a.put(1, format!("late {n}").as_bytes(), b"", &NONE).unwrap();
         }
     });
     let synced = b.sync(1, &offer, |some| {
@@ -118,7 +118,7 @@ fn threads_read_the_rows_of_a_snapshot() {
     let (root, leaf) = (first.root().unwrap(), place(2, 0, b"key 7").unwrap().leaf);
     let [second, third] = [(); 2].map(|()| first.share().unwrap());
     drop(first);
-    replica.put(1, b"later", Some(b""), &NONE).unwrap();
+    replica.put(1, b"later", b"", &NONE).unwrap();
     let reader = thread::spawn(move || rows(&second));
     assert_eq!(rows(&third), [keys, held]);
     assert_eq!(reader.join().unwrap(), rows(&third));
@@ -139,7 +139,7 @@ fn put_without_pause(replicas: [&Mutex<Replica>; 2], stop: &AtomicBool) {
         for (node, replica) in (1..).zip(replicas) {
             let mut replica = replica.lock().unwrap();
             let context = merge(replica.get(&key).unwrap().iter().map(|version| &version.clock)).unwrap();
-            replica.put(node, &key, Some(b"value"), &context).unwrap();
+            replica.put(node, &key, b"value", &context).unwrap();
         }
         if stop.load(Ordering::SeqCst) {
             return;
