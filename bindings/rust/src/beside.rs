@@ -52,7 +52,7 @@ impl<L: Lock> Access for Shared<'_, L> {
 /// Returns a snapshot of a replica that threads share. The lock is free while nodes are hashed, so other threads put.
 ///
 /// The rows are those of a moment of the call, and the replica keeps no moment then. Offer them when the entries that
-/// the snapshot counts are on the disk. Panics if the lock is poisoned.
+/// the snapshot counts are on the disk.
 ///
 /// ```
 /// use std::sync::RwLock;
@@ -69,13 +69,19 @@ impl<L: Lock> Access for Shared<'_, L> {
 /// })?;
 /// # Ok::<(), antientropy::Refusal>(())
 /// ```
+///
+/// # Panics
+///
+/// If the lock is poisoned.
 pub fn snapshot_beside<L: Lock>(shared: &L) -> Result<Snapshot, Refusal> {
     at_moment(&mut Shared(shared), |replica| replica.moment())
 }
 
 /// Opens an exchange of a shared replica, as [`Replica::exchange`] does. The lock is free while nodes are hashed.
 ///
-/// Panics if the lock is poisoned.
+/// # Panics
+///
+/// If the lock is poisoned.
 pub fn exchange_beside<L: Lock>(shared: &L, partner: u16, offer: &[u8], bounds: Bounds) -> Result<Exchange, Refusal> {
     Exchange::open(&mut Shared(shared), partner, offer, bounds)
 }
@@ -83,7 +89,7 @@ pub fn exchange_beside<L: Lock>(shared: &L, partner: u16, offer: &[u8], bounds: 
 /// Takes the versions of a partner's offer that a shared replica lacks, as [`Replica::sync_within`] does.
 ///
 /// The lock is free while nodes are hashed and while `reach` waits, so other threads put. A migration, or a renewed
-/// replica in the place of this one, ends the sync as [`Gone`](crate::Report::Gone). Panics if the lock is poisoned.
+/// replica in the place of this one, ends the sync as [`Gone`](crate::Report::Gone).
 ///
 /// ```
 /// use std::sync::Mutex;
@@ -99,6 +105,10 @@ pub fn exchange_beside<L: Lock>(shared: &L, partner: u16, offer: &[u8], bounds: 
 /// assert!(synced.finished() && synced.accepted == 1);
 /// # Ok::<(), antientropy::Refusal>(())
 /// ```
+///
+/// # Panics
+///
+/// If the lock is poisoned.
 pub fn sync_beside<L, R>(shared: &L, bounds: Bounds, partner: u16, offer: &[u8], reach: R) -> Result<Synced, Refusal>
 where
     L: Lock,
@@ -113,9 +123,14 @@ where
 /// meanwhile. Other threads wait only for its steps under the lock: some 64 entries at once, and a few at last. The
 /// numbers of entries go on: those since the moment keep theirs, and a log that has all entries before it reads on.
 ///
-/// Refused as `BadRing` (the limit), `JournalFull` (more versions are held than the limit, or accepted meanwhile) or
-/// `Stale` (another thread has renewed or migrated the replica meanwhile). The replica is unchanged then, but for its
-/// moment. Panics if the lock is poisoned.
+/// # Errors
+///
+/// `BadRing` (the limit), `JournalFull` (more versions are held than the limit, or accepted meanwhile) or `Stale`
+/// (another thread has renewed or migrated the replica meanwhile). The replica is unchanged then, but for its moment.
+///
+/// # Panics
+///
+/// If the lock is poisoned.
 pub fn renew_beside<L: Lock>(shared: &L, limit: u64) -> Result<(), Refusal> {
     renewal::renew(&mut Shared(shared), limit)
 }

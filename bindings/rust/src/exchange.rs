@@ -85,7 +85,9 @@ impl Exchange {
 
     /// Counts an ask as lost if it is on its way, so that it may be sent again.
     ///
-    /// Refused as `BadMessage` if the bytes aren't an ask or an outline.
+    /// # Errors
+    ///
+    /// `BadMessage` if the bytes aren't an ask or an outline.
     pub fn lose(&mut self, ask: &[u8]) -> Result<(), Refusal> {
         // SAFETY: as in `sys`.
         check(unsafe { sys::antientropy_exchange_lose(self.handle.raw(), ask.as_ptr(), ask.len()) })

@@ -18,13 +18,15 @@ pub fn version() -> (u32, u32, u32) {
 
 /// Returns the range and the leaf of a key, in a ring of 2^bits ranges of format 1 or 2.
 ///
-/// Refused as `BadRing` or `BadKey`.
-///
 /// ```
 /// let spot = antientropy::place(2, 0, b"cart")?;
 /// assert_eq!(spot.range, 0);
 /// # Ok::<(), antientropy::Refusal>(())
 /// ```
+///
+/// # Errors
+///
+/// `BadRing` or `BadKey`.
 pub fn place(format: u8, bits: u8, key: &[u8]) -> Result<Spot, Refusal> {
     let spot: sys::Spot = written(|spot| {
         // SAFETY: no handle; the rest as in `sys`.
@@ -33,13 +35,17 @@ pub fn place(format: u8, bits: u8, key: &[u8]) -> Result<Spot, Refusal> {
     Ok(Spot { range: spot.range as u16, leaf: spot.leaf as u16 })
 }
 
-/// Compares two clocks. Refused as `BadClock` or `ClockFull`.
+/// Compares two clocks.
 ///
 /// ```
 /// use antientropy::{compare, Clock, Order};
 /// assert_eq!(compare(&Clock::from([(1, 1)]), &Clock::from([(1, 2)]))?, Order::Before);
 /// # Ok::<(), antientropy::Refusal>(())
 /// ```
+///
+/// # Errors
+///
+/// `BadClock` or `ClockFull`.
 pub fn compare(first: &Clock, second: &Clock) -> Result<Order, Refusal> {
     let (first, second) = (first.pairs(), second.pairs());
     let order: u64 = written(|order| {
@@ -49,7 +55,7 @@ pub fn compare(first: &Clock, second: &Clock) -> Result<Order, Refusal> {
     Ok(Order::from(order))
 }
 
-/// Merges clocks, for the context of a put that replaces the versions of all. Refused as `BadClock` or `ClockFull`.
+/// Merges clocks, for the context of a put that replaces the versions of all.
 ///
 /// ```
 /// use antientropy::{merge, Clock};
@@ -57,6 +63,10 @@ pub fn compare(first: &Clock, second: &Clock) -> Result<Order, Refusal> {
 /// assert_eq!(merged, Clock::from([(1, 3), (2, 5)]));
 /// # Ok::<(), antientropy::Refusal>(())
 /// ```
+///
+/// # Errors
+///
+/// `BadClock` or `ClockFull`.
 pub fn merge<'a>(clocks: impl IntoIterator<Item = &'a Clock>) -> Result<Clock, Refusal> {
     clocks.into_iter().try_fold(Clock::new(), |merged, clock| merge_two(&merged, clock))
 }
@@ -71,11 +81,15 @@ fn merge_two(first: &Clock, second: &Clock) -> Result<Clock, Refusal> {
     }
 }
 
-/// Returns the parts of a partner's offer. Refused as `BadMessage` if the bytes aren't an offer.
+/// Returns the parts of a partner's offer.
 ///
 /// ```
 /// assert_eq!(antientropy::read_offer(b"?"), Err(antientropy::Refusal::BadMessage));
 /// ```
+///
+/// # Errors
+///
+/// `BadMessage` if the bytes aren't an offer.
 pub fn read_offer(offer: &[u8]) -> Result<OfferParts, Refusal> {
     let parts: sys::OfferParts = written(|parts| {
         // SAFETY: no handle; the rest as in `sys`.

@@ -44,7 +44,11 @@ impl Hints {
     /// Makes an empty store of hints, after a restart. The first hint gets the number `first`.
     ///
     /// It must be above all numbers in the program's log: hints that are kept again get new numbers, which are logged,
-    /// and no old number names another hint. Refused as `UnknownHint` if `first` is 0.
+    /// and no old number names another hint.
+    ///
+    /// # Errors
+    ///
+    /// `UnknownHint` if `first` is 0.
     pub fn restore(first: u64) -> Result<Hints, Refusal> {
         let handle = Owned::make(sys::antientropy_hints_free, |raw| {
             // SAFETY: the handle is empty and a local one.
@@ -55,7 +59,9 @@ impl Hints {
 
     /// Keeps a version for its owner. Returns the number of the hint: one more than the last.
     ///
-    /// Refused as `BadClock` (also if the owner is 0), `ClockFull`, `BadKey`, `BadValue` or `HintsFull`.
+    /// # Errors
+    ///
+    /// `BadClock` (also if the owner is 0), `ClockFull`, `BadKey`, `BadValue` or `HintsFull`.
     pub fn keep(&mut self, owner: u16, key: &[u8], version: &Version) -> Result<u64, Refusal> {
         let (kind, data) = (version.kind().number() as u8, version.value.as_deref().unwrap_or_default());
         let pairs = version.clock.pairs();
@@ -105,9 +111,13 @@ impl Hints {
         found(self.hint_parts(number))
     }
 
-    /// Ends the wait of a pending hint, after its owner has the version on its disk. Refused as `UnknownHint`.
+    /// Ends the wait of a pending hint, after its owner has the version on its disk.
     ///
     /// `known` is true if the owner knew the version.
+    ///
+    /// # Errors
+    ///
+    /// `UnknownHint`.
     pub fn confirm(&mut self, number: u64, known: bool) -> Result<(), Refusal> {
         // SAFETY: as in `sys`.
         check(unsafe { sys::antientropy_hint_confirm(self.handle.raw(), number, known) })
@@ -115,7 +125,11 @@ impl Hints {
 
     /// Drops the delivered hints. The pending ones get new numbers, above every number that was used, in order.
     ///
-    /// An old number names no hint then. Refused as `HintsFull` if a number would be over 2^64 - 1.
+    /// An old number names no hint then.
+    ///
+    /// # Errors
+    ///
+    /// `HintsFull` if a number would be over 2^64 - 1.
     pub fn renew(&mut self) -> Result<(), Refusal> {
         // SAFETY: as in `sys`.
         check(unsafe { sys::antientropy_hints_renew(self.handle.raw()) })

@@ -89,7 +89,11 @@ pub struct Replica {
 }
 
 impl Replica {
-    /// Makes an empty replica. Refused as `BadRing` if a number is outside its limits.
+    /// Makes an empty replica.
+    ///
+    /// # Errors
+    ///
+    /// `BadRing` if a number is outside its limits.
     pub fn new(config: Config) -> Result<Replica, Refusal> {
         let Config { format, bits, range, limit } = config;
         let handle = Owned::make(sys::antientropy_free, |raw| {
@@ -101,7 +105,10 @@ impl Replica {
 
     /// Makes an empty replica that finds keys by a hash with a seed.
     ///
-    /// Random words make it hard for clients to choose keys with equal hashes, which are slow to find. Refused as
+    /// Random words make it hard for clients to choose keys with equal hashes, which are slow to find.
+    ///
+    /// # Errors
+    ///
     /// `BadRing` if a number is outside its limits.
     pub fn seeded(config: Config, seed: [u64; 2]) -> Result<Replica, Refusal> {
         let Config { format, bits, range, limit } = config;
@@ -117,8 +124,11 @@ impl Replica {
     ///
     /// The numbers of entries go on: both replicas count as many entries, and the next entry gets a number that was
     /// never used. So do those of sessions. This replica is left unchanged: drop it, and go on with the new one under
-    /// the same node number. Refused as `BadRing` (the limit) or `JournalFull` (more versions are held than the limit,
-    /// or no numbers are left).
+    /// the same node number.
+    ///
+    /// # Errors
+    ///
+    /// `BadRing` (the limit) or `JournalFull` (more versions are held than the limit, or no numbers are left).
     pub fn renew(&self, limit: u64) -> Result<Replica, Refusal> {
         let mut share = self.handle.share();
         let handle = Owned::make(sys::antientropy_free, |into| {
@@ -132,9 +142,12 @@ impl Replica {
 
     /// Renews the replica as [`renew`](Replica::renew) does, in its place. The sessions and the moment are gone then.
     ///
-    /// [`renew_beside`](crate::renew_beside) does it while other threads put. Refused as `BadRing` (the limit) or
-    /// `JournalFull` (more versions are held than the limit, or no numbers are left). The replica is unchanged then,
-    /// but for its moment.
+    /// [`renew_beside`](crate::renew_beside) does it while other threads put.
+    ///
+    /// # Errors
+    ///
+    /// `BadRing` (the limit) or `JournalFull` (more versions are held than the limit, or no numbers are left). The
+    /// replica is unchanged then, but for its moment.
     pub fn renew_in_place(&mut self, limit: u64) -> Result<(), Refusal> {
         renewal::renew(self, limit)
     }
@@ -280,7 +293,9 @@ impl Replica {
 
     /// Accepts a version of another replica, as a copy. Returns false if it was known.
     ///
-    /// Refused as `BadClock`, `ClockFull`, `BadKey`, `BadValue`, `OtherRange`, `Crowded` or `JournalFull`.
+    /// # Errors
+    ///
+    /// `BadClock`, `ClockFull`, `BadKey`, `BadValue`, `OtherRange`, `Crowded` or `JournalFull`.
     pub fn accept(&mut self, key: &[u8], version: &Version) -> Result<bool, Refusal> {
         let (kind, data) = (version.kind().number() as u8, version.value.as_deref().unwrap_or_default());
         let pairs = version.clock.pairs();
@@ -354,14 +369,20 @@ impl Replica {
         })
     }
 
-    /// Returns the text of the row of a key (`docs/FORMATS.md`), or `None` if no version is held. Refused as `BadKey`.
+    /// Returns the text of the row of a key (`docs/FORMATS.md`), or `None` if no version is held.
+    ///
+    /// # Errors
+    ///
+    /// `BadKey`.
     pub fn row(&self, key: &[u8]) -> Result<Option<Vec<u8>>, Refusal> {
         row(&self.handle, sys::antientropy_share_get, key)
     }
 
     /// Returns the least key of a leaf above a key, or the first one for a key of no bytes.
     ///
-    /// Refused as `BadMessage` if the tree has no such leaf.
+    /// # Errors
+    ///
+    /// `BadMessage` if the tree has no such leaf.
     pub fn key_after(&self, leaf: u16, key: &[u8]) -> Result<Option<Vec<u8>>, Refusal> {
         let (mut share, at, key_len) = (self.handle.share(), key.as_ptr(), key.len());
         // SAFETY: as in `sys`.
@@ -427,10 +448,6 @@ impl Replica {
     ///
     /// A log reads from the count of entries that it has. It lacks none after a renewal if it had all before.
     ///
-    /// Refused as `BadPosition` if the number is over the count of entries, or below that at the last renewal: then
-    /// entries were missed, or it is another replica's number. Read from [`Counts::first`] then, which gives the whole
-    /// journal.
-    ///
     /// ```
     /// # use antientropy::{Clock, Config, Replica};
     /// # let mut replica = Replica::new(Config::default())?;
@@ -442,14 +459,17 @@ impl Replica {
     /// }
     /// # Ok::<(), antientropy::Refusal>(())
     /// ```
+    ///
+    /// # Errors
+    ///
+    /// `BadPosition` if the number is over the count of entries, or below that at the last renewal: then entries were
+    /// missed, or it is another replica's number. Read from [`Counts::first`] then, which gives the whole journal.
     pub fn entries(&self, start: u64) -> Result<impl Iterator<Item = Result<Entry, Refusal>> + '_, Refusal> {
         let format = self.about()?.format;
         Ok(Entries::of(&self.handle, format, start)?.all())
     }
 
     /// Returns some entries of the journal, from a number on, packed: about 1 MiB, and at least one if any is left.
-    ///
-    /// Refused as [`entries`](Replica::entries).
     ///
     /// ```
     /// # use std::io::Write;
@@ -467,6 +487,10 @@ impl Replica {
     /// assert_eq!((logged, log.len()), (1, 29));
     /// # Ok::<(), Box<dyn std::error::Error>>(())
     /// ```
+    ///
+    /// # Errors
+    ///
+    /// As of [`entries`](Replica::entries).
     pub fn packed_entries(&self, start: u64) -> Result<Packed, Refusal> {
         let mut packed = Packed::read(&self.handle, start)?;
         packed.bytes.shrink_to_fit();
@@ -477,8 +501,6 @@ impl Replica {
     ///
     /// It is that of the journal's entries of numbers below `entries` (all, if there are fewer).
     ///
-    /// Refused as `BadClock` if the node is 0.
-    ///
     /// ```
     /// # use antientropy::{Clock, Config, Replica};
     /// # let mut replica = Replica::new(Config::default())?;
@@ -486,6 +508,10 @@ impl Replica {
     /// assert_eq!(replica.top_counter(1, b"cart", u64::MAX)?, 1);
     /// # Ok::<(), antientropy::Refusal>(())
     /// ```
+    ///
+    /// # Errors
+    ///
+    /// `BadClock` if the node is 0.
     pub fn top_counter(&self, node: u16, key: &[u8], entries: u64) -> Result<u64, Refusal> {
         let (node, at, key_len) = (node.into(), key.as_ptr(), key.len());
         written(|counter| {
@@ -543,7 +569,11 @@ impl Replica {
         at_moment(self, |replica| replica.moment())
     }
 
-    /// Returns a snapshot of the rows now. Refused as `Dirty` if a node has no digest.
+    /// Returns a snapshot of the rows now.
+    ///
+    /// # Errors
+    ///
+    /// `Dirty` if a node has no digest.
     pub fn snapshot_if_clean(&self) -> Result<Snapshot, Refusal> {
         self.snapshot_by(sys::antientropy_share_snapshot)
     }
@@ -565,8 +595,11 @@ impl Replica {
 
     /// Accepts all versions in rows of one leaf as copies, or none.
     ///
-    /// [`Snapshot::rows`] and [`Replica::row`] return such rows. Refused as `RowBroken`, `OtherRange`, `Crowded` or
-    /// `JournalFull`.
+    /// [`Snapshot::rows`] and [`Replica::row`] return such rows.
+    ///
+    /// # Errors
+    ///
+    /// `RowBroken`, `OtherRange`, `Crowded` or `JournalFull`.
     pub fn load_rows(&mut self, rows: &[u8]) -> Result<Loaded, RowsRefused> {
         let handle = self.handle.raw();
         loaded(|loaded| {
@@ -578,8 +611,10 @@ impl Replica {
     /// Accepts all versions in rows of a format and of any leaves, in ascending order of key, as copies, or none. A
     /// replica of format 2 loads rows of format 1 too.
     ///
-    /// Refused as `BadRing` (the format is neither 1 nor 2), `OtherFormat` (rows of format 2, replica of format 1),
-    /// `RowBroken`, `OtherRange`, `Crowded` or `JournalFull`.
+    /// # Errors
+    ///
+    /// `BadRing` (the format is neither 1 nor 2), `OtherFormat` (rows of format 2, replica of format 1), `RowBroken`,
+    /// `OtherRange`, `Crowded` or `JournalFull`.
     pub fn load_format(&mut self, format: u8, rows: &[u8]) -> Result<Loaded, RowsRefused> {
         let handle = self.handle.raw();
         loaded(|loaded| {
@@ -611,7 +646,11 @@ impl Replica {
     /// Returns a new replica with the rows of a checkpoint, and a journal of at most `limit` entries.
     ///
     /// The root finds damage, but no forged file. Compare [`about`](Replica::about) with your configuration. Entries
-    /// are numbered from 0. Refused as `BadRing` (the file's bits or range, or the limit) or `JournalFull`.
+    /// are numbered from 0.
+    ///
+    /// # Errors
+    ///
+    /// `BadRing` (the file's bits or range, or the limit) or `JournalFull`.
     pub fn load<R: Read>(mut file: R, limit: u64) -> Result<Replica, CheckpointError> {
         checkpoint::load(&mut file, limit)
     }
@@ -683,7 +722,11 @@ impl Replica {
         })
     }
 
-    /// Returns a snapshot of the moment. Refused as `Dirty` if there is none, or if it isn't whole.
+    /// Returns a snapshot of the moment.
+    ///
+    /// # Errors
+    ///
+    /// `Dirty` if there is none, or if it isn't whole.
     pub fn moment(&self) -> Result<Snapshot, Refusal> {
         self.snapshot_by(sys::antientropy_share_moment)
     }
@@ -694,13 +737,21 @@ impl Replica {
     /// Opens an exchange with a partner by its offer. Hashes the nodes that have no digest. The replica keeps no moment
     /// then.
     ///
-    /// It is finished, and has no session, if the roots are equal. Refused as `BadMessage`, `OtherFormat`, `OtherRange`
-    /// or `SessionsFull`. [`exchange_beside`](crate::exchange_beside) opens one while other threads put.
+    /// It is finished, and has no session, if the roots are equal.
+    ///
+    /// # Errors
+    ///
+    /// `BadMessage`, `OtherFormat`, `OtherRange` or `SessionsFull`. [`exchange_beside`](crate::exchange_beside) opens
+    /// one while other threads put.
     pub fn exchange(&mut self, partner: u16, offer: &[u8], bounds: Bounds) -> Result<Exchange, Refusal> {
         Exchange::open(self, partner, offer, bounds)
     }
 
-    /// Opens an exchange at the moment. Refused as `exchange`, or as `Dirty` if there is none, or if it isn't whole.
+    /// Opens an exchange at the moment.
+    ///
+    /// # Errors
+    ///
+    /// As of `exchange`, or `Dirty` if there is none, or if it isn't whole.
     pub fn exchange_at_moment(&mut self, partner: u16, offer: &[u8], bounds: Bounds) -> Result<Exchange, Refusal> {
         let (replica, at, len) = (self.handle.raw(), offer.as_ptr(), offer.len());
         let Bounds { asks, bytes, bad, lost, plain } = bounds;
@@ -727,9 +778,6 @@ impl Replica {
     /// `reach` sends asks to the partner, and returns the answers in any order: `None` for one that is missing, or
     /// fewer answers than asks. The sync has the bounds of [`Bounds::default`].
     ///
-    /// Refused as `exchange`; as `JournalFull` if there is no room for an answer, and `NotCanonical` if one isn't a
-    /// node's. Versions that were taken before stay.
-    ///
     /// ```
     /// # use antientropy::{Clock, Config, Replica};
     /// # let (mut a, mut b) = (Replica::new(Config::default())?, Replica::new(Config::default())?);
@@ -740,6 +788,11 @@ impl Replica {
     /// assert!(synced.finished() && synced.accepted == 1);
     /// # Ok::<(), antientropy::Refusal>(())
     /// ```
+    ///
+    /// # Errors
+    ///
+    /// As of `exchange`; `JournalFull` if there is no room for an answer, and `NotCanonical` if one isn't a node's.
+    /// Versions that were taken before stay.
     pub fn sync<R>(&mut self, partner: u16, offer: &[u8], reach: R) -> Result<Synced, Refusal>
     where
         R: FnMut(&[Vec<u8>]) -> Vec<Option<Vec<u8>>>,

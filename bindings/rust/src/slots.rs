@@ -24,7 +24,11 @@ pub struct Slots {
 }
 
 impl Slots {
-    /// Makes slots, of which none is lent. Refused as `BadRing` if the numbers are outside their limits.
+    /// Makes slots, of which none is lent.
+    ///
+    /// # Errors
+    ///
+    /// `BadRing` if the numbers are outside their limits.
     pub fn new(floor: u32, ceiling: u32, threshold: u32) -> Result<Slots, Refusal> {
         let handle = Owned::make(sys::antientropy_slots_free, |raw| {
             // SAFETY: the handle is empty and a local one.
@@ -33,13 +37,21 @@ impl Slots {
         Ok(Slots { handle })
     }
 
-    /// Lends a slot, before background work. Refused as `NoSlot` if the slots lent reach the target.
+    /// Lends a slot, before background work.
+    ///
+    /// # Errors
+    ///
+    /// `NoSlot` if the slots lent reach the target.
     pub fn lend(&mut self) -> Result<(), Refusal> {
         // SAFETY: as in `sys`.
         check(unsafe { sys::antientropy_slot_lend(self.handle.raw()) })
     }
 
-    /// Gives a slot back, after background work. Refused as `NoSlot` if none is lent.
+    /// Gives a slot back, after background work.
+    ///
+    /// # Errors
+    ///
+    /// `NoSlot` if none is lent.
     pub fn give_back(&mut self) -> Result<(), Refusal> {
         // SAFETY: as in `sys`.
         check(unsafe { sys::antientropy_slot_give_back(self.handle.raw()) })
@@ -47,7 +59,9 @@ impl Slots {
 
     /// Takes the latency of a reply in microseconds, with its moment in milliseconds.
     ///
-    /// Refused as `ClockBack` if a later moment was accepted before.
+    /// # Errors
+    ///
+    /// `ClockBack` if a later moment was accepted before.
     pub fn sample(&mut self, moment: u64, micros: u32) -> Result<(), Refusal> {
         // SAFETY: as in `sys`.
         check(unsafe { sys::antientropy_slots_sample(self.handle.raw(), moment, micros) })
@@ -55,7 +69,11 @@ impl Slots {
 
     /// Sets the target by the samples of the last minute. Returns their 99th percentile in microseconds.
     ///
-    /// Without samples it returns `None`, and the target is left unchanged. Refused as `ClockBack`.
+    /// Without samples it returns `None`, and the target is left unchanged.
+    ///
+    /// # Errors
+    ///
+    /// `ClockBack`.
     pub fn adjust(&mut self, now: u64) -> Result<Option<u64>, Refusal> {
         let p99: sys::Percentile = written(|p99| {
             // SAFETY: as in `sys`.
@@ -66,7 +84,9 @@ impl Slots {
 
     /// Sets the target. Slots that are lent stay lent.
     ///
-    /// Refused as `BadRing` if the target is below the floor or above the ceiling.
+    /// # Errors
+    ///
+    /// `BadRing` if the target is below the floor or above the ceiling.
     pub fn set_target(&mut self, target: u32) -> Result<(), Refusal> {
         // SAFETY: as in `sys`.
         check(unsafe { sys::antientropy_slots_set_target(self.handle.raw(), target) })

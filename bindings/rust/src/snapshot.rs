@@ -100,9 +100,13 @@ impl Snapshot {
         Ok(root)
     }
 
-    /// Returns the digest of a node of the tree. Refused as `BadMessage` if the tree has no such node.
+    /// Returns the digest of a node of the tree.
     ///
     /// The root is node 0 at depth 0; the leaves are at depth 2, or at 3 in format 2.
+    ///
+    /// # Errors
+    ///
+    /// `BadMessage` if the tree has no such node.
     pub fn digest(&self, depth: u8, index: u16) -> Result<Root, Refusal> {
         let (mut digest, mut need) = (Root::default(), 0);
         let (mut share, out, len) = (self.handle.share(), digest.as_mut_ptr(), digest.len());
@@ -118,7 +122,11 @@ impl Snapshot {
         unsafe { bytes(|out, len, need| sys::antientropy_share_offer(&mut share, number, out, len, need)) }
     }
 
-    /// Returns the answer to a partner's ask for the offer of that number. Refused as `BadMessage` or `Gone`.
+    /// Returns the answer to a partner's ask for the offer of that number.
+    ///
+    /// # Errors
+    ///
+    /// `BadMessage` or `Gone`.
     pub fn serve(&self, number: u32, ask: &[u8]) -> Result<Vec<u8>, Refusal> {
         let mut share = self.handle.share();
         // SAFETY: as in `sys`.
@@ -129,14 +137,22 @@ impl Snapshot {
         }
     }
 
-    /// Returns the texts of the rows of a leaf. Refused as `BadMessage` if the tree has no such leaf.
+    /// Returns the texts of the rows of a leaf.
+    ///
+    /// # Errors
+    ///
+    /// `BadMessage` if the tree has no such leaf.
     pub fn rows(&self, leaf: u16) -> Result<Vec<u8>, Refusal> {
         let mut share = self.handle.share();
         // SAFETY: as in `sys`.
         unsafe { bytes(|out, len, need| sys::antientropy_share_rows(&mut share, leaf.into(), out, len, need)) }
     }
 
-    /// Returns the text of the row of a key (`docs/FORMATS.md`), or `None` if no version is held. Refused as `BadKey`.
+    /// Returns the text of the row of a key (`docs/FORMATS.md`), or `None` if no version is held.
+    ///
+    /// # Errors
+    ///
+    /// `BadKey`.
     pub fn row(&self, key: &[u8]) -> Result<Option<Vec<u8>>, Refusal> {
         row(&self.handle, sys::antientropy_share_snapshot_get, key)
     }
