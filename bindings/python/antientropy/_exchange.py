@@ -93,7 +93,7 @@ class Exchange(Handle):
             self._free_call(self._at)
             if is_open:
                 self._replica._call_held("drop_sessions")
-                self._replica._keeper.count_and_renew_held(self._replica)
+                self._replica._keeper.renew_if_due(self._replica)
 
     def __del__(self) -> None:
         """Leaves itself to the replica: this thread or another one may be in a call of that."""

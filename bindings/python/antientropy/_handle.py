@@ -16,6 +16,11 @@ _BYTES_ROOM = 1 << 16
 Self = TypeVar("Self", bound="Handle")
 
 
+def refuse_change(name: str) -> NoReturn:
+    """Raises RuntimeError: a signal handler interrupted a call of an object of that class, and would change it."""
+    raise RuntimeError(f"a signal handler interrupted a call of this {name}: it may only read")
+
+
 class Results:
     """Memory for the results of a call."""
 
@@ -71,7 +76,7 @@ class Handle:
     def _to_change(self) -> ContextManager[Any]:
         """Returns the lock, for a call that changes something. Raises RuntimeError if this thread has it."""
         if self._lock._is_owned():  # type: ignore[attr-defined]
-            raise RuntimeError(f"a signal handler interrupted a call of this {type(self).__name__}: it may only read")
+            refuse_change(type(self).__name__)
         return self._lock
 
     def _share(self) -> Any:

@@ -3,8 +3,9 @@
 from __future__ import annotations
 
 import os
-from ctypes import CDLL, byref, c_uint64, create_string_buffer
+from ctypes import CDLL, Array, byref, c_uint64, c_void_p, cast, create_string_buffer
 from ctypes.util import find_library
+from pathlib import Path
 from threading import RLock
 from typing import Any, Callable, Optional, Tuple, Type, Union
 
@@ -14,6 +15,8 @@ from ._refused import Refused, class_of
 _MAJOR = 2
 _SONAME = f"libantientropy.so.{_MAJOR}"
 _VARIABLE = "ANTIENTROPY_LIBRARY"
+#: The library of a package that was built with one.
+_PACKAGED = Path(__file__).with_name("libantientropy.so")
 _NAME_ROOM = 64
 _NUMBERS = range(1, 256)
 
@@ -43,11 +46,9 @@ class Library:
         setattr(self, call, function)
         return function
 
-    def prepared(self, call: str) -> Callable[..., Any]:
-        """Returns a call that takes ctypes objects and bytes as they are: it converts and checks no argument."""
-        function = self._dll[PREFIX + call]
-        function.restype = CALLS[call][0]
-        return function
+    def addresses(self, calls: Tuple[str, ...]) -> Array[c_void_p]:
+        """Returns the addresses of calls, for the extension."""
+        return (c_void_p * len(calls))(*(cast(self._dll[PREFIX + call], c_void_p).value for call in calls))
 
     def parts(self) -> Tuple[int, int, int]:
         """Returns the major, the minor and the patch number of the version."""
@@ -109,7 +110,8 @@ def version() -> Tuple[int, int, int]:
 
 
 def _load_default() -> Library:
-    path = os.environ.get(_VARIABLE) or find_library("antientropy") or _SONAME
+    packaged = str(_PACKAGED) if _PACKAGED.exists() else None
+    path = os.environ.get(_VARIABLE) or packaged or find_library("antientropy") or _SONAME
     try:
         return Library(path)
     except OSError as error:

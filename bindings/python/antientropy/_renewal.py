@@ -88,19 +88,17 @@ class Keeper:
         used, room = entries - self._first, self._limit - self._held
         return used * 10 >= self._limit * 9 and used > self._held and (used - self._held) * 2 >= room
 
-    def renew_if_due_held(self, replica: Replica, entries: int) -> None:
-        """Starts a thread that renews the replica, if that is due at a count of entries."""
-        if self.is_on and not self._is_at_work and self.is_due(entries):
-            self._is_at_work = True
-            try:
-                Thread(target=self._renew, args=(replica,), name="antientropy renewal", daemon=True).start()
-            except RuntimeError:  # (no thread can be started now: the next put tries again)
-                self._is_at_work = False
-
-    def count_and_renew_held(self, replica: Replica) -> None:
-        """Does so at the count of entries now."""
-        if self.is_on and replica._struct.held:
-            self.renew_if_due_held(replica, replica.count().entries)
+    def renew_if_due(self, replica: Replica) -> None:
+        """Starts a thread that renews the replica, if that is due at the count of entries now."""
+        if not self.is_on:
+            return
+        with replica._lock:
+            if replica._struct.held and not self._is_at_work and self.is_due(replica.count().entries):
+                self._is_at_work = True
+                try:
+                    Thread(target=self._renew, args=(replica,), name="antientropy renewal", daemon=True).start()
+                except RuntimeError:  # (no thread can be started now: the next put tries again)
+                    self._is_at_work = False
 
     def _renew(self, replica: Replica) -> None:
         """Renews the replica.

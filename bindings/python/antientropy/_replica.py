@@ -3,19 +3,16 @@
 from __future__ import annotations
 
 from ctypes import byref, c_uint64, create_string_buffer
-from typing import BinaryIO, Callable, Iterable, Iterator, List, Optional, Tuple
+from typing import BinaryIO, Iterable, Iterator, List, Optional, Tuple
 
 from . import _checkpoint, _exchange
-from ._calls import CLOCK_MAX, ENTRY_MAX, HandleStruct
-from ._convert import fits, to_bytes, to_clock, to_kind, to_pairs, to_value
+from ._calls import ENTRY_MAX, HandleStruct
+from ._convert import fits, to_bytes
 from ._exchange import Exchange, Reach
-from ._handle import Results
 from ._library import Library, current
 from ._packed import unpack_entries
-from ._puts import put_many
-from ._refused import class_of
+from ._refused import Refused, class_of
 from ._renewal import Keeper, renew_in_place
-from ._rows import Rows
 from ._snapshot import Snapshot
 from ._values import (
     Bounds,
@@ -32,6 +29,7 @@ from ._values import (
     Synced,
     Version,
 )
+from ._versions import Versions
 
 _LIMIT = 1_000_000
 
@@ -42,7 +40,7 @@ _ALL = (1 << 64) - 1
 _PACKED_ROOM = 1 << 20
 
 
-class Replica(Rows):
+class Replica(Versions):
     """A replica of one range of a ring of 2^bits ranges, in format 1 or 2, with a journal of at most `limit` entries.
 
     With `renew` the replica is renewed by itself, as `renew_in_place` does with its limit: a put, an acceptance, a load
@@ -53,8 +51,6 @@ class Replica(Rows):
 
     Raises BadRing if a number is outside its limits. Several threads may use a replica.
     """
-
-    _free, _get_row, _next_key, _get_about = "free", "get", "key_next", "about"
 
     def __init__(
         self, format: int = 2, bits: int = 0, range: int = 0, limit: int = _LIMIT, *, renew: bool = False
@@ -150,7 +146,7 @@ class Replica(Rows):
 
     def count(self) -> Counts:
         """Returns the counts of entries, dirty nodes and sessions, and of the entries at the last whole moment."""
-        return Counts(*self._get_words(7, "count"))
+        return self._count()
 
     def count_bytes(self) -> ByteCounts:
         """Returns the size of the rows, of the journal and of what sessions keep.
@@ -187,7 +183,11 @@ class Replica(Rows):
         Raises BadClock (also if the node is 0 or over 65,535), ClockFull, BadKey, BadValue, OtherRange, CounterFull,
         StaleContext, Crowded or JournalFull.
         """
-        return self._put("put", self._library.put_read, node, key, value, context)
+        try:
+            return self._put_read(node, key, value, context)
+        finally:
+            if self._keeper.is_on:
+                self._keeper.renew_if_due(self)
 
     def put_unread(self, node: int, key: bytes, value: Optional[bytes], context: ClockLike = ()) -> Receipt:
         """Puts as `put` does, for a caller that has made its check itself.
@@ -195,32 +195,10 @@ class Replica(Rows):
         The new version replaces even a held version that the client hasn't read. Raises what `put` raises, but
         StaleContext only if a held version has seen all of the new version's clock.
         """
-        return self._put("put_unread", self._library.put, node, key, value, context)
-
-    def _put(
-        self, name: str, put: Callable[..., int], node: int, key: bytes, value: Optional[bytes], context: ClockLike
-    ) -> Receipt:
-        key, (pairs, length), (kind, data) = to_bytes(key), to_pairs(context), to_kind(value)
-        fits(node, 64)
-        with self._to_change():
-            results = self._take_results()
-            words = results.words
-            number = put(self._at, node, key, len(key), pairs, length, kind, data, len(data), words)
-            receipt = Receipt(words[0], words[1])
-            self._spare.append(results)
-            self._note_put_held(number, receipt.number)
-        if number:
-            raise self._library.refusal(name, number)
-        return receipt
-
-    def _note_put_held(self, refused: int, number: int) -> None:
-        """Renews the replica if a put of an entry of that number, or one that was refused, finds that it is due."""
-        if not self._keeper.is_on:
-            return
-        if refused:
-            self._keeper.count_and_renew_held(self)
-        else:
-            self._keeper.renew_if_due_held(self, number + 1)
+        try:
+            return self._put_unread(node, key, value, context)
+        finally:
+            self._keeper.renew_if_due(self)
 
     def put_many(self, node: int, items: Iterable[Put]) -> List[Receipt]:
         """Puts each item at a node, in turn, and returns the receipts. An item is a key, a value and maybe a context.
@@ -228,39 +206,35 @@ class Replica(Rows):
         It is faster than a loop of puts. At a refusal the puts before it stay: the exception has their receipts in
         `done`. Other threads may make calls between two puts, and `items` may read the replica.
         """
-        return put_many(self, node, items)
+        put = self.put if self._keeper.is_on else self._put_read
+        receipts: List[Receipt] = []
+        for item in items:
+            key, value, context = item if len(item) == 3 else (*item, ())
+            try:
+                receipts.append(put(node, key, value, context))
+            except Refused as refused:
+                refused.done = tuple(receipts)
+                raise
+        return receipts
 
     def accept(self, key: bytes, clock: ClockLike, value: Optional[bytes]) -> bool:
         """Accepts a version of another replica, as a copy. Returns False if it was known.
 
         Raises BadClock, ClockFull, BadKey, BadValue, OtherRange, Crowded or JournalFull.
         """
-        key, (kind, data) = to_bytes(key), to_kind(value)
-        pairs, length = to_pairs(clock)
-        with self._to_change():
-            try:
-                return bool(self._words_held(1, "accept", key, len(key), pairs, length, kind, data, len(data))[0])
-            finally:
-                self._keeper.count_and_renew_held(self)
+        try:
+            return self._accept(key, clock, value)
+        finally:
+            self._keeper.renew_if_due(self)
 
     def get(self, key: bytes) -> List[Version]:
         """Returns all versions held for a key, as they are at one moment. Several are concurrent."""
-        key = to_bytes(key)
-        versions: List[Version] = []
-        with self._lock:
-            results = self._take_results()
-            version = self._read_held(results, key, 0)
-            while version is not None:
-                versions.append(version)
-                more = len(versions) < results.reading[0]
-                version = self._read_held(results, key, len(versions)) if more else None
-            self._spare.append(results)
-        return versions
+        return self._get(key)
 
     def versions(self, key: bytes) -> Iterator[Version]:
         """Yields the versions held for a key, and reads each when it is its turn: don't change the key meanwhile."""
         key, index = to_bytes(key), 0
-        while (version := self._read_or_none(key, index)) is not None:
+        while (version := self._read(key, index)) is not None:
             yield version
             index += 1
 
@@ -271,7 +245,7 @@ class Replica(Rows):
 
     def read(self, key: bytes, index: int) -> Version:
         """Returns one of the versions held for a key, by its index from 0. Raises NoVersion."""
-        version = self._read_or_none(to_bytes(key), index)
+        version = self._read(key, index)
         if version is None:
             raise self._library.refusal("read", self._library.no_version)
         return version
@@ -287,25 +261,6 @@ class Replica(Rows):
         key = to_bytes(key)
         with self._lock:
             return self._clock_held("clock", key, len(key), fits(index, 64))
-
-    def _read_or_none(self, key: bytes, index: int) -> Optional[Version]:
-        fits(index, 64)
-        with self._lock:
-            results = self._take_results()
-            version = self._read_held(results, key, index)
-            self._spare.append(results)
-        return version
-
-    def _read_held(self, results: Results, key: bytes, index: int) -> Optional[Version]:
-        """A version of a key, or None if there is no such one. The number of versions is in `results.reading`."""
-        reading, words, room = results.reading, results.words, results.room
-        number = self._library.read(self._share(), key, len(key), index, reading, words, CLOCK_MAX, room, len(room))
-        if not number:
-            _, pairs, size, kind = reading[:]
-            return Version(to_clock(words[: 2 * pairs]), to_value(kind, room[:size]))
-        if number == self._library.no_version:
-            return None
-        raise self._library.refusal("read", number)
 
     # ---- the journal
 
@@ -443,14 +398,12 @@ class Replica(Rows):
     def _load_rows(self, call: str, rows: bytes, *format: int) -> Loaded:
         words = (c_uint64 * len(Loaded._fields + ("offset",)))()
         try:
-            with self._to_change():
-                try:
-                    self._call_held(call, *format, rows, len(rows), words)
-                finally:
-                    self._keeper.count_and_renew_held(self)
+            self._call(call, *format, rows, len(rows), words)
         except class_of("RowBroken") as refused:
             refused.offset = words[2]
             raise
+        finally:
+            self._keeper.renew_if_due(self)
         return Loaded(*words[:2])
 
     def save(self, file: BinaryIO) -> int:

@@ -28,6 +28,9 @@ class Rows(Handle):
 
     def row(self, key: bytes) -> bytes:
         """Returns the text of the row of a key (docs/FORMATS.md), or no bytes if none is held. Raises BadKey."""
+        return self._row(key)
+
+    def _row(self, key: bytes) -> bytes:
         key = to_bytes(key)
         return self._get_bytes(self._get_row, key, len(key))
 

@@ -1,8 +1,9 @@
 #!/usr/bin/env python3
 """Measures how many calls of the package one thread makes in a second, for bench/bindings.
 
-The word is the number of keys, 100000 by default. Keys have 10 bytes and values 32: they are made before, since Python
-takes longer for them than for a put. Prints a line of JSON.
+The words are the number of keys, 100000 by default, and the format, 1 by default. Keys have 10 bytes and values 32: they
+are made before, since Python takes longer for them than for a put. No result is kept but the receipts of `put_many`: a
+list of all of them would cost more than the calls. Prints a line of JSON.
 """
 
 import json
@@ -23,19 +24,24 @@ def measure(calls: int, call: Callable[[], Any]) -> int:
 def main() -> None:
     """Puts the keys, one by one and at once, and gets each."""
     count = int(sys.argv[1]) if len(sys.argv) > 1 else 100_000
+    tree_format = int(sys.argv[2]) if len(sys.argv) > 2 else 1
     items = [(b"key-%06d" % n, n.to_bytes(8, "big") * 4) for n in range(count)]
     figures: Dict[str, int] = {"keys": count}
-    with Replica(format=1) as replica:
+    with Replica(tree_format) as replica:
 
         def puts() -> None:
             for key, value in items:
                 replica.put(1, key, value)
 
+        def each(read: Callable[[bytes], Any]) -> None:
+            for key, _ in items:
+                read(key)
+
         figures["puts_per_s"] = measure(count, puts)
-        figures["gets_per_s"] = measure(count, lambda: [replica.get(key) for key, _ in items])
-        figures["rows_per_s"] = measure(count, lambda: [replica.row(key) for key, _ in items])
+        figures["gets_per_s"] = measure(count, lambda: each(replica.get))
+        figures["rows_per_s"] = measure(count, lambda: each(replica.row))
         assert replica.get(items[-1][0])[0].value == items[-1][1]
-    with Replica(format=1) as replica:
+    with Replica(tree_format) as replica:
         figures["put_many_per_s"] = measure(count, lambda: replica.put_many(1, items))
         assert replica.count().entries == count
     print(json.dumps(figures, separators=(",", ":")))

@@ -1,9 +1,11 @@
 """The examples and the code of the README."""
 
+import os
 import re
 import shutil
 import subprocess
 import sys
+import sysconfig
 import tempfile
 import unittest
 from importlib.util import find_spec
@@ -13,6 +15,8 @@ from tests.support import EXAMPLES, PACKAGE, lacks, run
 
 README = (PACKAGE / "README.md").read_text(encoding="utf-8")
 ROOM = Path("bindings/python")
+#: Variables that would find another package or library than those that are installed.
+VARIABLES = ("PYTHONPATH", "ANTIENTROPY_LIBRARY")
 
 
 def blocks(language):
@@ -37,14 +41,20 @@ class ExamplesTest(unittest.TestCase):
     @unittest.skipUnless(find_spec("ensurepip"), "venv makes no pip")
     @unittest.skipUnless(find_spec("setuptools") and find_spec("wheel"), "there is no setuptools, or no wheel")
     def test_install(self):
+        """The package that is installed has the library, and the extension if Python's headers are there."""
         (command,) = blocks("sh")
         with tempfile.TemporaryDirectory() as folder:
             shutil.copytree(PACKAGE, Path(folder) / ROOM, ignore=shutil.ignore_patterns("__pycache__"))
+            shutil.copytree(PACKAGE.parents[1] / "include", Path(folder) / "include")
             command = command.replace("python3", sys.executable, 1)
             subprocess.run(command, shell=True, check=True, cwd=folder, stdout=subprocess.PIPE, stderr=subprocess.PIPE)
-            made = ["v/bin/python", "-c", "import antientropy; print(antientropy.__file__)"]
-            path = subprocess.run(made, check=True, cwd=folder, capture_output=True, text=True).stdout
-            self.assertIn("/v/lib/", path)
+            made = ["v/bin/python", "-c", "import antientropy as a; print(a.version()[0], a.Replica.__mro__, a.__file__)"]
+            environment = {name: value for name, value in os.environ.items() if name not in VARIABLES}
+            output = subprocess.run(made, check=True, cwd=folder, env=environment, capture_output=True, text=True).stdout
+        self.assertIn("/v/lib/", output)
+        self.assertEqual(output[:2], "2 ")
+        if Path(sysconfig.get_path("include"), "Python.h").exists():
+            self.assertIn("antientropy._native.Versions", output)
 
 
 if __name__ == "__main__":

@@ -23,9 +23,6 @@ class Interrupted:
         found = getattr(self._library, name)
         return self._interrupted(found) if name in self._calls else found
 
-    def prepared(self, call):
-        return self._interrupted(self._library.prepared(call))
-
     def _interrupted(self, function):
         def call(*args):
             number = function(*args)

@@ -6,7 +6,7 @@ import signal
 import subprocess
 import sys
 
-from tests.support import EXAMPLES, PACKAGE
+from tests.support import EXAMPLES, IMPORTED
 
 COMMAND = [sys.executable, "-S", EXAMPLES / "line_server.py"]
 
@@ -14,7 +14,7 @@ COMMAND = [sys.executable, "-S", EXAMPLES / "line_server.py"]
 def environment(path):
     """The environment of a store. What Python compiles is kept beside its file, so that it starts sooner."""
     compiled = {"PYTHONDONTWRITEBYTECODE": "", "PYTHONPYCACHEPREFIX": f"{path.parent}/compiled"}
-    return {**os.environ, "PYTHONPATH": str(PACKAGE), **compiled}
+    return {**os.environ, "PYTHONPATH": str(IMPORTED), **compiled}
 
 
 class Died(Exception):

@@ -10,6 +10,8 @@ import antientropy
 from antientropy._library import current
 
 PACKAGE = Path(__file__).resolve().parents[1]
+#: The folder of the package that is tested: it may be a copy with the extension.
+IMPORTED = Path(antientropy.__file__).resolve().parents[1]
 EXAMPLES = PACKAGE / "examples"
 
 
@@ -67,7 +69,7 @@ class Hashing:
 def run(*words):
     """Runs a script with the package and the library of these tests, and returns its output."""
     command = [sys.executable, *map(str, words)]
-    environment = {**os.environ, "PYTHONPATH": str(PACKAGE), "PYTHONDONTWRITEBYTECODE": "1"}
+    environment = {**os.environ, "PYTHONPATH": str(IMPORTED), "PYTHONDONTWRITEBYTECODE": "1"}
     done = subprocess.run(command, env=environment, capture_output=True, text=True)
     return done.stdout + done.stderr
 

@@ -1,0 +1,111 @@
+"""The calls for each key, by ctypes or by the extension: both take and return the same."""
+
+import signal
+import threading
+import time
+import unittest
+from array import array
+from collections import UserDict
+
+import antientropy
+from antientropy import Replica
+
+from tests.support import crowd
+
+SECONDS = 0.5
+
+
+class VersionsTest(unittest.TestCase):
+    def test_bytes_like_objects(self):
+        with Replica() as replica:
+            for n, key in enumerate((bytearray(b"key"), memoryview(b"xkxexy")[1::2], array("B", b"key"))):
+                self.assertEqual(replica.put_unread(n + 1, key, memoryview(b"value")).number, n)
+                self.assertEqual((len(replica.get(key)), replica.row(key)), (n + 1, replica.row(b"key")))
+            self.assertFalse(replica.accept(bytearray(b"key"), {1: 1}, bytearray(b"value")))
+
+    def test_a_bytearray_is_let_go(self):
+        with Replica() as replica:
+            key, value = bytearray(b"key"), bytearray(b"value")
+            replica.put(1, key, value)
+            for call in (replica.put, replica.put_unread):
+                with self.assertRaises(antientropy.StaleContext):
+                    call(1, key, value)
+            for words in (("node", key, value), (1, key, 7), (1, key, value, 7), (1, key, value, {1: "counter"})):
+                with self.assertRaises(TypeError):
+                    replica.put(*words)
+            replica.get(key)
+            replica.row(key)
+            key.append(0)
+            value.append(0)
+
+    def test_clocks(self):
+        pairs = [(node, 1) for node in range(1, 32)]
+        with Replica() as replica:
+            for n, clock in enumerate((dict(pairs), UserDict(pairs), pairs, iter(pairs), map(list, pairs))):
+                self.assertEqual(replica.accept(b"key", clock, b""), n == 0)
+            self.assertEqual(replica.get(b"key")[0].clock, dict(pairs))
+            for clock, error in (([(1, 1), (1, 1)], antientropy.BadClock), ([(1, 1)] * 40, antientropy.BadClock),
+                                 ([(1, 2, 3)], ValueError), ([1], TypeError), ({1: -1}, OverflowError),
+                                 ({1 << 64: 1}, OverflowError), ({n: 1 for n in range(1, 34)}, antientropy.ClockFull)):
+                with self.subTest(clock), self.assertRaises(error):
+                    replica.accept(b"key", clock, b"")
+
+    def test_long_results(self):
+        value = b"v" * 65536
+        with Replica() as replica:
+            crowd(replica)
+            replica.accept(b"long", {1: 1}, value)
+            replica.accept(b"long", {2: 1}, value)
+            self.assertEqual([version.value for version in replica.get(b"long")], [value, value])
+            self.assertGreater(len(replica.row(b"long")), 2 * len(value))
+            self.assertEqual(list(replica.versions(b"crowded")), replica.get(b"crowded"))
+
+    def test_a_replica_that_was_not_made(self):
+        replica = Replica.__new__(Replica)
+        for call in (replica.count, lambda: replica.get(b"key"), lambda: replica.put(1, b"key", b"")):
+            with self.assertRaises((AttributeError, RuntimeError)):
+                call()
+
+    def test_a_replica_is_closed_meanwhile(self):
+        replica, ended = Replica(), []
+        calls = [lambda n: replica.put(1, b"%d" % n, b""), lambda n: replica.get(b"%d" % n), lambda n: replica.count(),
+                 lambda n: replica.row(b"%d" % n), lambda n: replica.accept(b"%d" % n, {2: 1}, b"")]
+
+        def repeat(call):
+            with self.assertRaises(antientropy.Empty):
+                for n in range(1_000_000):
+                    call(n)
+            ended.append(call)
+
+        threads = [threading.Thread(target=repeat, args=(call,)) for call in calls]
+        for thread in threads:
+            thread.start()
+        time.sleep(SECONDS / 10)
+        replica.close()
+        for thread in threads:
+            thread.join()
+        self.assertCountEqual(ended, calls)
+
+    def test_a_handler_runs_while_a_call_waits(self):
+        taken, ran = threading.Event(), []
+
+        def take(lock):
+            with lock:
+                taken.set()
+                time.sleep(SECONDS)
+                ran.append("another thread")
+
+        self.addCleanup(signal.signal, signal.SIGALRM, signal.signal(signal.SIGALRM, lambda *_: ran.append("handler")))
+        with Replica() as replica:
+            thread = threading.Thread(target=take, args=(replica._lock,))
+            thread.start()
+            taken.wait()
+            signal.setitimer(signal.ITIMER_REAL, SECONDS / 10)
+            replica.put(1, b"key", b"")
+            ran.append("put")
+            thread.join()
+        self.assertEqual(ran, ["handler", "another thread", "put"])
+
+
+if __name__ == "__main__":
+    unittest.main()
