@@ -1,6 +1,6 @@
 """Builds the C extension, if it can be built, and copies the library that ANTIENTROPY_LIBRARY names into the package.
 
-The rest of the metadata is in setup.cfg.
+The rest of the metadata is in pyproject.toml.
 """
 
 import os
@@ -16,7 +16,8 @@ LIBRARY = os.environ.get("ANTIENTROPY_LIBRARY")
 class BuildPy(build_py):
     """Copies the modules, and then the library beside them, where `_library.py` looks for it."""
 
-    def run(self):
+    def run(self) -> None:
+        """Copy the modules and the library."""
         super().run()
         if LIBRARY:
             self.copy_file(LIBRARY, os.path.join(self.build_lib, "antientropy", "libantientropy.so"))

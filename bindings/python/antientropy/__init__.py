@@ -1,20 +1,51 @@
 """antientropy: replicas of a range of a Dynamo-style store, over the proved C library.
 
 A `Replica` holds versions of keys. `Replica.sync` takes from a partner what it lacks, by messages that the program
-carries. `Hints` and `Slots` are apart. A refused call raises `Refused`, whose subclasses are attributes of this module
-by the library's names: `antientropy.StaleContext`, `antientropy.Crowded` and so on.
+carries. `Hints` and `Slots` are apart. A refused call raises a subclass of `Refused`, which has the library's name of
+the cause: `StaleContext`, `Crowded` and so on.
 """
 
 from __future__ import annotations
 
-from typing import Type
-
 from ._exchange import Exchange
 from ._functions import compare, merge, place, read_offer
 from ._hints import Hints
-from ._library import load_library, refusal_class, version
+from ._library import load_library, version
 from ._packed import unpack_entries
-from ._refused import Refused
+from ._refused import (
+    BadClock,
+    BadKey,
+    BadMessage,
+    BadPosition,
+    BadRing,
+    BadValue,
+    ClockBack,
+    ClockFull,
+    CounterFull,
+    Crowded,
+    Dirty,
+    Empty,
+    Gone,
+    Held,
+    HintsFull,
+    JournalFull,
+    NoMemory,
+    NoSlot,
+    NoVersion,
+    NotAsked,
+    NotCanonical,
+    OtherFormat,
+    OtherRange,
+    Refused,
+    RowBroken,
+    SessionsFull,
+    Small,
+    Stale,
+    StaleContext,
+    UnknownHint,
+    UnknownSession,
+    WrongDigest,
+)
 from ._replica import Replica
 from ._slots import Slots
 from ._snapshot import Snapshot
@@ -47,35 +78,66 @@ from ._values import (
 
 __all__ = [
     "About",
+    "BadClock",
+    "BadKey",
+    "BadMessage",
+    "BadPosition",
+    "BadRing",
+    "BadValue",
     "Bounds",
     "ByteCounts",
     "Clock",
+    "ClockBack",
+    "ClockFull",
     "ClockLike",
+    "CounterFull",
     "Counts",
+    "Crowded",
+    "Dirty",
+    "Empty",
     "Entry",
     "Exchange",
+    "Gone",
+    "Held",
     "Hint",
     "HintCounts",
     "Hints",
+    "HintsFull",
+    "JournalFull",
     "Kind",
     "Loaded",
+    "NoMemory",
+    "NoSlot",
+    "NoVersion",
+    "NotAsked",
+    "NotCanonical",
     "OfferParts",
     "Order",
+    "OtherFormat",
+    "OtherRange",
     "Packed",
     "Progress",
     "Receipt",
     "Refused",
     "Replica",
     "Report",
+    "RowBroken",
+    "SessionsFull",
     "SlotCounts",
     "Slots",
+    "Small",
     "Snapshot",
     "Source",
     "Spot",
+    "Stale",
+    "StaleContext",
     "Synced",
+    "UnknownHint",
+    "UnknownSession",
     "Verdict",
     "VerdictKind",
     "Version",
+    "WrongDigest",
     "compare",
     "load_library",
     "merge",
@@ -84,11 +146,3 @@ __all__ = [
     "unpack_entries",
     "version",
 ]
-
-
-def __getattr__(name: str) -> Type[Refused]:
-    """Returns the class of a refusal, by the library's name of it. It loads the library if none is loaded."""
-    found = refusal_class(name) if name[:1].isupper() else None
-    if found is None:
-        raise AttributeError(f"module {__name__!r} has no attribute {name!r}")
-    return found

@@ -6,7 +6,7 @@ from struct import Struct
 from typing import TYPE_CHECKING, BinaryIO, Callable
 
 from ._calls import ROOT_LEN
-from ._refused import class_of
+from ._refused import BadRing, Crowded, OtherRange, RowBroken
 
 if TYPE_CHECKING:
     from ._replica import Replica
@@ -21,7 +21,7 @@ _PIECE = 1 << 20
 
 
 def save(file: BinaryIO, snapshot: Snapshot) -> None:
-    """Writes the checkpoint of a snapshot."""
+    """Write the checkpoint of a snapshot."""
     _write(file, _HEAD.pack(_MAGIC, snapshot.format, snapshot.bits, snapshot.range, snapshot.root()))
     for leaf in range(_LEAVES[snapshot.format]):
         rows = snapshot.rows(leaf)
@@ -29,16 +29,16 @@ def save(file: BinaryIO, snapshot: Snapshot) -> None:
 
 
 def load(file: BinaryIO, new: Callable[[int, int, int], Replica]) -> Replica:
-    """Returns a replica with the rows of a checkpoint. `new` makes it for a format, bits and a range."""
-    magic, format, bits, number, root = _HEAD.unpack(_read(file, _HEAD.size))
-    if magic != _MAGIC or format not in _LEAVES:
+    """Return a replica with the rows of a checkpoint. `new` makes it for a format, bits and a range."""
+    magic, tree_format, bits, number, root = _HEAD.unpack(_read(file, _HEAD.size))
+    if magic != _MAGIC or tree_format not in _LEAVES:
         raise ValueError("this is no checkpoint")
     try:
-        replica = new(format, bits, number)
-    except class_of("BadRing") as refused:
+        replica = new(tree_format, bits, number)
+    except BadRing as refused:
         raise ValueError(f"the limit, or bits {bits} and range {number} of the file, are refused") from refused
     try:
-        _load_leaves(file, replica, _LEAVES[format])
+        _load_leaves(file, replica, _LEAVES[tree_format])
         if replica.root() != root:
             raise ValueError("the checkpoint is damaged: its root differs")
     except BaseException:
@@ -59,12 +59,12 @@ def _load_leaves(file: BinaryIO, replica: Replica, leaves: int) -> None:
 def _load_rows(replica: Replica, leaf: int, rows: bytes) -> None:
     try:
         replica.load_rows(rows)
-    except (class_of("RowBroken"), class_of("OtherRange"), class_of("Crowded")) as refused:
+    except (RowBroken, OtherRange, Crowded) as refused:
         raise ValueError(f"the checkpoint is damaged: the rows of leaf {leaf} are refused") from refused
 
 
 def _read(file: BinaryIO, length: int) -> bytes:
-    """Reads `length` bytes."""
+    """Read `length` bytes."""
     pieces = []
     while length:
         piece = file.read(min(length, _PIECE))
@@ -76,7 +76,7 @@ def _read(file: BinaryIO, length: int) -> bytes:
 
 
 def _write(file: BinaryIO, data: bytes) -> None:
-    """Writes all bytes: a file without a buffer may write fewer at once."""
+    """Write all bytes: a file without a buffer may write fewer at once."""
     rest = memoryview(data)
     while rest:
         written = file.write(rest)

@@ -16,19 +16,24 @@ _LIVE, _TOMBSTONE = int(Kind.LIVE), int(Kind.TOMBSTONE)
 
 
 def fits(number: int, bits: int) -> int:
-    """Returns a number that an unsigned C type of `bits` bits can hold. ctypes truncates other numbers silently."""
+    """Return a number that an unsigned C type of `bits` bits can hold. ctypes truncates other numbers silently."""
     if number >> bits:
         raise OverflowError(f"{number} doesn't fit in {bits} bits")
     return number
 
 
 def to_bytes(data: Any) -> bytes:
-    """Returns the bytes of a bytes-like object."""
+    """Return the bytes of a bytes-like object."""
     return data if isinstance(data, bytes) else bytes(memoryview(data))
 
 
+def to_first(room: Any, length: int) -> bytes:
+    """Return the first bytes of an array of C."""
+    return bytes(room[:length])
+
+
 def to_pairs(clock: ClockLike) -> Tuple[Any, int]:
-    """Returns a clock as an array of pairs, with their number."""
+    """Return a clock as an array of pairs, with their number."""
     if not clock:
         return _NO_PAIRS, 0
     pairs = clock.items() if hasattr(clock, "items") else clock
@@ -39,15 +44,15 @@ def to_pairs(clock: ClockLike) -> Tuple[Any, int]:
 
 
 def to_clock(words: List[int]) -> Clock:
-    """Returns the clock of an array of pairs."""
+    """Return the clock of an array of pairs."""
     return dict(zip(words[::2], words[1::2]))
 
 
 def to_kind(value: Optional[bytes]) -> Tuple[int, bytes]:
-    """Returns the kind and the bytes of a version's value."""
+    """Return the kind and the bytes of a version's value."""
     return (_TOMBSTONE, b"") if value is None else (_LIVE, to_bytes(value))
 
 
 def to_value(kind: int, data: bytes) -> Optional[bytes]:
-    """Returns the value of a version: None for a tombstone."""
+    """Return the value of a version: None for a tombstone."""
     return None if kind == _TOMBSTONE else data

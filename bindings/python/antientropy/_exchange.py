@@ -3,13 +3,14 @@
 from __future__ import annotations
 
 from contextlib import suppress
-from ctypes import c_uint64
-from typing import TYPE_CHECKING, Callable, Iterable, List, Optional
+from ctypes import byref, c_uint64
+from typing import TYPE_CHECKING, Any, Callable, Iterable, List, Optional, Tuple
 
+from ._calls import HandleStruct
 from ._convert import fits, to_bytes
 from ._handle import Handle
 from ._moment import at_moment
-from ._refused import Refused, class_of
+from ._refused import NoVersion, Refused
 from ._values import Bounds, Progress, Report, Synced, Verdict, VerdictKind
 
 if TYPE_CHECKING:
@@ -19,20 +20,31 @@ if TYPE_CHECKING:
 Reach = Callable[[List[bytes]], Iterable[Optional[bytes]]]
 
 
+def _leave(
+    exchange: HandleStruct, replica: HandleStruct, orphans: List[HandleStruct], free: Callable[..., None]
+) -> None:
+    """Leaves an exchange to its replica, since this thread or another one may be in a call of that."""
+    if replica.held:
+        orphans.append(exchange)
+    else:
+        free(byref(exchange))
+
+
 class Exchange(Handle):
     """Carries on a sync with a partner: says which asks to send, and takes the answers in any order.
 
     The program carries both, and no call waits for the partner. It lasts as long as the program wants, with puts and
     other calls of the replica in between; a renewal or a migration ends it. It has the lock of its replica, so several
-    threads may use it. Close it, or use it as a context manager: the replica closes one that was only collected when the
-    next one is opened, or by `Replica.drop_sessions`.
+    threads may use it. Close it, or use it as a context manager: the replica closes one that was only collected when
+    the next one is opened, or by `Replica.drop_sessions`.
     """
 
     _free = "exchange_free"
 
     def __init__(self, replica: Replica, partner: int, offer: bytes, bounds: Bounds) -> None:
+        self._replica = replica
         super().__init__(replica._library)
-        self._replica, self._lock = replica, replica._lock
+        self._lock = replica._lock
         offer, words = to_bytes(offer), (c_uint64 * len(bounds))(*(fits(bound, 64) for bound in bounds))
         args = fits(partner, 64), offer, len(offer), words
         at_moment(replica, replica._to_change(), lambda: self._open_held(*args))
@@ -42,7 +54,7 @@ class Exchange(Handle):
         self._replica._call_held("exchange_open", self._at, *args)
 
     def asks(self) -> List[bytes]:
-        """Returns the asks to send now. One may be an outline, to which the partner sends only what differs.
+        """Return the asks to send now. One may be an outline, to which the partner sends only what differs.
 
         There is none if each outstanding node is on its way or was left, if the bounds leave no room, or if the
         exchange has stopped or is over.
@@ -51,7 +63,7 @@ class Exchange(Handle):
             return list(iter(lambda: self._bytes_held("share_exchange_next", self._replica._share()), b""))
 
     def take(self, answer: bytes) -> Verdict:
-        """Takes a partner's answer, which isn't trusted, and judges it by the node that it names.
+        """Take a partner's answer, which isn't trusted, and judge it by the node that it names.
 
         Answers may arrive in any order, late or twice.
         """
@@ -60,7 +72,7 @@ class Exchange(Handle):
         return Verdict(VerdictKind(kind), self._cause(cause), *counts)
 
     def lose(self, ask: bytes) -> None:
-        """Counts an ask as lost if it is on its way, so that `asks` may return it again. Raises BadMessage."""
+        """Count an ask as lost if it is on its way, so that `asks` may return it again. Raises BadMessage."""
         ask = to_bytes(ask)
         self._call("exchange_lose", ask, len(ask))
 
@@ -69,43 +81,42 @@ class Exchange(Handle):
         self._call("exchange_go_on")
 
     def progress(self) -> Progress:
-        """Returns how far the exchange is."""
+        """Return how far the exchange is."""
         with self._lock:
             words = self._words_held(len(Progress._fields), "share_exchange_report", self._replica._share())
         return Progress(Report(words[0]), self._cause(words[1]), *words[2:])
 
     def left(self) -> List[int]:
-        """Returns the leaves that were left, since a key in each of them is crowded."""
+        """Return the leaves that were left, since a key in each of them is crowded."""
         leaves: List[int] = []
-        with self._lock, suppress(class_of("NoVersion")):
+        with self._lock, suppress(NoVersion):
             while True:
                 node = self._words_held(2, "share_exchange_left", self._replica._share(), len(leaves))
                 leaves.append(node[1])
         return leaves
 
     def close(self) -> None:
-        """Cancels the session if it is in progress, and drops it with the others that have ended.
+        """Cancel the session if it is in progress, and drop it with the others that have ended.
 
         Later calls are refused as Empty.
         """
         with self._to_change():
             is_open = not self._library.exchange_close(self._at, self._replica._at)
             self._free_call(self._at)
+            self._finalizer.detach()
             if is_open:
                 self._replica._call_held("drop_sessions")
                 self._replica._keeper.renew_if_due(self._replica)
 
-    def __del__(self) -> None:
-        """Leaves itself to the replica: this thread or another one may be in a call of that."""
-        if hasattr(self, "_replica") and self._struct.held:
-            self._replica._orphans.append(self._struct)
+    def _freeing(self) -> Tuple[Any, ...]:
+        return _leave, self._struct, self._replica._struct, self._replica._orphans, self._free_call
 
     def _cause(self, number: int) -> Optional[Refused]:
         return self._library.refusal("exchange_take", number) if number else None
 
 
 def sync(replica: Replica, partner: int, offer: bytes, reach: Reach, bounds: Bounds) -> Synced:
-    """Takes the versions of an offer that a replica lacks."""
+    """Take the versions of an offer that a replica lacks."""
     with Exchange(replica, partner, offer, bounds) as exchange:
         while asks := exchange.asks():
             for answer in reach(asks):

@@ -4,10 +4,11 @@ from __future__ import annotations
 
 from ctypes import byref, c_uint8, c_uint64, create_string_buffer
 from threading import RLock
-from typing import Any, ContextManager, List, NoReturn, Optional, TypeVar
+from typing import Any, ContextManager, List, NoReturn, Optional, Tuple, TypeVar
+from weakref import finalize
 
 from ._calls import CLOCK_MAX, READS, HandleStruct
-from ._convert import to_clock, to_value
+from ._convert import to_clock, to_first, to_value
 from ._library import Library
 from ._values import Clock
 
@@ -17,7 +18,7 @@ Self = TypeVar("Self", bound="Handle")
 
 
 def refuse_change(name: str) -> NoReturn:
-    """Raises RuntimeError: a signal handler interrupted a call of an object of that class, and would change it."""
+    """Raise RuntimeError: a signal handler interrupted a call of an object of that class, and would change it."""
     raise RuntimeError(f"a signal handler interrupted a call of this {name}: it may only read")
 
 
@@ -53,11 +54,17 @@ class Handle:
         self._struct = HandleStruct()
         self._at = byref(self._struct)
         self._spare: List[Results] = []
+        self._finalizer = finalize(self, *self._freeing())
+        self._finalizer.atexit = False  # the process ends, and another thread may be in a call
+
+    def _freeing(self) -> Tuple[Any, ...]:
+        """Return the call that frees the memory of a closed or collected object, and its arguments, without that."""
+        return self._free_call, self._at
 
     def close(self) -> None:
         """Frees the memory. Later calls are refused as Empty."""
         with self._to_change():
-            self._free_call(self._at)
+            self._finalizer()
 
     def __enter__(self: Self) -> Self:
         return self
@@ -65,26 +72,22 @@ class Handle:
     def __exit__(self, *error: object) -> None:
         self.close()
 
-    def __del__(self) -> None:
-        if hasattr(self, "_spare"):
-            self.close()
-
     def __reduce_ex__(self, protocol: object) -> NoReturn:
-        """Refuses copies and pickles: two objects would own, and close, one handle."""
+        """Refuse copies and pickles: two objects would own, and close, one handle."""
         raise TypeError(f"a {type(self).__name__} can't be copied or pickled: it owns memory of the library")
 
     def _to_change(self) -> ContextManager[Any]:
-        """Returns the lock, for a call that changes something. Raises RuntimeError if this thread has it."""
+        """Return the lock, for a call that changes something. Raises RuntimeError if this thread has it."""
         if self._lock._is_owned():  # type: ignore[attr-defined]
             refuse_change(type(self).__name__)
         return self._lock
 
     def _share(self) -> Any:
-        """Returns a copy of the handle, for one call that reads it."""
+        """Return a copy of the handle, for one call that reads it."""
         return byref(HandleStruct.from_buffer_copy(self._struct))
 
     def _take_results(self) -> Results:
-        """Memory that no other call uses. The caller appends it to `_spare` after its use, unless it is refused."""
+        """Return memory that no other call uses. The caller appends it to `_spare` after a call that isn't refused."""
         try:
             return self._spare.pop()
         except IndexError:
@@ -109,7 +112,7 @@ class Handle:
             return self._words_held(length, call, *args)
 
     def _words_held(self, length: int, call: str, *args: Any) -> List[int]:
-        """The words of a struct or a number that a call writes."""
+        """Return the words of a struct or a number that a call writes."""
         results = self._take_results()
         self._call_held(call, *args, results.words)
         words = results.words[:length]
@@ -130,7 +133,7 @@ class Handle:
             number = function(handle, *args, results.room, len(results.room), need)
         if number:
             raise self._library.refusal(call, number)
-        data = results.room[: results.need.value]
+        data = to_first(results.room, results.need.value)
         self._spare.append(results)
         return data
 

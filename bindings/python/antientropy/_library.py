@@ -7,9 +7,10 @@ from ctypes import CDLL, Array, byref, c_uint64, c_void_p, cast, create_string_b
 from ctypes.util import find_library
 from pathlib import Path
 from threading import RLock
-from typing import Any, Callable, Optional, Tuple, Type, Union
+from typing import Any, Callable, Optional, Tuple, Union
 
 from ._calls import CALLS, PREFIX, READS, SHARE
+from ._convert import to_first
 from ._refused import Refused, class_of
 
 _MAJOR = 2
@@ -43,26 +44,27 @@ class Library:
             raise AttributeError(call)
         function = getattr(self._dll, PREFIX + name)
         function.restype, function.argtypes = CALLS[name]
-        setattr(self, call, function)
-        return function
+        typed: Callable[..., Any] = function
+        setattr(self, call, typed)
+        return typed
 
     def addresses(self, calls: Tuple[str, ...]) -> Array[c_void_p]:
-        """Returns the addresses of calls, for the extension."""
+        """Return the addresses of calls, for the extension."""
         return (c_void_p * len(calls))(*(cast(self._dll[PREFIX + call], c_void_p).value for call in calls))
 
     def parts(self) -> Tuple[int, int, int]:
-        """Returns the major, the minor and the patch number of the version."""
+        """Return the major, the minor and the patch number of the version."""
         rest, patch = divmod(self.version(), 100)
         major, minor = divmod(rest, 100)
         return major, minor, patch
 
     def refusal(self, call: str, number: int) -> Refused:
-        """Returns the exception of a call that returned a number other than 0."""
+        """Return the exception of a call that returned a number other than 0."""
         name = self.names.get(number, "")
-        return (class_of(name) if name else Refused)(call, number, name)
+        return class_of(name)(call, number, name)
 
     def check(self, call: str, *args: Any) -> None:
-        """Makes a call that needs no handle, and raises if it is refused."""
+        """Make a call that needs no handle, and raise if it is refused."""
         number = getattr(self, call)(*args)
         if number:
             raise self.refusal(call, number)
@@ -70,7 +72,7 @@ class Library:
     def _name(self, number: int) -> str:
         room, need = create_string_buffer(_NAME_ROOM), c_uint64()
         self.name(number, room, _NAME_ROOM, byref(need))
-        return room[: need.value].decode("ascii")
+        return to_first(room, need.value).decode("ascii")
 
     def _number(self, wanted: str) -> int:
         return next(number for number, name in self.names.items() if name == wanted)
@@ -82,7 +84,7 @@ _lock = RLock()
 
 
 def load_library(path: Union[str, os.PathLike[str]]) -> None:
-    """Loads the library from a path. Everything that is made later uses it."""
+    """Load the library from a path. Everything that is made later uses it."""
     global _current
     library = Library(os.fspath(path))
     with _lock:
@@ -90,7 +92,7 @@ def load_library(path: Union[str, os.PathLike[str]]) -> None:
 
 
 def current() -> Library:
-    """Returns the library in use. The first call loads it, if `load_library` didn't."""
+    """Return the library in use. The first call loads it, if `load_library` didn't."""
     global _current
     if _current is None:
         with _lock:
@@ -99,13 +101,8 @@ def current() -> Library:
     return _current
 
 
-def refusal_class(name: str) -> Optional[Type[Refused]]:
-    """Returns the class of a refusal by its name, or None if the library has no such name."""
-    return class_of(name) if name in current().names.values() else None
-
-
 def version() -> Tuple[int, int, int]:
-    """Returns the major, the minor and the patch number of the library's version."""
+    """Return the major, the minor and the patch number of the library's version."""
     return current().parts()
 
 

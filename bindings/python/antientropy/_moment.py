@@ -6,7 +6,7 @@ from threading import get_ident
 from typing import TYPE_CHECKING, Any, Callable, ContextManager, TypeVar
 
 from ._handle import Handle
-from ._refused import class_of
+from ._refused import Dirty
 
 if TYPE_CHECKING:
     from ._replica import Replica
@@ -24,7 +24,7 @@ class _Portion(Handle):
 
 
 def at_moment(replica: Replica, lock: ContextManager[Any], use: Callable[[], T]) -> T:
-    """Holds the rows now as a moment, hashes them, and returns what `use` returns.
+    """Hold the rows now as a moment, hash them, and return what `use` returns.
 
     `use` is called with the replica's lock held, as soon as the moment is whole. The lock is free while nodes are
     hashed. So another thread may hold a later moment meanwhile: then `use` finds that one. If another thread drops the
@@ -49,13 +49,13 @@ def _hash_and_use(replica: Replica, lock: ContextManager[Any], use: Callable[[],
             if not replica._words_held(1, "install_portion", portion._at)[0]:
                 try:
                     return _use_held(replica, use)
-                except class_of("Dirty"):
+                except Dirty:
                     replica._call_held("hold")
             replica._call_held("take_portion", _NODES, portion._at)
 
 
 def _use_held(replica: Replica, use: Callable[[], T]) -> T:
-    """Returns what `use` returns, and drops the moment.
+    """Return what `use` returns, and drop the moment.
 
     Its rows stay with what `use` made, and no later hold frees them under the lock. A call of a signal handler leaves
     its moment to the call that it interrupted.

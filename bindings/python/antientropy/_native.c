@@ -1,8 +1,8 @@
 /* The calls that a store makes for each key, as methods of a base of the class Replica.
  *
- * ctypes loads the library and hands over the addresses of these calls, so nothing is linked. Each method takes the lock
- * of the replica, as all others do. It keeps the GIL, since its call is short, and gives it back only to wait for the
- * lock. A signal handler runs before or after a method, or while it waits, but not while it has the lock.
+ * ctypes loads the library and passes the addresses of these calls, so nothing is linked. Each method takes the lock of
+ * the replica, as all others do. It keeps the GIL, since its call is short, and gives it back only while it waits for
+ * the lock. A signal handler runs before or after a call of the library, or while its method waits.
  */
 #define PY_SSIZE_T_CLEAN
 #include <Python.h>
@@ -456,8 +456,8 @@ static int copy_calls(PyObject *addresses, struct calls *to)
     return fits ? 0 : -1;
 }
 
-/* Binds a replica: its words are the addresses of the calls, its handle, its lock, the functions that raise for a change
- * of an interrupted call and that make a refusal, and the types of results. */
+/* Binds a replica: the words are the addresses of the calls, its handle, its lock, the function that raises if a signal
+ * handler would change it within a call, the one that makes a refusal, and the types of results. */
 static PyObject *bind(Versions *self, PyObject *words)
 {
     PyObject *addresses, *handle, *lock, *refuse_change, *refusal, *receipt, *version, *counts;

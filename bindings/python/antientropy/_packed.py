@@ -16,8 +16,9 @@ _HEAD = Struct(">BH")
 _TAILS = [Struct(f">{'HQ' * pairs}I") for pairs in range(CLOCK_MAX + 1)]
 
 
-def unpack_entries(data: bytes, format: int, number: int = 0) -> Iterator[Entry]:
-    """Yields the entries of packed ones of a format, as `Replica.packed_entries` returns them.
+# pylint: disable-next=too-many-locals
+def unpack_entries(data: bytes, tree_format: int, number: int = 0) -> Iterator[Entry]:
+    """Yield the entries of packed ones of a format, as `Replica.packed_entries` returns them.
 
     The first one gets the number. Raises ValueError if the bytes aren't whole entries: a log needs checksums, too.
     """
@@ -25,7 +26,7 @@ def unpack_entries(data: bytes, format: int, number: int = 0) -> Iterator[Entry]
     # (names are local, and an entry of one pair makes few calls, for speed)
     head, head_size, tails = _HEAD.unpack_from, _HEAD.size, [(tail.unpack_from, tail.size) for tail in _TAILS]
     sources, tombstone, new = tuple(Source), int(Kind.TOMBSTONE), tuple.__new__
-    at, end, has_kind = 0, len(data), format == 2
+    at, end, has_kind = 0, len(data), tree_format == 2
     try:
         while at < end:
             source, length = head(data, at)

@@ -26,7 +26,7 @@ class _Renewal(Handle):
     _free = "renewal_free"
 
     def catch_up(self, replica: Replica) -> None:
-        """Accepts entries until few are left.
+        """Accept entries until few are left.
 
         It accepts more of them at once if other threads put as many meanwhile, so it ends.
         """
@@ -37,7 +37,7 @@ class _Renewal(Handle):
                 most *= 2
 
     def _catch_up_some(self, replica: Replica, most: int) -> int:
-        """Accepts the next entries, and returns the number of those that are left."""
+        """Accept the next entries, and return the number of those that are left."""
         with replica._lock:
             return self._words_held(1, "share_renewal_catch_up", replica._share(), most)[0]
 
@@ -76,12 +76,12 @@ class Keeper:
         self.is_on, self._limit, self._first = True, counts.limit, counts.first
 
     def note_held(self, replica: Replica) -> None:
-        """Notes the journal that a renewal left."""
+        """Note the journal that a renewal left."""
         counts = replica.count()
         self._limit, self._first, self._held = counts.limit, counts.first, counts.entries - counts.first
 
     def is_due(self, entries: int) -> bool:
-        """True if a renewal is due at a count of entries.
+        """Return True if a renewal is due at a count of entries.
 
         It is at nine tenths of the limit, once half of the room that the last renewal left is used.
         """
@@ -89,7 +89,7 @@ class Keeper:
         return used * 10 >= self._limit * 9 and used > self._held and (used - self._held) * 2 >= room
 
     def renew_if_due(self, replica: Replica) -> None:
-        """Starts a thread that renews the replica, if that is due at the count of entries now."""
+        """Start a thread that renews the replica, if that is due at the count of entries now."""
         if not self.is_on:
             return
         with replica._lock:

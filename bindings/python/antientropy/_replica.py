@@ -3,15 +3,15 @@
 from __future__ import annotations
 
 from ctypes import byref, c_uint64, create_string_buffer
-from typing import BinaryIO, Iterable, Iterator, List, Optional, Tuple
+from typing import Any, BinaryIO, Callable, Iterable, Iterator, List, Optional, Tuple
 
 from . import _checkpoint, _exchange
 from ._calls import ENTRY_MAX, HandleStruct
-from ._convert import fits, to_bytes
+from ._convert import fits, to_bytes, to_first
 from ._exchange import Exchange, Reach
 from ._library import Library, current
 from ._packed import unpack_entries
-from ._refused import Refused, class_of
+from ._refused import Refused, RowBroken
 from ._renewal import Keeper, renew_in_place
 from ._snapshot import Snapshot
 from ._values import (
@@ -40,6 +40,14 @@ _ALL = (1 << 64) - 1
 _PACKED_ROOM = 1 << 20
 
 
+def _free_with_orphans(
+    free: Callable[..., None], at: object, free_exchange: Callable[..., None], orphans: List[HandleStruct]
+) -> None:
+    free(at)
+    while orphans:
+        free_exchange(byref(orphans.pop()))
+
+
 class Replica(Versions):
     """A replica of one range of a ring of 2^bits ranges, in format 1 or 2, with a journal of at most `limit` entries.
 
@@ -52,32 +60,33 @@ class Replica(Versions):
     Raises BadRing if a number is outside its limits. Several threads may use a replica.
     """
 
+    # (`_prepare` calls that of the base)  pylint: disable-next=super-init-not-called
     def __init__(
-        self, format: int = 2, bits: int = 0, range: int = 0, limit: int = _LIMIT, *, renew: bool = False
+        self, tree_format: int = 2, bits: int = 0, range_number: int = 0, limit: int = _LIMIT, *, renew: bool = False
     ) -> None:
         self._prepare(current())
-        self._make(renew, "new", format, bits, range, limit)
+        self._make(renew, "new", tree_format, bits, range_number, limit)
 
     @classmethod
     def seeded(
         cls,
         first: int,
         second: int,
-        format: int = 2,
+        tree_format: int = 2,
         bits: int = 0,
-        range: int = 0,
+        range_number: int = 0,
         limit: int = _LIMIT,
         *,
         renew: bool = False,
     ) -> Replica:
-        """Makes a replica that finds keys by a hash with a seed of two words.
+        """Make a replica that finds keys by a hash with a seed of two words.
 
         Random words make it hard for clients to choose keys with equal hashes, which are slow to find. Raises BadRing
         if a number is outside its limits.
         """
         made = cls.__new__(cls)
         made._prepare(current())
-        made._make(renew, "new_seeded", format, bits, range, limit, first, second)
+        made._make(renew, "new_seeded", tree_format, bits, range_number, limit, first, second)
         return made
 
     def _make(self, renew: bool, call: str, *numbers: int) -> None:
@@ -87,18 +96,15 @@ class Replica(Versions):
                 self._keeper.start_held(self)
 
     def _prepare(self, library: Library) -> None:
-        super().__init__(library)
         self._keeper = Keeper()
         #: The threads that are in calls at a moment, once for each call.
         self._moment_threads: List[int] = []
         #: Exchanges that were collected, and not closed.
         self._orphans: List[HandleStruct] = []
+        super().__init__(library)
 
-    def close(self) -> None:
-        """Frees the memory. Later calls are refused as Empty."""
-        with self._to_change():
-            self._close_orphans_held()
-            self._free_call(self._at)
+    def _freeing(self) -> Tuple[Any, ...]:
+        return _free_with_orphans, self._free_call, self._at, self._library.exchange_free, self._orphans
 
     def _close_orphans_held(self) -> None:
         if not self._orphans:
@@ -110,7 +116,7 @@ class Replica(Versions):
         self._library.drop_sessions(self._at)
 
     def renew(self, limit: int = _LIMIT) -> Replica:
-        """Returns a new replica with the versions that are held: one entry for each, and no sessions.
+        """Return a new replica with the versions that are held: one entry for each, and no sessions.
 
         This one is left unchanged: close it, and go on with the new one under the same node number. The numbers of
         entries go on: both count as many, and the next entry gets a number that was never used. The new journal begins
@@ -138,18 +144,18 @@ class Replica(Versions):
         renew_in_place(self, limit)
 
     def migrate(self) -> None:
-        """Converts a replica of format 1 to format 2.
+        """Convert a replica of format 1 to format 2.
 
         All nodes become dirty, open sessions are cancelled, and the moment is dropped.
         """
         self._call("migrate")
 
     def count(self) -> Counts:
-        """Returns the counts of entries, dirty nodes and sessions, and of the entries at the last whole moment."""
+        """Return the counts of entries, dirty nodes and sessions, and of the entries at the last whole moment."""
         return self._count()
 
     def count_bytes(self) -> ByteCounts:
-        """Returns the size of the rows, of the journal and of what sessions keep.
+        """Return the size of the rows, of the journal and of what sessions keep.
 
         It looks at each chunk of 15 rows and at the digests of each session's leaves: call it once in some seconds, not
         at each put.
@@ -174,7 +180,7 @@ class Replica(Versions):
     # ---- versions
 
     def put(self, node: int, key: bytes, value: Optional[bytes], context: ClockLike = ()) -> Receipt:
-        """Puts a value, or a tombstone for None, at a node, after a read, whose clocks are merged in the context.
+        """Put a value, or a tombstone for None, at a node, after a read, whose clocks are merged in the context.
 
         The new version replaces every held version whose clock is at most its clock. The client has read each of these:
         StaleContext means that a held version has a greater counter of the node than the context, so another client has
@@ -190,7 +196,7 @@ class Replica(Versions):
                 self._keeper.renew_if_due(self)
 
     def put_unread(self, node: int, key: bytes, value: Optional[bytes], context: ClockLike = ()) -> Receipt:
-        """Puts as `put` does, for a caller that has made its check itself.
+        """Put as `put` does, for a caller that has made its check itself.
 
         The new version replaces even a held version that the client hasn't read. Raises what `put` raises, but
         StaleContext only if a held version has seen all of the new version's clock.
@@ -201,7 +207,7 @@ class Replica(Versions):
             self._keeper.renew_if_due(self)
 
     def put_many(self, node: int, items: Iterable[Put]) -> List[Receipt]:
-        """Puts each item at a node, in turn, and returns the receipts. An item is a key, a value and maybe a context.
+        """Put each item at a node, in turn, and return the receipts. An item is a key, a value and maybe a context.
 
         It is faster than a loop of puts. At a refusal the puts before it stay: the exception has their receipts in
         `done`. Other threads may make calls between two puts, and `items` may read the replica.
@@ -218,7 +224,7 @@ class Replica(Versions):
         return receipts
 
     def accept(self, key: bytes, clock: ClockLike, value: Optional[bytes]) -> bool:
-        """Accepts a version of another replica, as a copy. Returns False if it was known.
+        """Accept a version of another replica, as a copy. Return False if it was known.
 
         Raises BadClock, ClockFull, BadKey, BadValue, OtherRange, Crowded or JournalFull.
         """
@@ -228,36 +234,36 @@ class Replica(Versions):
             self._keeper.renew_if_due(self)
 
     def get(self, key: bytes) -> List[Version]:
-        """Returns all versions held for a key, as they are at one moment. Several are concurrent."""
+        """Return all versions held for a key, as they are at one moment. Several are concurrent."""
         return self._get(key)
 
     def versions(self, key: bytes) -> Iterator[Version]:
-        """Yields the versions held for a key, and reads each when it is its turn: don't change the key meanwhile."""
+        """Yield the versions held for a key, and read each when it is its turn: don't change the key meanwhile."""
         key, index = to_bytes(key), 0
         while (version := self._read(key, index)) is not None:
             yield version
             index += 1
 
     def count_versions(self, key: bytes) -> int:
-        """Returns the number of versions held for a key."""
+        """Return the number of versions held for a key."""
         key = to_bytes(key)
         return self._get_words(1, "versions", key, len(key))[0]
 
     def read(self, key: bytes, index: int) -> Version:
-        """Returns one of the versions held for a key, by its index from 0. Raises NoVersion."""
+        """Return one of the versions held for a key, by its index from 0. Raises NoVersion."""
         version = self._read(key, index)
         if version is None:
             raise self._library.refusal("read", self._library.no_version)
         return version
 
     def value(self, key: bytes, index: int) -> Optional[bytes]:
-        """Returns the value of one of the versions held for a key: None for a tombstone. Raises NoVersion."""
+        """Return the value of one of the versions held for a key: None for a tombstone. Raises NoVersion."""
         key = to_bytes(key)
         with self._lock:
             return self._value_held("value", key, len(key), fits(index, 64))
 
     def clock(self, key: bytes, index: int) -> Clock:
-        """Returns the clock of one of the versions held for a key. Raises NoVersion."""
+        """Return the clock of one of the versions held for a key. Raises NoVersion."""
         key = to_bytes(key)
         with self._lock:
             return self._clock_held("clock", key, len(key), fits(index, 64))
@@ -265,7 +271,7 @@ class Replica(Versions):
     # ---- the journal
 
     def entries(self, start: Optional[int] = None) -> Iterator[Entry]:
-        """Yields the entries of the journal, from a number on: without one, from the journal's first entry on.
+        """Yield the entries of the journal, from a number on: without one, from the journal's first entry on.
 
         A log reads from the number of its next entry, and lacks none after a renewal if it had all before. Raises
         BadPosition if entries were missed, or if the number isn't one of this journal: it is over the count of entries,
@@ -279,7 +285,7 @@ class Replica(Versions):
             packed = self.packed_entries(packed.next)
 
     def packed_entries(self, start: Optional[int] = None, room: int = _PACKED_ROOM) -> Packed:
-        """Returns entries as their texts, from a number on as `entries` yields them: go on at `next`.
+        """Return entries as their texts, from a number on as `entries` yields them: go on at `next`.
 
         They are as many as fit in `room` bytes, but at least one: there is none only if none follows. Raises
         BadPosition as `entries` does. `unpack_entries` yields the entries of the texts.
@@ -300,10 +306,10 @@ class Replica(Versions):
             number = call(self._share(), first, data, need.value, byref(need), byref(next_number))
         if number:
             raise self._library.refusal("entries", number)
-        return data[: need.value], next_number.value
+        return to_first(data, need.value), next_number.value
 
     def entry(self, number: int) -> Entry:
-        """Returns an entry of the journal, by its number. Raises NoVersion."""
+        """Return an entry of the journal, by its number. Raises NoVersion."""
         fits(number, 64)
         with self._lock:
             key = self._bytes_held("entry_key", number)
@@ -313,7 +319,7 @@ class Replica(Versions):
         return Entry(number, key, clock, value, Source(source))
 
     def top_counter(self, node: int, key: bytes, entries: Optional[int] = None) -> int:
-        """Returns the greatest counter of a node in the clocks of a key's versions, or 0.
+        """Return the greatest counter of a node in the clocks of a key's versions, or 0.
 
         It is that of the journal's entries of numbers below `entries`, or of all. Raises BadClock if the node is 0 or
         over 65,535.
@@ -338,7 +344,7 @@ class Replica(Versions):
         return self._change_words(1, "rehash_some", fits(most, 64))[0]
 
     def hold(self) -> None:
-        """Keeps the rows now as the replica's moment, in the place of another one. No later call changes it.
+        """Keep the rows now as the replica's moment, in the place of another one. No later call changes it.
 
         While a moment is kept, the first change of each block of some rows copies the block. The next hold frees the
         blocks that only this moment has, and other threads wait meanwhile: so drop the moment before its snapshot is
@@ -362,12 +368,12 @@ class Replica(Versions):
         return self._change_words(1, "hash_moment", fits(most, 64))[0]
 
     def moment(self) -> Snapshot:
-        """Returns a snapshot of the moment. Raises Dirty if there is no moment, or if it isn't whole."""
+        """Return a snapshot of the moment. Raises Dirty if there is no moment, or if it isn't whole."""
         with self._lock:
             return Snapshot._of_moment_held(self)
 
     def snapshot(self, rehash: bool = True) -> Snapshot:
-        """Returns a snapshot of the rows now, which are held as a moment and hashed while other threads put.
+        """Return a snapshot of the rows now, which are held as a moment and hashed while other threads put.
 
         The replica keeps no moment then. If `rehash` is False it holds and drops no moment, and raises Dirty if a node
         of the tree has no digest.
@@ -375,31 +381,31 @@ class Replica(Versions):
         return Snapshot(self, rehash)
 
     def root(self) -> bytes:
-        """Returns the digest of the root now. Replicas of a range with equal roots hold the same versions."""
+        """Return the digest of the root now. Replicas of a range with equal roots hold the same versions."""
         with self.snapshot() as snapshot:
             return snapshot.root()
 
     def load_rows(self, rows: bytes) -> Loaded:
-        """Accepts all versions in rows of one leaf as copies, or none. `Snapshot.rows` and `row` return such rows.
+        """Accept all versions in rows of one leaf as copies, or none. `Snapshot.rows` and `row` return such rows.
 
         Raises RowBroken, whose `offset` is that of the broken field, OtherRange, Crowded or JournalFull.
         """
         return self._load_rows("load", to_bytes(rows))
 
-    def load_format(self, format: int, rows: bytes) -> Loaded:
-        """Accepts all versions in rows of a format and of any leaves, in ascending order of key, as copies, or none.
+    def load_format(self, tree_format: int, rows: bytes) -> Loaded:
+        """Accept all versions in rows of a format and of any leaves, in ascending order of key, as copies, or none.
 
         A replica of format 2 loads rows of format 1 too. Raises BadRing (the format is neither 1 nor 2), OtherFormat
         (rows of format 2, replica of format 1), RowBroken, whose `offset` is that of the broken field, OtherRange,
         Crowded or JournalFull.
         """
-        return self._load_rows("load_format", to_bytes(rows), fits(format, 64))
+        return self._load_rows("load_format", to_bytes(rows), fits(tree_format, 64))
 
-    def _load_rows(self, call: str, rows: bytes, *format: int) -> Loaded:
+    def _load_rows(self, call: str, rows: bytes, *numbers: int) -> Loaded:
         words = (c_uint64 * len(Loaded._fields + ("offset",)))()
         try:
-            self._call(call, *format, rows, len(rows), words)
-        except class_of("RowBroken") as refused:
+            self._call(call, *numbers, rows, len(rows), words)
+        except RowBroken as refused:
             refused.offset = words[2]
             raise
         finally:
@@ -407,7 +413,7 @@ class Replica(Versions):
         return Loaded(*words[:2])
 
     def save(self, file: BinaryIO) -> int:
-        """Writes a checkpoint of the rows now (docs/FORMATS.md). Returns the number of the first entry after it.
+        """Write a checkpoint of the rows now (docs/FORMATS.md). Return the number of the first entry after it.
 
         Other threads may put meanwhile. The caller brings the file to its disk.
         """
@@ -417,16 +423,20 @@ class Replica(Versions):
 
     @classmethod
     def load(cls, file: BinaryIO, limit: int = _LIMIT, *, renew: bool = False) -> Replica:
-        """Returns a new replica with the rows of a checkpoint. Raises ValueError if the file is damaged.
+        """Return a new replica with the rows of a checkpoint. Raises ValueError if the file is damaged.
 
         The root finds damage, but no forged file. Check `format`, `bits` and `range` against the configuration.
         """
-        return _checkpoint.load(file, lambda format, bits, range: cls(format, bits, range, limit, renew=renew))
+
+        def new(tree_format: int, bits: int, range_number: int) -> Replica:
+            return cls(tree_format, bits, range_number, limit, renew=renew)
+
+        return _checkpoint.load(file, new)
 
     # ---- exchanges
 
     def exchange(self, partner: int, offer: bytes, bounds: Bounds = Bounds()) -> Exchange:
-        """Opens an exchange with a partner by its offer. If the roots are equal it is finished, and opens no session.
+        """Open an exchange with a partner by its offer. If the roots are equal it is finished, and opens no session.
 
         It compares the rows now, which are held as a moment and hashed while other threads put.
 
@@ -435,7 +445,7 @@ class Replica(Versions):
         return Exchange(self, partner, offer, bounds)
 
     def drop_sessions(self) -> None:
-        """Drops the sessions that have ended, and the rows that they keep. Those of exchanges in progress stay.
+        """Drop the sessions that have ended, and the rows that they keep. Those of exchanges in progress stay.
 
         Entries whose source is PARTNER have the source COPY then.
         """
@@ -444,7 +454,7 @@ class Replica(Versions):
             self._call_held("drop_sessions")
 
     def sync(self, partner: int, offer: bytes, reach: Reach, bounds: Bounds = Bounds()) -> Synced:
-        """Takes the versions of a partner's offer that this replica lacks: an exchange from its begin to its end.
+        """Take the versions of a partner's offer that this replica lacks: an exchange from its begin to its end.
 
         `reach` gets the asks to send, and returns the answers in any order: missing ones are None, or left out. At its
         end, also by an exception, it drops the sessions that have ended, as `drop_sessions` does.

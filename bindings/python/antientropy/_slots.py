@@ -29,7 +29,7 @@ class Slots(Handle):
         self._call("slot_lend")
 
     def give_back(self) -> None:
-        """Gives a slot back, after background work. Raises NoSlot if none is lent."""
+        """Give a slot back, after background work. Raises NoSlot if none is lent."""
         self._call("slot_give_back")
 
     @contextmanager
@@ -42,11 +42,11 @@ class Slots(Handle):
             self.give_back()
 
     def sample(self, moment: int, micros: int) -> None:
-        """Takes the latency of a reply in microseconds, with its moment in milliseconds. Raises ClockBack."""
+        """Take the latency of a reply in microseconds, with its moment in milliseconds. Raises ClockBack."""
         self._call("slots_sample", fits(moment, 64), fits(micros, 32))
 
     def adjust(self, now: int) -> Optional[int]:
-        """Sets the target by the samples of the last minute. Returns their 99th percentile in microseconds.
+        """Set the target by the samples of the last minute. Return their 99th percentile in microseconds.
 
         Without samples it returns None, and the target is left unchanged. Raises ClockBack.
         """
@@ -54,9 +54,9 @@ class Slots(Handle):
         return micros if found else None
 
     def set_target(self, target: int) -> None:
-        """Sets the target. Slots that are lent stay lent. Raises BadRing."""
+        """Set the target. Slots that are lent stay lent. Raises BadRing."""
         self._call("slots_set_target", fits(target, 32))
 
     def count(self) -> SlotCounts:
-        """Returns the target, and the counts of slots that are lent and free."""
+        """Return the target, and the counts of slots that are lent and free."""
         return SlotCounts(*self._get_words(3, "slots_count"))

@@ -42,7 +42,7 @@ class Snapshot(Rows):
 
     @classmethod
     def _of_moment_held(cls, replica: Replica) -> Snapshot:
-        """Returns a snapshot of the moment that a replica keeps."""
+        """Return a snapshot of the moment that a replica keeps."""
         made = cls.__new__(cls)
         Handle.__init__(made, replica._library)
         made._take_moment_held(replica)
@@ -56,7 +56,7 @@ class Snapshot(Rows):
         self.format, self.bits, self.range, self.entries = self.about()
 
     def share(self) -> Snapshot:
-        """Returns another snapshot of the same rows, with a lock of its own. It copies no row.
+        """Return another snapshot of the same rows, with a lock of its own. It copies no row.
 
         Threads that each have one don't wait for each other. The rows are freed with the last one.
         """
@@ -68,33 +68,33 @@ class Snapshot(Rows):
         return shared
 
     def count_bytes(self) -> int:
-        """Returns the size of the rows in bytes, as `rows` returns them."""
+        """Return the size of the rows in bytes, as `rows` returns them."""
         return self._get_words(1, "snapshot_bytes")[0]
 
     def root(self) -> bytes:
-        """Returns the digest of the root: 32 bytes."""
+        """Return the digest of the root: 32 bytes."""
         return self._get_bytes("root")
 
     def digest(self, depth: int, index: int) -> bytes:
-        """Returns the digest of a node of the tree: 32 bytes. Raises BadMessage if the tree has no such node.
+        """Return the digest of a node of the tree: 32 bytes. Raises BadMessage if the tree has no such node.
 
         The root is node 0 at depth 0. The leaves are at depth 2, or at 3 in format 2.
         """
         return self._get_bytes("digest", fits(depth, 64), fits(index, 64))
 
     def offer(self, number: int) -> bytes:
-        """Returns the message that offers the snapshot. The caller gives each of its offers a number."""
+        """Return the message that offers the snapshot. The caller gives each of its offers a number."""
         return self._get_bytes("offer", fits(number, 32))
 
     def serve(self, number: int, ask: bytes) -> bytes:
-        """Returns the answer to a partner's ask for the offer of that number. Raises BadMessage or Gone."""
+        """Return the answer to a partner's ask for the offer of that number. Raises BadMessage or Gone."""
         ask = to_bytes(ask)
         return self._get_bytes("serve", fits(number, 32), ask, len(ask))
 
     def rows(self, leaf: int) -> bytes:
-        """Returns the texts of the rows of a leaf. Raises BadMessage if the tree has no such leaf."""
+        """Return the texts of the rows of a leaf. Raises BadMessage if the tree has no such leaf."""
         return self._get_bytes("rows", fits(leaf, 64))
 
     def save(self, file: BinaryIO) -> None:
-        """Writes a checkpoint of the rows (docs/FORMATS.md)."""
+        """Write a checkpoint of the rows (docs/FORMATS.md)."""
         _checkpoint.save(file, self)

@@ -6,7 +6,7 @@ from functools import partial
 from typing import TYPE_CHECKING, Callable, List, Optional
 
 from ._calls import CLOCK_MAX
-from ._convert import fits, to_bytes, to_clock, to_kind, to_pairs, to_value
+from ._convert import fits, to_bytes, to_clock, to_first, to_kind, to_pairs, to_value
 from ._handle import Results, refuse_change
 from ._library import Library
 from ._rows import Rows
@@ -61,7 +61,7 @@ class VersionsByCtypes(Rows):
         return versions
 
     def _read(self, key: bytes, index: int) -> Optional[Version]:
-        """Returns a version of a key, or None if there is no such one."""
+        """Return a version of a key, or None if there is no such one."""
         key = to_bytes(key)
         fits(index, 64)
         with self._lock:
@@ -71,12 +71,12 @@ class VersionsByCtypes(Rows):
         return version
 
     def _read_held(self, results: Results, key: bytes, index: int) -> Optional[Version]:
-        """Does so, with the number of versions in `results.reading`."""
+        """Read a version as `_read` does. The number of versions is in `results.reading`."""
         reading, words, room = results.reading, results.words, results.room
         number = self._library.read(self._share(), key, len(key), index, reading, words, CLOCK_MAX, room, len(room))
         if not number:
             _, pairs, size, kind = reading[:]
-            return Version(to_clock(words[: 2 * pairs]), to_value(kind, room[:size]))
+            return Version(to_clock(words[: 2 * pairs]), to_value(kind, to_first(room, size)))
         if number == self._library.no_version:
             return None
         raise self._library.refusal("read", number)

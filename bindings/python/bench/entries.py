@@ -16,7 +16,7 @@ RUNS = 5
 
 
 def measure(count: int, call: Callable[[], Any]) -> int:
-    """Returns the number of entries a second of a function that reads `count` of them."""
+    """Return the number of entries a second of a function that reads `count` of them."""
     best = 0.0
     for _ in range(RUNS):
         start = time.process_time()
@@ -26,7 +26,7 @@ def measure(count: int, call: Callable[[], Any]) -> int:
 
 
 def read_all(replica: Replica) -> int:
-    """Reads each entry as an object. Returns their number."""
+    """Read each entry as an object. Return their number."""
     count = 0
     for _ in replica.entries():
         count += 1
@@ -34,7 +34,7 @@ def read_all(replica: Replica) -> int:
 
 
 def read_packed(replica: Replica) -> int:
-    """Reads all entries as bytes. Returns the number after the last one."""
+    """Read all entries as bytes. Return the number after the last one."""
     packed = replica.packed_entries()
     while packed.data:
         packed = replica.packed_entries(packed.next)
@@ -42,7 +42,7 @@ def read_packed(replica: Replica) -> int:
 
 
 def main() -> None:
-    """Puts the keys, and reads their entries as objects and as bytes."""
+    """Put the keys, and read their entries as objects and as bytes."""
     count = int(sys.argv[1]) if len(sys.argv) > 1 else 200_000
     with Replica() as replica:
         replica.put_many(1, ((b"key-%06d" % n, n.to_bytes(8, "big") * 4) for n in range(count)))

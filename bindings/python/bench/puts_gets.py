@@ -1,9 +1,9 @@
 #!/usr/bin/env python3
 """Measures how many calls of the package one thread makes in a second, for bench/bindings.
 
-The words are the number of keys, 100000 by default, and the format, 1 by default. Keys have 10 bytes and values 32: they
-are made before, since Python takes longer for them than for a put. No result is kept but the receipts of `put_many`: a
-list of all of them would cost more than the calls. Prints a line of JSON.
+The words are the number of keys, 100000 by default, and the format, 1 by default. Keys have 10 bytes and values 32:
+they are made before, since Python takes longer for them than for a put. Of the results only the receipts of `put_many`
+are kept, since a list of all versions would cost more than the gets. Prints a line of JSON.
 """
 
 import json
@@ -15,14 +15,14 @@ from antientropy import Replica
 
 
 def measure(calls: int, call: Callable[[], Any]) -> int:
-    """Returns the number of calls a second of a function that makes `calls` calls."""
+    """Return the number of calls a second of a function that makes `calls` calls."""
     start = time.perf_counter()
     call()
     return round(calls / (time.perf_counter() - start))
 
 
 def main() -> None:
-    """Puts the keys, one by one and at once, and gets each."""
+    """Put the keys, one by one and at once, and get each."""
     count = int(sys.argv[1]) if len(sys.argv) > 1 else 100_000
     tree_format = int(sys.argv[2]) if len(sys.argv) > 2 else 1
     items = [(b"key-%06d" % n, n.to_bytes(8, "big") * 4) for n in range(count)]

@@ -10,32 +10,33 @@ import socket
 import struct
 import sys
 from pathlib import Path
+from typing import Callable, List
 
 PACKAGE = Path(__file__).resolve().parents[1]
 sys.path.insert(0, str(PACKAGE))
 
-import antientropy  # noqa: E402
+from antientropy import Receipt, Replica, load_library  # noqa: E402  pylint: disable=wrong-import-position
 
 FOLDER = Path(sys.argv[1]) if len(sys.argv) > 1 else PACKAGE.parents[1] / "crates/antientropy_c/out"
 KEYS, LACKED, LATE, OFFERS = 2000, 40, 100, 2
 DONE = b"done"
 
 
-def send(link, message):
-    """Sends a message with its length."""
+def send(link: socket.socket, message: bytes) -> None:
+    """Send a message with its length."""
     link.sendall(struct.pack(">I", len(message)) + message)
 
 
-def receive(link):
-    """Returns the next message."""
+def receive(link: socket.socket) -> bytes:
+    """Return the next message."""
     length = struct.unpack(">I", link.recv(4, socket.MSG_WAITALL))[0]
     return link.recv(length, socket.MSG_WAITALL)
 
 
-def reach_over(link):
-    """Returns what brings asks to the partner at the other end, and returns its answers."""
+def reach_over(link: socket.socket) -> Callable[[List[bytes]], List[bytes]]:
+    """Return a function that sends asks to the partner at the other end, and returns its answers."""
 
-    def reach(asks):
+    def reach(asks: List[bytes]) -> List[bytes]:
         for ask in asks:
             send(link, ask)
         return [receive(link) for _ in asks]
@@ -43,8 +44,10 @@ def reach_over(link):
     return reach
 
 
-def offer(link, replica, number, write=lambda: None):
-    """Offers the rows of a replica, answers asks until the partner is done, and returns what it said.
+def offer(
+    link: socket.socket, replica: Replica, number: int, write: Callable[[], None] = lambda: None
+) -> bytes:
+    """Offer the rows of a replica, answer asks until the partner is done, and return its last message.
 
     It writes alongside each answer.
     """
@@ -56,9 +59,9 @@ def offer(link, replica, number, write=lambda: None):
     return message
 
 
-def follow(link):
-    """Takes over what the other process offers, and offers its rows at the end."""
-    with antientropy.Replica(limit=100_000) as replica:
+def follow(link: socket.socket) -> None:
+    """Take over what the other process offers, and offer the rows at the end."""
+    with Replica(limit=100_000) as replica:
         for n in range(0, KEYS, 2):
             if n % LACKED:
                 replica.put(2, b"key %d" % n, b"of the follower")
@@ -69,16 +72,15 @@ def follow(link):
         send(link, replica.root())
 
 
-def lead(link):
-    """Goes on writing while it answers, and takes over what the other process has at the end."""
-    written = []
+def lead(link: socket.socket) -> None:
+    """Go on writing while the other process takes over the rows, and take over its rows at the end."""
+    written: List[Receipt] = []
 
-    def write():
+    def write() -> None:
         if len(written) < LATE:
-            replica.put(1, b"late %d" % len(written), b"written meanwhile")
-            written.append(None)
+            written.append(replica.put(1, b"late %d" % len(written), b"written meanwhile"))
 
-    with antientropy.Replica(limit=100_000) as replica:
+    with Replica(limit=100_000) as replica:
         for n in range(KEYS):
             replica.put(1, b"key %d" % n, b"of the leader")
         for number in range(1, OFFERS + 1):
@@ -90,9 +92,9 @@ def lead(link):
         print("roots equal:", "yes" if replica.root() == receive(link) else "no")
 
 
-def main():
-    """Leads in this process, and follows in a child."""
-    antientropy.load_library(FOLDER / "libantientropy.so")
+def main() -> None:
+    """Lead in this process, and follow in a child."""
+    load_library(FOLDER / "libantientropy.so")
     ours, theirs = socket.socketpair()
     child = os.fork()
     if child == 0:

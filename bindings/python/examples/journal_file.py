@@ -49,7 +49,7 @@ class JournalFile:
     """The entries of a journal in a file, with the note of their end. One thread at a time uses it."""
 
     def __init__(self, path: Path) -> None:
-        """Opens a file. Raises Doubt if it is damaged, or was marked."""
+        """Open a file. Raises Doubt if it is damaged, or was marked."""
         self._path = path
         self._is_whole = False
         self._note = _Note(path)
@@ -81,7 +81,7 @@ class JournalFile:
 
     @staticmethod
     def create(path: Path, node: int, ring: Tuple[int, int, int]) -> None:
-        """Makes an empty file and its note."""
+        """Make an empty file and its note."""
         for name in (path, _log_of(path)):
             if name.exists():
                 raise FileExistsError(f"{name} is there")
@@ -99,12 +99,12 @@ class JournalFile:
         _sync(path.parent)
 
     def check_doubt(self) -> None:
-        """Raises Doubt if the file is marked."""
+        """Raise Doubt if the file is marked."""
         if self.doubt:
             raise Doubt(self.doubt)
 
     def read(self) -> Iterator[Tuple[int, bytes, Clock, Optional[bytes]]]:
-        """Yields the place, key, clock and value of each entry. Raises Doubt if one is missing or damaged."""
+        """Yield the place, key, clock and value of each entry. Raises Doubt if one is missing or damaged."""
         with _doubt_if_unreadable():
             for row in self._database.execute("SELECT * FROM entry ORDER BY place"):
                 if row[0] != self.end or not _is_whole(row):
@@ -115,7 +115,7 @@ class JournalFile:
             raise Doubt(f"the entries end at place {self.end}, but {self._noted} were on the disk")
 
     def settle(self) -> None:
-        """Brings to the disk what a killed process has left in the kernel's memory, and notes the end."""
+        """Bring to the disk what a killed process has left in the kernel's memory, and note the end."""
         _sync(_log_of(self._path))
         _sync(self._path.parent)
         if self.end > self._noted:
@@ -128,7 +128,7 @@ class JournalFile:
                 raise
 
     def write(self, first: int, entries: Iterable[Entry], doubt: str) -> None:
-        """Writes entries after those of the file, or in place of them if they begin at another place.
+        """Write entries after those of the file, or in place of them if they begin at another place.
 
         It returns after an fsync and a note. If anything fails, it ends the process.
         """
@@ -154,7 +154,7 @@ class JournalFile:
         self.first, self.doubt, self.end = first, doubt, end
 
     def close(self) -> None:
-        """Closes the file. SQLite makes a checkpoint then, and removes its log: that of a file in doubt is kept."""
+        """Close the file. SQLite makes a checkpoint then, and removes its log: that of a file in doubt is kept."""
         if self._is_whole:
             self._note.sync()
         else:
@@ -178,7 +178,7 @@ class _Note:
     _SLOTS = (0, 512)
 
     def __init__(self, path: Path, mode: str = "r+b") -> None:
-        """Opens the note of a journal. Raises Doubt if it is missing, but the journal isn't."""
+        """Open the note of a journal. Raises Doubt if it is missing, but the journal isn't."""
         self._turn = 0
         try:
             self._file = open(f"{path}-noted", mode, buffering=0)
@@ -187,7 +187,7 @@ class _Note:
             raise Doubt("the note is missing") from error
 
     def read(self) -> Tuple[int, int]:
-        """Returns the place and the node. Raises Doubt if the note is damaged."""
+        """Return the place and the node. Raises Doubt if the note is damaged."""
         slots = [self._read_slot(at) for at in self._SLOTS]
         self._turn = slots.index(min(slots))
         place, node = max(slots)
@@ -196,30 +196,30 @@ class _Note:
         return place, node
 
     def _read_slot(self, at: int) -> Tuple[int, int]:
-        """Returns the place and the node of a slot: zeros if it isn't whole."""
+        """Return the place and the node of a slot: zeros if it isn't whole."""
         data = os.pread(self._file.fileno(), self._FORM.size, at)
         place, node, checksum = self._FORM.unpack(data.ljust(self._FORM.size, b"\0"))
         return (place, node) if checksum == _sum(place, node) else (0, 0)
 
     def write(self, place: int, node: int) -> None:
-        """Writes the place, in one piece."""
+        """Write the place, in one piece."""
         data = self._FORM.pack(place, node, _sum(place, node))
         if os.pwrite(self._file.fileno(), data, self._SLOTS[self._turn]) != len(data):
             raise OSError("the note isn't written")
         self._turn = 1 - self._turn
 
     def sync(self) -> None:
-        """Brings the note to the disk."""
+        """Bring the note to the disk."""
         if not self._file.closed:
             os.fsync(self._file)
 
     def close(self) -> None:
-        """Closes the note."""
+        """Close the note."""
         self._file.close()
 
 
 def salvage(path: Path) -> Tuple[Set[int], List[Tuple[bytes, Clock, Optional[bytes]]]]:
-    """Reads an old file from both ends. Returns the node numbers in it, and the entries that aren't damaged."""
+    """Read an old file from both ends. Return the node numbers in it, and the entries that aren't damaged."""
     used: Set[int] = set()
     rows: Dict[int, Row] = {}
     with suppress(Doubt), closing(_Note(path)) as note:
@@ -240,7 +240,7 @@ def salvage(path: Path) -> Tuple[Set[int], List[Tuple[bytes, Clock, Optional[byt
 
 
 def _open(path: Path, mode: str) -> sqlite3.Connection:
-    """Opens a file for this process alone. A commit returns after an fsync. Raises Doubt if SQLite can't read it."""
+    """Open a file for this process alone. A commit returns after an fsync. Raises Doubt if SQLite can't read it."""
     if mode == "rw" and path.stat().st_size == 0:
         raise Doubt("the file is empty")
     place = f"{path.absolute().as_uri()}?mode={mode}"
@@ -262,7 +262,7 @@ def _open(path: Path, mode: str) -> sqlite3.Connection:
 
 @contextmanager
 def _doubt_if_unreadable() -> Iterator[None]:
-    """Raises Doubt if SQLite can't read its file."""
+    """Raise Doubt if SQLite can't read its file."""
     try:
         yield
     except _UNREADABLE as error:
@@ -270,7 +270,7 @@ def _doubt_if_unreadable() -> Iterator[None]:
 
 
 def _check_pages(database: sqlite3.Connection) -> None:
-    """Raises Doubt if SQLite finds its pages damaged."""
+    """Raise Doubt if SQLite finds its pages damaged."""
     if database.execute("PRAGMA journal_mode").fetchone() != ("wal",):
         raise Doubt("the head of the file is damaged")
     (found,) = database.execute("PRAGMA quick_check(1)").fetchone()
@@ -279,15 +279,15 @@ def _check_pages(database: sqlite3.Connection) -> None:
 
 
 def _read_node(database: sqlite3.Connection) -> Tuple[Any, ...]:
-    """Returns the row of the node, without its checksum."""
+    """Return the row of the node, without its checksum."""
     rows = database.execute("SELECT * FROM node").fetchall()
     if len(rows) != 1 or not _is_whole(rows[0]):
         raise Doubt("the row of the node is damaged")
-    return rows[0][:-1]
+    return tuple(rows[0][:-1])
 
 
 def _write_node(database: sqlite3.Connection, *fields: Any) -> None:
-    """Writes the row of the node."""
+    """Write the row of the node."""
     database.execute("DELETE FROM node")
     database.execute("INSERT INTO node VALUES (?, ?, ?, ?, ?, ?, ?)", (*fields, _sum(*fields)))
 
@@ -304,12 +304,12 @@ def _from_row(row: Row) -> Tuple[int, bytes, Clock, Optional[bytes]]:
 
 
 def _is_whole(row: Sequence[Any]) -> bool:
-    """True if a row has the checksum of its fields."""
-    return row[-1] == _sum(*row[:-1])
+    """Return True if a row has the checksum of its fields."""
+    return bool(row[-1] == _sum(*row[:-1]))
 
 
 def _sum(*fields: Any) -> bytes:
-    """Returns a checksum of fields: each with its length, so that none looks like two."""
+    """Return a checksum of fields: each with its length, so that none looks like two."""
     checksum = blake2b(digest_size=8)
     for field in fields:
         data = field if isinstance(field, bytes) else repr(field).encode()
@@ -325,7 +325,7 @@ def _log_of(path: Path) -> Path:
 
 
 def _keep_log(path: Path) -> None:
-    """Keeps the log under another name: SQLite removes it at the close, with what it couldn't read."""
+    """Keep the log under another name: SQLite removes it at the close, with what it couldn't read."""
     log = _log_of(path)
     with suppress(OSError):
         if log.stat().st_size > 0:
@@ -333,7 +333,7 @@ def _keep_log(path: Path) -> None:
 
 
 def _sync(path: Path) -> None:
-    """Brings a file or a folder to the disk, if it is there."""
+    """Bring a file or a folder to the disk, if it is there."""
     with suppress(FileNotFoundError):
         file = os.open(path, os.O_RDONLY)
         try:

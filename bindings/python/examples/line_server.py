@@ -14,13 +14,15 @@ import json
 import sqlite3
 import sys
 from contextlib import closing
+from io import TextIOWrapper
 from pathlib import Path
 from typing import Any, Callable, Dict, Iterator, List, NamedTuple, Optional, TextIO, Tuple
 
 import antientropy
 from antientropy import Receipt, Snapshot, Version
 
-from sqlite_store import Doubt, SqliteStore
+from journal_file import Doubt
+from sqlite_store import SqliteStore
 
 Pairs = List[Tuple[int, int]]
 
@@ -75,7 +77,7 @@ class LineServer:
             return {"refused": "Doubt", "why": str(doubt)}
 
     def _read_request(self, line: str) -> Tuple[Callable[..., Any], List[Any]]:
-        """Returns a call with its arguments. Raises ValueError if the line has none."""
+        """Return a call with its arguments. Raises ValueError if the line has none."""
         name, *args = _read_list(json.loads(line))
         call = self._calls.get(_read_text(name))
         if call is None or len(args) != len(call.readers):
@@ -166,7 +168,7 @@ def _read_asks(said: Any) -> List[bytes]:
 
 
 def start(call: str, path: str, *words: str) -> Optional[SqliteStore]:
-    """Does what a command says. Returns the store, if it is to be served."""
+    """Do what a command says. Return the store, if it is to be served."""
     if call == "create":
         SqliteStore.create(Path(path), *map(int, words))
     elif call == "renumber":
@@ -181,8 +183,9 @@ def start(call: str, path: str, *words: str) -> Optional[SqliteStore]:
 
 
 def main() -> None:
-    """Makes, renumbers or serves a store, or says in one line why it can't."""
-    sys.stdin.reconfigure(errors="replace")  # type: ignore[union-attr]
+    """Make, renumber or serve a store, or say in one line why it can't."""
+    if isinstance(sys.stdin, TextIOWrapper):
+        sys.stdin.reconfigure(errors="replace")
     try:
         store = start(*sys.argv[1:])
     except Doubt as doubt:

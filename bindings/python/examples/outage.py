@@ -7,28 +7,28 @@ A, B = 1, 2
 
 
 def sync(replica: Replica, partner: Replica, node: int) -> Synced:
-    """Takes what the partner has. Here its snapshot is called directly; elsewhere the messages go over a network."""
+    """Take what the partner has. Here its snapshot is called directly; elsewhere the messages go over a network."""
     with partner.snapshot() as snapshot:
         return replica.sync(node, snapshot.offer(1), lambda asks: [snapshot.serve(1, ask) for ask in asks])
 
 
 def count(number: int) -> str:
-    """Returns a number of versions in words."""
+    """Return a number of versions in words."""
     return f"{number} version" if number == 1 else f"{number} versions"
 
 
 def equal(a: Replica, b: Replica) -> str:
-    """Returns "yes" if the roots are equal."""
+    """Return "yes" if the roots are equal."""
     return "yes" if a.root() == b.root() else "no"
 
 
 def values(replica: Replica, key: bytes) -> str:
-    """Returns the values of a key."""
-    return " | ".join(version.value.decode() for version in replica.get(key))
+    """Return the values of a key."""
+    return " | ".join(version.value.decode() for version in replica.get(key) if version.value is not None)
 
 
 def main() -> None:
-    """Prints what happens."""
+    """Print what happens."""
     with Replica() as a, Replica() as b:
         a.put(A, b"order", b"paid")
         sync(b, a, A)

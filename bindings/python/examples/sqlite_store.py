@@ -39,7 +39,7 @@ class SqliteStore:
     """
 
     def __init__(self, path: Path, limit: int = _LIMIT) -> None:
-        """Starts the store. Raises Doubt, FileNotFoundError, or ValueError if more is held than the limit."""
+        """Start the store. Raises Doubt, FileNotFoundError, or ValueError if more is held than the limit."""
         self._turn = Condition(Lock())
         #: True while a thread writes into the file. It doesn't have the lock then.
         self._is_writing = False
@@ -53,25 +53,28 @@ class SqliteStore:
         #: Place of an entry in the file less its number in the journal.
         self._offset = self._file.first
         try:
-            self._replica = Replica(*self._file.ring, max(limit, self._file.rows))
+            tree_format, bits, range_number = self._file.ring
+            self._replica = Replica(tree_format, bits, range_number, max(limit, self._file.rows))
             self._load()
         except BaseException:
             self._file.close()
             raise
 
     @staticmethod
-    def create(path: Path, node: int, format: int = 2, bits: int = 0, range: int = 0) -> None:
-        """Makes the files of a node, whose number was never used. Raises FileExistsError if one is there.
+    def create(path: Path, node: int, tree_format: int = 2, bits: int = 0, range_number: int = 0) -> None:
+        """Make the files of a node, whose number was never used. Raises FileExistsError if one is there.
 
         If it is killed, remove what it left.
         """
-        with Replica(format, bits, range) as replica:
+        with Replica(tree_format, bits, range_number) as replica:
             replica.top_counter(node, b"")  # raises BadClock if no node has such a number
-        JournalFile.create(path, node, (format, bits, range))
+        JournalFile.create(path, node, (tree_format, bits, range_number))
 
     @classmethod
-    def renumber(cls, old: Path, new: Path, node: int, format: int = 2, bits: int = 0, range: int = 0) -> int:
-        """Makes a new file with what is readable of an old one, which is left. Returns the number of its versions.
+    def renumber(
+        cls, old: Path, new: Path, node: int, tree_format: int = 2, bits: int = 0, range_number: int = 0
+    ) -> int:
+        """Make a new file with what is readable of an old one, which is left. Return the number of its versions.
 
         The number of its node must be one that was never used. Raises ValueError if the old file has it. What isn't
         readable comes back by syncs if a partner holds it.
@@ -79,19 +82,19 @@ class SqliteStore:
         used, entries = salvage(old)
         if node in used:
             raise ValueError(f"{node} was used: {old} has it")
-        cls.create(new, node, format, bits, range)
+        cls.create(new, node, tree_format, bits, range_number)
         with closing(cls(new, max(_LIMIT, len(entries)))) as store:
             return store._change(lambda replica: sum(_is_accepted(replica, *entry) for entry in entries))
 
     def put(self, key: bytes, value: Optional[bytes], context: ClockLike = ()) -> Receipt:
-        """Puts a value, or a tombstone for None, at the node.
+        """Put a value, or a tombstone for None, at the node.
 
         Read the key before (docs/EMBEDDING_C.md, "A replica").
         """
         return self._change(lambda replica: replica.put(self.node, key, value, context))
 
     def accept(self, key: bytes, clock: ClockLike, value: Optional[bytes]) -> bool:
-        """Accepts a copy or a hint of another node. Returns False if it was known.
+        """Accept a copy or a hint of another node. Return False if it was known.
 
         Raises Doubt if its counter of this node is greater than the store has for the key: the file has lost a put.
         Then it is marked. Nothing is put or accepted any more, and later starts raise Doubt; reads go on.
@@ -99,7 +102,7 @@ class SqliteStore:
         return self._change(lambda replica: replica.accept(key, clock, value))
 
     def sync(self, partner: int, offer: bytes, reach: Reach) -> Synced:
-        """Takes what a partner offers, as `Replica.sync` does. Raises Doubt as `accept` does.
+        """Take what a partner offers, as `Replica.sync` does. Raises Doubt as `accept` does.
 
         Other calls go on meanwhile. After a renewal by one of them the sync begins anew, and counts anew.
         """
@@ -109,32 +112,32 @@ class SqliteStore:
         return synced
 
     def get(self, key: bytes) -> List[Version]:
-        """Returns all versions held for a key."""
+        """Return all versions held for a key."""
         return self._read(lambda replica: replica.get(key))
 
     def entries(self, start: Optional[int] = None) -> List[Entry]:
-        """Returns the entries from a number on, or all: copies for other nodes, or hints.
+        """Return the entries from a number on, or all: copies for other nodes, or hints.
 
         Their numbers go on over renewals, and begin at 0 at each start. Raises BadPosition as `Replica.entries` does.
         """
         return self._read(lambda replica: list(replica.entries(start)))
 
     def snapshot(self) -> Snapshot:
-        """Returns a snapshot of the rows now. Other calls go on meanwhile."""
+        """Return a snapshot of the rows now. Other calls go on meanwhile."""
         snapshot = None
         while snapshot is None:
             snapshot = self._snapshot_once()
         return snapshot
 
     def renew(self) -> None:
-        """Drops the entries that others have replaced, from memory and from the file. Numbers go on."""
+        """Drop the entries that others have replaced, from memory and from the file. Numbers go on."""
         with self._turn:
             self._wait_for_writer()
             self._file.check_doubt()
             self._renew()
 
     def close(self) -> None:
-        """Frees the memory, and closes the file. Calls in progress are refused as Empty."""
+        """Free the memory, and close the file. Calls in progress are refused as Empty."""
         with self._turn:
             self._wait_for_writer()
             self._replica.close()
@@ -147,7 +150,7 @@ class SqliteStore:
             return self._durably(call)
 
     def _change(self, call: Callable[[Replica], T]) -> T:
-        """Makes a call that accepts versions. Raises Doubt before or after it."""
+        """Make a call that accepts versions. Raises Doubt before or after it."""
         with self._turn:
             self._prepare()
             try:
@@ -156,7 +159,7 @@ class SqliteStore:
                 self._file.check_doubt()
 
     def _prepare(self) -> None:
-        """Makes room for new entries. Raises Doubt."""
+        """Make room for new entries. Raises Doubt."""
         self._file.check_doubt()
         while self._is_renewal_due():
             if self._is_writing:
@@ -166,14 +169,14 @@ class SqliteStore:
             self._file.check_doubt()
 
     def _durably(self, call: Callable[[Replica], T]) -> T:
-        """Makes a call, and returns when the file has all that it can show. Refusals show something, too."""
+        """Make a call, and return when the file has all that it can show. Refusals show something, too."""
         try:
             return call(self._replica)
         finally:
             self._save()
 
     def _save(self) -> None:
-        """Returns when the file has all entries of now. One of the threads that wait writes those of all."""
+        """Return when the file has all entries of now. One of the threads that wait writes those of all."""
         end = self._offset + self._replica.count().entries
         while self._file.end < end:
             if self._is_writing:
@@ -182,7 +185,7 @@ class SqliteStore:
                 self._write()
 
     def _write(self) -> None:
-        """Writes the entries that the file lacks. Others may make calls meanwhile."""
+        """Write the entries that the file lacks. Others may make calls meanwhile."""
         replica = self._replica
         self._is_writing = True
         self._turn.release()
@@ -199,7 +202,7 @@ class SqliteStore:
             self._turn.wait()
 
     def _find_lost(self, entries: Iterable[Entry]) -> str:
-        """Notes the counters of new entries. Returns what is wrong if a copy shows that the file has lost a put."""
+        """Note the counters of new entries. Return what is wrong if a copy shows that the file has lost a put."""
         for entry in entries:
             counter, before = entry.clock.get(self.node, 0), self._counters.get(entry.key, 0)
             if counter > before and entry.source is not Source.PUT:
@@ -211,7 +214,7 @@ class SqliteStore:
     # ---- snapshots and syncs
 
     def _snapshot_once(self) -> Optional[Snapshot]:
-        """Makes a snapshot without the lock. Returns None if the replica was renewed meanwhile."""
+        """Make a snapshot without the lock. Return None if the replica was renewed meanwhile."""
         with self._turn:
             replica = self._replica
         try:
@@ -229,7 +232,7 @@ class SqliteStore:
         return None
 
     def _sync_once(self, partner: int, offer: bytes, reach: Reach) -> Optional[Synced]:
-        """Syncs without the lock. Returns None if the replica was renewed meanwhile, or has to be."""
+        """Sync without the lock. Return None if the replica was renewed meanwhile, or has to be."""
         with self._turn:
             self._prepare()
             replica = self._replica
@@ -249,7 +252,7 @@ class SqliteStore:
     # ---- renewals, and the start
 
     def _is_renewal_due(self) -> bool:
-        """True near the limit, unless little is gained: a replica that is full of held versions isn't renewed again."""
+        """Return True near the limit, unless little is gained: a replica full of held versions isn't renewed again."""
         count = self._replica.count()
         kept, grown = count.entries - count.first, count.entries - self._renewed
         return 10 * kept >= 9 * self._limit and 20 * grown >= self._limit
@@ -270,7 +273,7 @@ class SqliteStore:
         self._turn.notify_all()
 
     def _load(self) -> None:
-        """Accepts the entries of the file, by rising place. An entry that was there is new each time."""
+        """Accept the entries of the file, by rising place. An entry that was there is new each time."""
         for place, key, clock, value in self._file.read():
             if not _is_accepted(self._replica, key, clock, value):
                 raise Doubt(f"entry {place} doesn't follow from those before it")
@@ -290,7 +293,7 @@ class SqliteStore:
 
 
 def _is_accepted(replica: Replica, key: bytes, clock: Clock, value: Optional[bytes]) -> bool:
-    """True if a replica accepts an entry as new."""
+    """Return True if a replica accepts an entry as new."""
     try:
         return replica.accept(key, clock, value)
     except antientropy.Refused:

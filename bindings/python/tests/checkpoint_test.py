@@ -52,7 +52,7 @@ class CheckpointTest(unittest.TestCase):
             self.load(data)
 
     def test_checkpoint_of_the_page(self):
-        with Replica(format=1) as replica:
+        with Replica(1) as replica:
             replica.put(1, b"a", b"x")
             file = io.BytesIO()
             self.assertEqual(replica.save(file), 1)
@@ -69,7 +69,7 @@ class CheckpointTest(unittest.TestCase):
         self.assertEqual(Replica.load(io.BytesIO(self.saved), 7).count().limit, 7)
 
     def test_range_of_the_file(self):
-        with Replica(bits=4, range=9) as replica:
+        with Replica(bits=4, range_number=9) as replica:
             file = io.BytesIO()
             replica.save(file)
         loaded = self.load(file.getvalue())

@@ -30,6 +30,10 @@ class ExamplesTest(unittest.TestCase):
         print(output, end="")
         self.assertEqual(output, (EXAMPLES / "outage.out").read_text(encoding="utf-8"))
 
+    def test_asyncio(self):
+        output = run(EXAMPLES / "asyncio_sync.py")
+        self.assertRegex(output, r"^FINISHED: 100 versions accepted, [1-9]\d* asks lost\nroots equal: yes\n$")
+
     def test_readme(self):
         names = {}
         for block in blocks("python"):
@@ -48,9 +52,10 @@ class ExamplesTest(unittest.TestCase):
             shutil.copytree(PACKAGE.parents[1] / "include", Path(folder) / "include")
             command = command.replace("python3", sys.executable, 1)
             subprocess.run(command, shell=True, check=True, cwd=folder, stdout=subprocess.PIPE, stderr=subprocess.PIPE)
-            made = ["v/bin/python", "-c", "import antientropy as a; print(a.version()[0], a.Replica.__mro__, a.__file__)"]
-            environment = {name: value for name, value in os.environ.items() if name not in VARIABLES}
-            output = subprocess.run(made, check=True, cwd=folder, env=environment, capture_output=True, text=True).stdout
+            code = "import antientropy as it; print(it.version()[0], it.Replica.__mro__, it.__file__)"
+            environment = {name: os.environ[name] for name in os.environ if name not in VARIABLES}
+            command = [f"{folder}/v/bin/python", "-c", code]
+            output = subprocess.run(command, cwd=folder, env=environment, capture_output=True, text=True).stdout
         self.assertIn("/v/lib/", output)
         self.assertEqual(output[:2], "2 ")
         if Path(sysconfig.get_path("include"), "Python.h").exists():

@@ -1,6 +1,5 @@
 """The package's declarations are those of the header."""
 
-import configparser
 import re
 import unittest
 from ctypes import c_bool, c_char_p, c_size_t, c_uint8, c_uint32, c_uint64, c_void_p
@@ -10,7 +9,7 @@ import antientropy
 from antientropy import _calls, _checkpoint, _values
 
 HEADER = Path(__file__).resolve().parents[3] / "include/antientropy.h"
-SETUP = Path(__file__).resolve().parents[1] / "setup.cfg"
+PROJECT = Path(__file__).resolve().parents[1] / "pyproject.toml"
 TEXT = re.sub(r"/\*.*?\*/", "", HEADER.read_text(encoding="utf-8"), flags=re.S)
 SCALARS = {"uint8_t": c_uint8, "uint32_t": c_uint32, "uint64_t": c_uint64, "size_t": c_size_t, "bool": c_bool}
 STRUCTS = {"receipt": _values.Receipt, "spot": _values.Spot, "offer_parts": _values.OfferParts,
@@ -97,17 +96,20 @@ class HeaderTest(unittest.TestCase):
         self.assertEqual(antientropy.version()[0], numbers["VERSION_MAJOR"])
 
     def test_version_of_the_package(self):
-        setup = configparser.ConfigParser()
-        setup.read(SETUP, encoding="utf-8")
+        (version,) = re.findall(r'^version = "(.*)"$', PROJECT.read_text(encoding="utf-8"), re.M)
         parts = [str(constants()[f"VERSION_{part}"]) for part in ("MAJOR", "MINOR", "PATCH")]
-        self.assertEqual(setup["metadata"]["version"], ".".join(parts))
+        self.assertEqual(version, ".".join(parts))
 
     def test_refusals_have_the_names_of_the_header(self):
         causes = re.search(r"enum \{\s*ANTIENTROPY_OK = 0,(.*?)\};", TEXT, re.S).group(1)
-        for name, number in re.findall(r"ANTIENTROPY_(\w+) = (\d+)", causes):
-            refusal = getattr(antientropy, name.title().replace("_", ""))
-            self.assertTrue(issubclass(refusal, antientropy.Refused))
-            self.assertEqual(antientropy._library.current().names[int(number)], refusal.__name__)
+        numbers = re.findall(r"ANTIENTROPY_(\w+) = (\d+)", causes)
+        names = {int(number): name.title().replace("_", "") for name, number in numbers}
+        classes = {each.__name__: each for each in antientropy.Refused.__subclasses__()}
+        self.assertEqual(set(names.values()), set(classes))
+        for number, name in names.items():
+            self.assertIs(getattr(antientropy, name), classes[name])
+            self.assertIn(name, antientropy.__all__)
+            self.assertEqual(antientropy._library.current().names[number], name)
 
 
 if __name__ == "__main__":

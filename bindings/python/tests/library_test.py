@@ -37,14 +37,6 @@ class LibraryTest(unittest.TestCase):
         with self.assertRaises(AttributeError):
             current().no_such_call
 
-    def test_refusals(self):
-        self.assertIs(antientropy.Crowded, antientropy.Crowded)
-        self.assertTrue(issubclass(antientropy.Crowded, Refused))
-        self.assertFalse(issubclass(antientropy.Crowded, antientropy.BadKey))
-        for name in ("NoSuchRefusal", "no_such_name", "__wrapped__"):
-            with self.subTest(name), self.assertRaises(AttributeError):
-                getattr(antientropy, name)
-
     def test_refusals_by_pickle(self):
         error = pickle.loads(pickle.dumps(antientropy.Crowded("put", 7, "Crowded")))
         self.assertIs(type(error), antientropy.Crowded)
@@ -73,15 +65,22 @@ class LibraryTest(unittest.TestCase):
                     self.assertTrue(value.__doc__, f"{name}.{member}")
 
     def test_dropped_handles_are_freed(self):
-        freed = []
         replica = Replica()
-        free = replica._free_call
-        replica._free_call = lambda at: (free(at), freed.append(at))
-        snapshot = replica.snapshot()
+        handle, snapshot = replica._struct, replica.snapshot()
         del replica
         gc.collect()
-        self.assertEqual(len(freed), 1)
+        self.assertFalse(handle.held)
         self.assertEqual(len(snapshot.root()), 32)
+
+    def test_cycles_are_freed(self):
+        partner, replica = Replica(), Replica()
+        partner.put(1, b"cart", b"milk")
+        exchange = replica.exchange(1, partner.snapshot().offer(1))
+        handles = replica._struct, exchange._struct
+        replica.exchange = exchange
+        del replica, exchange
+        gc.collect()
+        self.assertEqual([handle.held for handle in handles], [False, False])
 
 
 if __name__ == "__main__":

@@ -115,7 +115,7 @@ class MomentTest(ReplicaCase):
 
     def test_snapshots_and_syncs_beside_puts(self):
         """Two threads take snapshots and sync, while a third one puts without pause."""
-        busy, others = Replica(format=1), {node: Replica(format=1) for node in (2, 3)}
+        busy, others = Replica(1), {node: Replica(1) for node in (2, 3)}
         for replica in (busy, *others.values()):
             self.addCleanup(replica.close)
         stop, taken = threading.Event(), {}

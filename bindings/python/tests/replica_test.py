@@ -185,7 +185,7 @@ class ReplicaTest(ReplicaCase):
         self.assertEqual(self.replica.count().dirty, 4)
 
     def test_rehash_some(self):
-        with Replica(format=1) as replica, Replica(format=1) as other:
+        with Replica(1) as replica, Replica(1) as other:
             for each in (replica, other):
                 each.put_many(1, ((b"key %d" % n, b"value") for n in range(50)))
             dirty = replica.count().dirty
@@ -216,7 +216,7 @@ class ReplicaTest(ReplicaCase):
             self.assertEqual(replica.root().hex()[:8], "22ba8eee")
 
     def test_rows_of_before_a_migration(self):
-        with Replica(format=1) as first, Replica(format=1) as again:
+        with Replica(1) as first, Replica(1) as again:
             first.put_many(1, ((b"key %d" % n, b"value") for n in range(50)))
             rows = b"".join(map(first.row, sorted(first.keys())))
             self.assertEqual(self.replica.load_format(1, rows), (50, 0))
@@ -286,7 +286,7 @@ class RefusalTest(ReplicaCase):
 
     def test_bad_value(self):
         self.refused("BadValue", self.replica.put, 1, b"k", bytes(65537), {1: 1})
-        with Replica(format=1) as first:
+        with Replica(1) as first:
             self.assert_refused("BadValue", first, first.put, 1, b"k", None)
 
     def test_stale_context(self):
@@ -305,7 +305,7 @@ class RefusalTest(ReplicaCase):
 
     def test_other_range(self):
         spot = antientropy.place(2, 1, b"k")
-        with Replica(bits=1, range=1 - spot.range) as other:
+        with Replica(bits=1, range_number=1 - spot.range) as other:
             self.assert_refused("OtherRange", other, other.put, 1, b"k", b"")
             self.assert_refused("OtherRange", other, other.load_rows, self.replica.row(b"k"))
 
