@@ -23,7 +23,7 @@ Reach = Callable[[List[bytes]], Iterable[Optional[bytes]]]
 def _leave(
     exchange: HandleStruct, replica: HandleStruct, orphans: List[HandleStruct], free: Callable[..., None]
 ) -> None:
-    """Leaves an exchange to its replica, since this thread or another one may be in a call of that."""
+    """Leave an exchange to its replica, since this thread or another one may be in a call of that."""
     if replica.held:
         orphans.append(exchange)
     else:
@@ -77,7 +77,7 @@ class Exchange(Handle):
         self._call("exchange_lose", ask, len(ask))
 
     def go_on(self) -> None:
-        """Lets asks be sent again after there was no room for an answer. Asks whose answers were refused are lost."""
+        """Let asks be sent again after there was no room for an answer. Asks whose answers were refused are lost."""
         self._call("exchange_go_on")
 
     def progress(self) -> Progress:

@@ -62,7 +62,7 @@ class Handle:
         return self._free_call, self._at
 
     def close(self) -> None:
-        """Frees the memory. Later calls are refused as Empty."""
+        """Free the memory. Later calls are refused as Empty."""
         with self._to_change():
             self._finalizer()
 

@@ -43,7 +43,7 @@ class _Renewal(Handle):
 
 
 def renew_in_place(replica: Replica, limit: int) -> None:
-    """Renews a replica in its place."""
+    """Renew a replica in its place."""
     fits(limit, 64)
     with _Renewal(replica._library) as renewal:
         to_change = replica._to_change()
@@ -71,7 +71,7 @@ class Keeper:
         self._held = 0
 
     def start_held(self, replica: Replica) -> None:
-        """Renews the replica by itself from now on."""
+        """Renew the replica by itself from now on."""
         counts = replica.count()
         self.is_on, self._limit, self._first = True, counts.limit, counts.first
 
@@ -101,7 +101,7 @@ class Keeper:
                     self._is_at_work = False
 
     def _renew(self, replica: Replica) -> None:
-        """Renews the replica.
+        """Renew the replica.
 
         A renewal that fails counts as one that has dropped no entry: another one is due when half of the room that is
         left is used.

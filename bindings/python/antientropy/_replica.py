@@ -131,7 +131,7 @@ class Replica(Versions):
         return renewed
 
     def renew_in_place(self, limit: int = _LIMIT) -> None:
-        """Renews the replica as `renew` does, in its place, while other threads put.
+        """Renew the replica as `renew` does, in its place, while other threads put.
 
         It holds the rows now as a moment, as `snapshot` does, makes the new journal of them without the lock, and
         accepts what was put meanwhile. Puts wait only for its steps under the lock: the last one accepts a few entries.
@@ -330,14 +330,14 @@ class Replica(Versions):
     # ---- the tree, offers and checkpoints
 
     def rehash(self) -> None:
-        """Hashes all nodes of the tree that have no digest.
+        """Hash all nodes of the tree that have no digest.
 
         Other threads wait meanwhile. Only `snapshot` needs it, if its `rehash` is False.
         """
         self._call("rehash")
 
     def rehash_some(self, most: int) -> int:
-        """Hashes at most `most` of the nodes that have no digest though all their children have one.
+        """Hash at most `most` of the nodes that have no digest though all their children have one.
 
         Returns the number of nodes that have none then. Repeat it until that is 0: other calls may come between.
         """
@@ -354,14 +354,14 @@ class Replica(Versions):
         self._call("hold")
 
     def drop_moment(self) -> None:
-        """Lets go of the moment, if there is one. Snapshots of it stay.
+        """Let go of the moment, if there is one. Snapshots of it stay.
 
         A `snapshot` or a `sync` that hashes the moment in another thread holds another one.
         """
         self._call("drop_moment")
 
     def hash_moment(self, most: int) -> int:
-        """Hashes at most `most` of the moment's nodes that have no digest though all their children have one.
+        """Hash at most `most` of the moment's nodes that have no digest though all their children have one.
 
         Returns the number of its nodes that have none then: 0 if it is whole, or if there is no moment.
         """

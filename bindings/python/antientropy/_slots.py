@@ -25,7 +25,7 @@ class Slots(Handle):
         self._call("slots_new", fits(floor, 32), fits(ceiling, 32), fits(threshold, 32))
 
     def lend(self) -> None:
-        """Lends a slot, before background work. Raises NoSlot if the slots lent reach the target."""
+        """Lend a slot, before background work. Raises NoSlot if the slots lent reach the target."""
         self._call("slot_lend")
 
     def give_back(self) -> None:
@@ -34,7 +34,7 @@ class Slots(Handle):
 
     @contextmanager
     def lent(self) -> Iterator[None]:
-        """Lends a slot for the time of a `with` statement. Raises NoSlot."""
+        """Lend a slot for the time of a `with` statement. Raises NoSlot."""
         self.lend()
         try:
             yield

@@ -59,7 +59,7 @@ class LineServer:
         }
 
     def run(self) -> None:
-        """Answers until the lines end. The first line that it writes has the number of the node."""
+        """Answer until the lines end. The first line that it writes has the number of the node."""
         self._say(self._store.node)
         for line in self._lines:
             self._say(self._answer(line))
@@ -97,7 +97,7 @@ class LineServer:
         return [[entry.number, entry.key.hex(), *_to_json(entry.version)] for entry in self._store.entries(start)]
 
     def _offer(self) -> str:
-        """Offers a new snapshot in place of the last."""
+        """Offer a new snapshot in place of the last."""
         if self._offered is not None:
             self._offered.close()
         self._offered = self._store.snapshot()
@@ -105,7 +105,7 @@ class LineServer:
         return self._offered.offer(self._offers).hex()
 
     def _serve(self, asks: List[bytes]) -> Any:
-        """Answers asks for the last offer."""
+        """Answer asks for the last offer."""
         if self._offered is None:
             return {"refused": "NoOffer"}
         return [self._offered.serve(self._offers, ask).hex() for ask in asks]
@@ -114,7 +114,7 @@ class LineServer:
         return self._store.sync(partner, offer, self._reach).accepted
 
     def _reach(self, asks: List[bytes]) -> List[Optional[bytes]]:
-        """Brings asks to the partner. A line that isn't a list of answers has none."""
+        """Bring asks to the partner. A line that isn't a list of answers has none."""
         self._say([ask.hex() for ask in asks])
         try:
             return [_read_value(answer) for answer in _read_list(json.loads(next(self._lines, "[]")))]

@@ -258,7 +258,7 @@ class SqliteStore:
         return 10 * kept >= 9 * self._limit and 20 * grown >= self._limit
 
     def _renew(self) -> None:
-        """Goes on with a new replica. No other thread writes meanwhile.
+        """Go on with a new replica. No other thread writes meanwhile.
 
         A sync may bring the old one more versions until it is closed. Nobody sees these, and the sync takes them again.
         """
@@ -283,7 +283,7 @@ class SqliteStore:
             self._fit()
 
     def _fit(self) -> None:
-        """Renews a replica that has more entries than the limit."""
+        """Renew a replica that has more entries than the limit."""
         with self._replica.renew(self._file.rows) as renewed:
             count = renewed.count()
         held = count.entries - count.first
