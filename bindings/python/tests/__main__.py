@@ -1,4 +1,4 @@
-"""Runs all tests. The last line is 'N passed, M failed'."""
+"""Runs the tests of the files that are named, or all tests. The last line is 'N passed, M failed'."""
 
 import sys
 import unittest
@@ -8,7 +8,8 @@ from pathlib import Path
 def main() -> int:
     """Runs the tests, and returns the status."""
     folder = Path(__file__).resolve().parent
-    suite = unittest.defaultTestLoader.discover(str(folder), "*_test.py", str(folder.parent))
+    loader, names = unittest.defaultTestLoader, sys.argv[1:] or ["*_test.py"]
+    suite = unittest.TestSuite(loader.discover(str(folder), name, str(folder.parent)) for name in names)
     result = unittest.TextTestRunner(sys.stdout).run(suite)
     failed = len({getattr(test, "test_case", test).id() for test, _ in result.failures + result.errors})
     for test, why in result.skipped:

@@ -6,6 +6,8 @@ import time
 import unittest
 from array import array
 from collections import UserDict
+from importlib import import_module
+from importlib.util import find_spec
 
 import antientropy
 from antientropy import Replica
@@ -16,6 +18,10 @@ SECONDS = 0.5
 
 
 class VersionsTest(unittest.TestCase):
+    @unittest.skipUnless(find_spec("antientropy._native"), "the extension wasn't built")
+    def test_the_extension_is_used(self):
+        self.assertTrue(issubclass(Replica, import_module("antientropy._native").Versions))
+
     def test_bytes_like_objects(self):
         with Replica() as replica:
             for n, key in enumerate((bytearray(b"key"), memoryview(b"xkxexy")[1::2], array("B", b"key"))):
