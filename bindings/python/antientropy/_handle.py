@@ -3,13 +3,13 @@
 from __future__ import annotations
 
 from ctypes import byref, c_uint8, c_uint64, create_string_buffer
-from threading import RLock
 from typing import Any, ContextManager, List, NoReturn, Optional, Tuple, TypeVar
 from weakref import finalize
 
 from ._calls import CLOCK_MAX, READS, HandleStruct
 from ._convert import to_clock, to_first, to_value
 from ._library import Library
+from ._lock import Lock
 from ._values import Clock
 
 _BYTES_ROOM = 1 << 16
@@ -50,7 +50,7 @@ class Handle:
     def __init__(self, library: Library) -> None:
         self._library = library
         self._free_call = getattr(library, self._free)
-        self._lock = RLock()
+        self._lock = Lock()
         self._struct = HandleStruct()
         self._at = byref(self._struct)
         self._spare: List[Results] = []

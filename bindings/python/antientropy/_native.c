@@ -1,4 +1,4 @@
-/* The calls that a store makes for each key, as methods of a base of the class Replica.
+/* The calls that a store makes for each key, as methods of a base of the class Replica, and the lock of all handles.
  *
  * ctypes loads the library and passes the addresses of these calls, so nothing is linked. Each method takes the lock of
  * the replica, as all others do. It keeps the GIL, since its call is short, and gives it back only while it waits for
@@ -22,12 +22,22 @@ struct calls {
     __typeof__(&antientropy_share_count) count;
 };
 
+/* A lock that its thread may take again, as threading.RLock, whose methods take longer than a put. The GIL guards
+ * `owner` and `count`: `owner` is the thread that has the lock, if `count` isn't 0. */
+typedef struct {
+    PyObject_HEAD
+    PyThread_type_lock lock;
+    unsigned long owner;
+    size_t count;
+} Lock;
+
 /* A replica's handle, a struct of ctypes, and what its calls need. */
 typedef struct {
     PyObject_HEAD
     struct calls calls;
     Py_buffer handle;
-    PyObject *acquire, *release, *is_owned, *refuse_change, *refusal;
+    Lock *lock;
+    PyObject *refuse_change, *refusal;
     PyTypeObject *receipt, *version, *counts;
 } Versions;
 
@@ -149,7 +159,7 @@ static int take_input(struct input *to, PyObject *key, PyObject *value, PyObject
 
 /* ---- to Python's values */
 
-/* Returns a struct of numbers as a named tuple. */
+/* Returns a struct of numbers as a named tuple. No cycle can have it, so the collector needn't look at it. */
 static PyObject *numbers_of(PyTypeObject *type, const void *numbers, size_t size)
 {
     const uint64_t *words = numbers;
@@ -162,6 +172,8 @@ static PyObject *numbers_of(PyTypeObject *type, const void *numbers, size_t size
         else
             PyTuple_SET_ITEM(made, i, number);
     }
+    if (made != NULL)
+        PyObject_GC_UnTrack(made);
     return made;
 }
 
@@ -219,38 +231,124 @@ static void refuse(Versions *self, const char *call, uint32_t number)
 
 /* ---- the lock */
 
-/* Calls a function for its effect. */
-static int done(PyObject *function)
+static int is_owned(const Lock *lock)
 {
-    PyObject *result = PyObject_CallNoArgs(function);
-    Py_XDECREF(result);
-    return result == NULL ? -1 : 0;
+    return lock->count > 0 && lock->owner == PyThread_get_thread_ident();
 }
+
+/* Waits for the lock without the GIL. Signal handlers run meanwhile, and may raise. */
+static int wait_for(Lock *lock)
+{
+    for (;;) {
+        PyLockStatus status;
+        Py_BEGIN_ALLOW_THREADS
+        status = PyThread_acquire_lock_timed(lock->lock, -1, 1);
+        Py_END_ALLOW_THREADS
+        if (status == PY_LOCK_ACQUIRED)
+            return 0;
+        if (PyErr_CheckSignals() < 0)
+            return -1;
+    }
+}
+
+static int take_lock(Lock *lock)
+{
+    if (!is_owned(lock)) {
+        if (!PyThread_acquire_lock(lock->lock, NOWAIT_LOCK) && wait_for(lock) < 0)
+            return -1;
+        lock->owner = PyThread_get_thread_ident();
+    }
+    lock->count++;
+    return 0;
+}
+
+static void give_lock(Lock *lock)
+{
+    if (--lock->count == 0)
+        PyThread_release_lock(lock->lock);
+}
+
+static PyObject *lock_new(PyTypeObject *type, PyObject *Py_UNUSED(words), PyObject *Py_UNUSED(names))
+{
+    Lock *lock = (Lock *)type->tp_alloc(type, 0);
+    if (lock != NULL && (lock->lock = PyThread_allocate_lock()) == NULL) {
+        Py_CLEAR(lock);
+        PyErr_NoMemory();
+    }
+    return (PyObject *)lock;
+}
+
+static void lock_dealloc(Lock *lock)
+{
+    if (lock->lock != NULL)
+        PyThread_free_lock(lock->lock);
+    Py_TYPE(lock)->tp_free(lock);
+}
+
+static PyObject *lock_enter(Lock *lock, PyObject *Py_UNUSED(none))
+{
+    if (take_lock(lock) < 0)
+        return NULL;
+    Py_RETURN_TRUE;
+}
+
+static PyObject *lock_exit(Lock *lock, PyObject *Py_UNUSED(error))
+{
+    if (!is_owned(lock)) {
+        PyErr_SetString(PyExc_RuntimeError, "this thread doesn't have the lock");
+        return NULL;
+    }
+    give_lock(lock);
+    Py_RETURN_NONE;
+}
+
+static PyObject *lock_is_owned(Lock *lock, PyObject *Py_UNUSED(none))
+{
+    return PyBool_FromLong(is_owned(lock));
+}
+
+#define METHOD(name, function, flags) {name, (PyCFunction)(void (*)(void))(function), flags, NULL}
+
+static PyMethodDef lock_methods[] = {
+    METHOD("__enter__", lock_enter, METH_NOARGS),
+    METHOD("__exit__", lock_exit, METH_VARARGS),
+    METHOD("_is_owned", lock_is_owned, METH_NOARGS),
+    {NULL, NULL, 0, NULL},
+};
+
+static PyTypeObject lock_type = {
+    PyVarObject_HEAD_INIT(NULL, 0)
+    .tp_name = "antientropy._native.Lock",
+    .tp_basicsize = sizeof(Lock),
+    .tp_flags = Py_TPFLAGS_DEFAULT,
+    .tp_new = lock_new,
+    .tp_dealloc = (destructor)lock_dealloc,
+    .tp_methods = lock_methods,
+};
 
 static int enter(Versions *self)
 {
-    if (self->acquire == NULL) {
+    if (self->lock == NULL) {
         PyErr_SetString(PyExc_RuntimeError, "the replica wasn't made");
         return -1;
     }
-    return done(self->acquire);
+    return take_lock(self->lock);
 }
 
 /* Takes the lock for a change, which is refused if this thread has it already. */
 static int enter_to_change(Versions *self)
 {
-    PyObject *owned = self->is_owned == NULL ? NULL : PyObject_CallNoArgs(self->is_owned);
-    Py_XDECREF(owned);
-    return owned == Py_True ? done(self->refuse_change) : enter(self);
+    if (self->lock != NULL && is_owned(self->lock)) {
+        PyObject *result = PyObject_CallNoArgs(self->refuse_change);
+        Py_XDECREF(result);
+        return -1;
+    }
+    return enter(self);
 }
 
-/* Gives the lock back. An exception stays. */
 static void leave(Versions *self)
 {
-    PyObject *type, *value, *trace;
-    PyErr_Fetch(&type, &value, &trace);
-    done(self->release);
-    PyErr_Restore(type, value, trace);
+    give_lock(self->lock);
 }
 
 /* ---- the methods */
@@ -461,23 +559,20 @@ static int copy_calls(PyObject *addresses, struct calls *to)
 static PyObject *bind(Versions *self, PyObject *words)
 {
     PyObject *addresses, *handle, *lock, *refuse_change, *refusal, *receipt, *version, *counts;
-    if (self->acquire != NULL) {
+    if (self->lock != NULL) {
         PyErr_SetString(PyExc_RuntimeError, "the replica is bound already");
         return NULL;
     }
-    if (!PyArg_ParseTuple(words, "OOOOOO!O!O!", &addresses, &handle, &lock, &refuse_change, &refusal, &PyType_Type,
-                          &receipt, &PyType_Type, &version, &PyType_Type, &counts) ||
+    if (!PyArg_ParseTuple(words, "OOO!OOO!O!O!", &addresses, &handle, &lock_type, &lock, &refuse_change, &refusal,
+                          &PyType_Type, &receipt, &PyType_Type, &version, &PyType_Type, &counts) ||
         copy_calls(addresses, &self->calls) < 0 || PyObject_GetBuffer(handle, &self->handle, PyBUF_WRITABLE) < 0)
         return NULL;
+    Py_INCREF(self->lock = (Lock *)lock);
     Py_INCREF(self->refuse_change = refuse_change);
     Py_INCREF(self->refusal = refusal);
     Py_INCREF(self->receipt = (PyTypeObject *)receipt);
     Py_INCREF(self->version = (PyTypeObject *)version);
     Py_INCREF(self->counts = (PyTypeObject *)counts);
-    if ((self->release = PyObject_GetAttrString(lock, "release")) == NULL ||
-        (self->is_owned = PyObject_GetAttrString(lock, "_is_owned")) == NULL ||
-        (self->acquire = PyObject_GetAttrString(lock, "acquire")) == NULL)
-        return NULL;
     Py_RETURN_NONE;
 }
 
@@ -485,9 +580,7 @@ static void dealloc(Versions *self)
 {
     PyTypeObject *type = Py_TYPE(self);
     PyBuffer_Release(&self->handle);
-    Py_XDECREF(self->acquire);
-    Py_XDECREF(self->release);
-    Py_XDECREF(self->is_owned);
+    Py_XDECREF(self->lock);
     Py_XDECREF(self->refuse_change);
     Py_XDECREF(self->refusal);
     Py_XDECREF(self->receipt);
@@ -496,8 +589,6 @@ static void dealloc(Versions *self)
     type->tp_free(self);
     Py_DECREF(type);
 }
-
-#define METHOD(name, function, flags) {name, (PyCFunction)(void (*)(void))(function), flags, NULL}
 
 static PyMethodDef methods[] = {
     METHOD("_bind", bind, METH_VARARGS),
@@ -520,17 +611,17 @@ static PyType_Spec spec = {
     .slots = slots,
 };
 
-static int add_type(PyObject *module)
+static int add_types(PyObject *module)
 {
     int status = -1;
     PyObject *type = PyType_FromSpec(&spec);
-    if (type != NULL)
+    if (type != NULL && PyModule_AddType(module, &lock_type) == 0)
         status = PyModule_AddType(module, (PyTypeObject *)type);
     Py_XDECREF(type);
     return status;
 }
 
-static PyModuleDef_Slot parts[] = {{Py_mod_exec, add_type}, {0, NULL}};
+static PyModuleDef_Slot parts[] = {{Py_mod_exec, add_types}, {0, NULL}};
 
 static struct PyModuleDef module = {
     PyModuleDef_HEAD_INIT,

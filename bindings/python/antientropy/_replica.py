@@ -209,8 +209,8 @@ class Replica(Versions):
     def put_many(self, node: int, items: Iterable[Put]) -> List[Receipt]:
         """Put each item at a node, in turn, and return the receipts. An item is a key, a value and maybe a context.
 
-        It is faster than a loop of puts. At a refusal the puts before it stay: the exception has their receipts in
-        `done`. Other threads may make calls between two puts, and `items` may read the replica.
+        At a refusal the puts before it stay: the exception has their receipts in `done`. Other threads may make calls
+        between two puts, and `items` may read the replica.
         """
         put = self.put if self._keeper.is_on else self._put_read
         receipts: List[Receipt] = []
