@@ -43,7 +43,10 @@ class _Renewal(Handle):
                 most, outrun = 2 * most, True
 
     def _catch_up_some(self, replica: Replica, most: int) -> Tuple[int, float]:
-        """Accept the next entries. Return the number of those that are left, and the seconds for which it had the lock."""
+        """Accept the next entries.
+
+        Returns the number of those that are left, and the seconds for which it had the lock.
+        """
         with replica._lock:
             begin = perf_counter()
             left = self._words_held(1, "share_renewal_catch_up", replica._share(), most)[0]

@@ -153,8 +153,8 @@ class Bounds(NamedTuple):
     """The bounds of an exchange.
 
     At most so many asks are on their way, and bytes of the answers to them, as far as they can be estimated; one ask
-    may always be. After more bad answers or lost asks the exchange is over. If `plain`, no ask is an outline: that takes
-    less of both processors, and more of the link.
+    may always be. After more bad answers or lost asks the exchange is over. If `plain`, no ask is an outline: that
+    takes less of both processors, and more of the link.
     """
 
     asks: int = 256

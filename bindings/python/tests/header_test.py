@@ -13,7 +13,7 @@ PROJECT = Path(__file__).resolve().parents[1] / "pyproject.toml"
 TEXT = re.sub(r"/\*.*?\*/", "", HEADER.read_text(encoding="utf-8"), flags=re.S)
 SCALARS = {"uint8_t": c_uint8, "uint32_t": c_uint32, "uint64_t": c_uint64, "size_t": c_size_t, "bool": c_bool}
 STRUCTS = {"receipt": _values.Receipt, "spot": _values.Spot, "offer_parts": _values.OfferParts,
-           "bounds": _values.Bounds, "verdict": _values.Verdict, "progress": _values.Progress,
+           "verdict": _values.Verdict, "progress": _values.Progress,
            "counts": _values.Counts, "bytes": _values.ByteCounts, "about": _values.About,
            "hint_counts": _values.HintCounts, "slot_counts": _values.SlotCounts}
 #: C's own loop of a sync: here an exchange is that loop.
@@ -67,6 +67,7 @@ class HeaderTest(unittest.TestCase):
         for struct, value in STRUCTS.items():
             with self.subTest(struct):
                 self.assertEqual(fields(struct), value._fields)
+        self.assertEqual((*fields("bounds"), "plain"), _values.Bounds._fields)
         self.assertEqual(fields("reading"), ("versions", "pairs", "bytes", "kind"))
         self.assertEqual(fields("loaded"), ("taken", "known", "offset"))
         self.assertEqual(fields("percentile"), ("found", "micros"))
