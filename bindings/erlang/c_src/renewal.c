@@ -1,5 +1,6 @@
 /* Renewals of a replica in its place, while other calls go on: in one call, or in two, so that the second one puts the
  * new replica in the place of the old one when its program wants. */
+#define _POSIX_C_SOURCE 200809L /* nanosleep */
 #include "renewal.h"
 
 #include <string.h>
