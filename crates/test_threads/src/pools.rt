@@ -68,8 +68,10 @@ fn expect_patches<R: Wait>(rt: &R, alloc: Global, pool: &OfferPool) -> Result<()
             node: leaf,
         },
     )?;
-    let steps = patch_parts(alloc, patch.as_slice()).map(|parts| parts.1.len());
-    expect(steps == Some(0), "the patch has no steps")?;
+    let Some((_, steps)) = patch_parts(alloc, patch.as_slice()) else {
+        return expect(false, "it is a patch");
+    };
+    expect(steps.is_empty(), "the patch has no steps")?;
     let gone = patch_of(
         rt,
         alloc,
