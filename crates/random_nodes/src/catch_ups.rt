@@ -10,7 +10,7 @@ use plain_model::catch_ups::PlainRenewal;
 use plain_model::plain::{Fault, Part, PlainRange};
 use plain_model::random::Random;
 use plain_model::trouble::{Trouble, expect};
-use range_state::{RangeState, Renewal, RenewalStart};
+use range_state::{RangeState, Renewal, RenewalStart, Unfinished};
 use std::alloc::Global;
 use std::mem::replace;
 use vclock::Format;
@@ -87,10 +87,15 @@ impl CatchUps {
         here: &mut Closed,
         tally: &mut Tally,
     ) -> Result<(), Trouble> {
-        if let Stage::Made(made) = self.stage {
-            let _stage = made.finish(alloc, here, tally)?;
+        let CatchUps { stage, .. } = self;
+        match stage {
+            Stage::Made(made) => {
+                let _stage = made.finish(alloc, here, tally)?;
+                Ok(())
+            }
+            Stage::Begun(_start, _moment) => Ok(()),
+            Stage::None => Ok(()),
         }
-        Ok(())
     }
 }
 
@@ -221,22 +226,16 @@ impl Made {
         let Made { renewal, plain } = self;
         match (here.range.finish(alloc, renewal, SEAT), wanted) {
             (Ok(old), Ok(_)) => {
-                old.check_journal(&here.mirror.plain)?;
-                old.check_walks(&here.mirror.walks, &here.mirror.sessions)?;
+                check_old(&old, &here.mirror)?;
                 tally.count_renewal((plain.front as u64).wrapping_sub(began));
                 here.mirror.replace_range(alloc, plain.range);
                 here.check(alloc)?;
                 Ok(Stage::None)
             }
             (Err(unfinished), Err(fault)) => {
-                expect(
-                    fault.is(&unfinished.refusal),
-                    "the refusal of a renewal's end",
-                )?;
-                let made = Made {
-                    renewal: unfinished.renewal,
-                    plain,
-                };
+                let Unfinished { renewal, refusal } = unfinished;
+                expect(fault.is(&refusal), "the refusal of a renewal's end")?;
+                let made = Made { renewal, plain };
                 made.check()?;
                 Ok(Stage::Made(made))
             }
@@ -252,6 +251,18 @@ impl Made {
             "the number of a new range's entries",
         )
     }
+}
+
+/// Compares the journal and the sessions of a range that a new one replaced.
+fn check_old(old: &Range, mirror: &Mirror) -> Result<(), Trouble> {
+    let Mirror {
+        plain,
+        walks,
+        sessions,
+        ..
+    } = mirror;
+    old.check_journal(plain)?;
+    old.check_walks(walks, sessions)
 }
 
 /// Draws a node that has accepted nothing: of another format, of another part, or neither.
