@@ -128,9 +128,9 @@ impl Refusal {
     /// Returns the name that the library has for the number: no text if it has none.
     #[must_use]
     pub fn name(self) -> String {
+        let number = self.number();
         // SAFETY: no handle; the rest as in `sys`.
-        let name =
-            unsafe { fill::<u8, NAME_ROOM>(|room, len, need| sys::antientropy_name(self.number(), room, len, need)) };
+        let name = unsafe { fill::<u8, NAME_ROOM>(|room, len, need| sys::antientropy_name(number, room, len, need)) };
         String::from_utf8_lossy(&name.unwrap_or_default()).into_owned()
     }
 }
