@@ -10,7 +10,7 @@ use crate::values::{Clock, OfferParts, Order, Spot};
 /// ```
 /// assert_eq!(antientropy::version().0, 2);
 /// ```
-#[must_use] 
+#[must_use]
 pub fn version() -> (u32, u32, u32) {
     // SAFETY: the call takes nothing.
     let number = unsafe { sys::antientropy_version() };

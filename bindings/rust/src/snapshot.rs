@@ -63,25 +63,25 @@ impl Snapshot {
     }
 
     /// Returns the format of the rows.
-    #[must_use] 
+    #[must_use]
     pub fn format(&self) -> u8 {
         self.about.format
     }
 
     /// Returns the bits of the ring.
-    #[must_use] 
+    #[must_use]
     pub fn bits(&self) -> u8 {
         self.about.bits
     }
 
     /// Returns the number of the range.
-    #[must_use] 
+    #[must_use]
     pub fn range(&self) -> u16 {
         self.about.range
     }
 
     /// Returns the number of entries at the moment of the snapshot: a log goes on there.
-    #[must_use] 
+    #[must_use]
     pub fn entries(&self) -> u64 {
         self.about.entries
     }

@@ -27,7 +27,7 @@ pub struct Synced {
 
 impl Synced {
     /// Returns true if each version of the offer was taken.
-    #[must_use] 
+    #[must_use]
     pub fn finished(&self) -> bool {
         self.report == Report::Finished
     }

@@ -31,19 +31,19 @@ pub struct Clock(Vec<Pair>);
 
 impl Clock {
     /// Returns the clock that has seen nothing: the context of a client that has read no version.
-    #[must_use] 
+    #[must_use]
     pub const fn new() -> Clock {
         Clock(Vec::new())
     }
 
     /// Returns the pairs.
-    #[must_use] 
+    #[must_use]
     pub fn pairs(&self) -> &[Pair] {
         &self.0
     }
 
     /// Returns the counter of a node, if the clock has a pair of it.
-    #[must_use] 
+    #[must_use]
     pub fn counter(&self, node: u64) -> Option<u64> {
         self.0.iter().find(|pair| pair.node == node).map(|pair| pair.counter)
     }
@@ -197,7 +197,7 @@ pub struct Version {
 
 impl Version {
     /// Returns the kind of the version.
-    #[must_use] 
+    #[must_use]
     pub fn kind(&self) -> Kind {
         kind_of(self.value.as_deref())
     }
