@@ -1,5 +1,6 @@
 -- Ranks in a sorted list.
-use Rattle.std.proofs.Common.{◌≡◌, ℕ, zero, suc, ◌+◌, ◌*◌, ◌<◌, ◌≤◌, Bool, true, false, ◌-◌, List, [], ◌∷◌, ◌++◌, length, map, drop, take, get_or, cond, refl, sym, ap, ◌∙◌, arith, ⊎_elim}
+use Rattle.std.proofs.Common.{◌≡◌, ℕ, zero, suc, ◌+◌, ◌*◌, ◌<◌, ◌≤◌, Bool, true, false, ◌-◌, List, [], ◌∷◌, ◌++◌, length, map, drop, take, get_or}
+use Rattle.std.proofs.Common.{cond, refl, sym, ap, ◌∙◌, arith, ⊎_elim}
 use Rattle.std.proofs.lemmas.Bool.{cases_lt}
 use Rattle.std.specs.Prelude.{nat_le, nat_lt, Contains, filter, slice_get, slice_index_or, Option, Some, None, min}
 use Rattle.std.proofs.lemmas.Option.{slice_get_within, get_or_from_slice_get}
@@ -139,7 +140,8 @@ least_kept p (x ∷ xs) v zero lt at pass bound =
     let here : p x ≡ true = rw at pass in
     rw (here, at, rest) refl
 least_kept p (x ∷ xs) v (suc k) lt at pass bound =
-    let rest : least (filter p xs) ≡ Some v = least_kept p xs v k (omega (arith, lt)) at pass (λ w there pass. bound w (suc there.0, omega (arith, there.1), there.2) pass) in
+    let rest : least (filter p xs) ≡ Some v = least_kept p xs v k (omega (arith, lt)) at pass
+    (λ w there pass. bound w (suc there.0, omega (arith, there.1), there.2) pass) in
     let cases : (b : Bool) → p x ≡ b → least (cond b (x ∷ filter p xs) (filter p xs)) ≡ Some v =
     λ b. elim b as (λ b. p x ≡ b → least (cond b (x ∷ filter p xs) (filter p xs)) ≡ Some v) [
       | true ↦ λ e. let le : v ≤ x = bound x (0, omega arith, refl) e in

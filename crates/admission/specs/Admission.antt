@@ -1,4 +1,4 @@
--- Background work admitted by the latency of the foreground: the paper of 2007, section 6.5.
+-- Background work admitted by the latency of the foreground: section 6.5 of the Dynamo paper.
 use Rattle.std.specs.Prelude.{ℕ, ◌+◌, ◌-◌, ◌*◌, ◌/◌, ◌≤◌, List, [], ◌∷◌, ◌++◌, length, map, filter, count_by, max, min, nat_le, nat_lt, Contains, Option, Some, None, if◌then◌else◌}
 use Rattle.circular_buffer.specs.Buffer.{keep_last}
 use Rattle.vclock.specs.Outcome.{Outcome, gives, refuses}

@@ -10,9 +10,8 @@ use std::alloc::Global;
 use std::marker::Model;
 use vclock::Refusal;
 
-/// How many slots are lent and how many may be, as numbers: the rules of a [`Controller`](crate::Controller), without the
-/// slots. Use it only if the slots can't be values, as in C: then nothing but the program sees to it that each is given
-/// back once.
+/// The numbers of lent slots and of slots that may be lent: the rules of a [`Controller`](crate::Controller), without
+/// the slots. Use it only if the slots can't be values, as in C: the program itself must return each slot once.
 ///
 /// Moments are in milliseconds, latencies in microseconds. On error a budget is unchanged. Only `new` allocates.
 pub struct SlotBudget {

@@ -11,12 +11,11 @@ use std::marker::Model;
 use std::sync::ledger::{Blank, Book, Ledger, Share};
 use vclock::Refusal;
 
-/// Lends slots, at most as many as its target, which follows the latency of the foreground: section 6.5 of the Dynamo
-/// paper of 2007.
+/// Admission control for background work: lends slots up to a target that follows the latency of the foreground
+/// (section 6.5 of the Dynamo paper).
 ///
 /// Moments are in milliseconds, latencies in microseconds. The slots are parts of a ledger, which counts them. A slot
-/// can't be dropped, so every borrower must give it back. On error a controller is unchanged. Only `new`
-/// allocates.
+/// can't be dropped, so every borrower must return it. On error a controller is unchanged. Only `new` allocates.
 ///
 /// ```
 /// controller.set_target(3);

@@ -18,7 +18,7 @@ pub struct Sample {
     pub micros: u32,
 }
 
-/// Writes the latencies of the last 60,000 milliseconds to the room, oldest first.
+/// Writes the latencies of the last 60,000 milliseconds to the buffer, oldest first.
 #[tactic(auto, using(crate::proofs::Ranks::window_more))]
 pub(crate) fn window(room: &mut Vec<u32>, samples: &HeapCircularBuffer<Sample>, now: u64)
     requires { (1024 ≤ vec_capacity room.old) × (samples.now.capacity ≡ 1024) }
@@ -35,7 +35,7 @@ pub(crate) fn window(room: &mut Vec<u32>, samples: &HeapCircularBuffer<Sample>, 
     }
 }
 
-/// Appends the latency of a sample if it is of the last 60,000 milliseconds.
+/// Appends the latency of a sample from the last 60,000 milliseconds; skips an older one.
 fn keep_new(room: &mut Vec<u32>, sample: &Sample, now: u64)
     requires { vec_len room.old < vec_capacity room.old }
     ensures items { room.new.items ≡ room.old.items ++ window_of now (pairs (sample.now ∷ [])) }
@@ -47,7 +47,7 @@ fn keep_new(room: &mut Vec<u32>, sample: &Sample, now: u64)
     }
 }
 
-/// Returns the 99th percentile of the latencies in the room and sorts them, or returns `None` if the room is empty.
+/// Returns the 99th percentile of the latencies in the buffer and sorts them, or returns `None` if the buffer is empty.
 pub(crate) fn percentile(room: &mut Vec<u32>) -> Option<u32>
     requires { vec_len room.old ≤ 1024 }
     ensures value { result ≡ percentile room.old.items }

@@ -1,5 +1,5 @@
-//! Slots for background work, lent while the foreground is fast enough: section 6.5 of the Dynamo paper of 2007. Use it
-//! to admit background work such as syncs by the latency of reads and writes.
+//! Slots for background work, lent while the foreground is fast enough: section 6.5 of the Dynamo paper. Use it to
+//! admit background work such as syncs by the latency of reads and writes.
 //!
 //! - [`budget`]: the numbers of slots that are lent and may be, which follow the latency of the foreground.
 //! - [`controller`]: lends slots within a budget.

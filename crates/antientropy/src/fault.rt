@@ -1,4 +1,4 @@
-//! Faults, which end the program before its work is done.
+//! Faults, which end the program before its work is finished.
 
 use thiserror::Error;
 

@@ -45,7 +45,7 @@ impl<'a, R: Eprint> Teller<'a, R> {
         );
     }
 
-    /// Prints the tallies of both nodes. A storm goes on even if the line can't be written.
+    /// Prints the tallies of both nodes. A storm continues even if the line can't be written.
     fn tell(&self, when: &str, one: Tally, two: Tally) {
         let _ = eprintln!(self.rt;
             "{when}puts {} and {}, digests {} and {}, stale {} and {}, snapshots {} and {}, syncs {} and {}, \

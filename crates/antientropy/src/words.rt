@@ -97,7 +97,7 @@ pub(crate) fn words_of<R: Env + AllocGlobal>(rt: &R) -> Result<Option<Vec<String
     }
 }
 
-/// Reads the task of the words. An error is a request for help or the version, a mistake, or a lack of memory.
+/// Reads the task of the words. An error means a request for help or the version, a mistake, or that memory ran out.
 pub(crate) fn task_in(alloc: Global, words: &[String]) -> Result<Task, Error> {
     let run = Command::new(alloc, "run")
         .about("Runs a script from standard input, and writes the answers to standard output")

@@ -51,7 +51,8 @@ reads_nothing code old new held s Same Right unchanged was is_code same = (uncha
 pub reads_held : {H S : Type 0} (code : ℕ) (old new : H) (held : Bool) (s : S) (Same : Type 0) (Right : S → Type 0) (t : S)
     → new ≡ old → held ≡ true → t ≡ s → Right t → ReadsOn code old new held s Same Right
 unfolding ReadsOn
-reads_held {H} {S} code old new held s Same Right t unchanged was is right = (unchanged, on_held held held code Same (Right s) was was (subst (λ (x : S). Right x) is right))
+reads_held {H} {S} code old new held s Same Right t unchanged was is right =
+    (unchanged, on_held held held code Same (Right s) was was (subst (λ (x : S). Right x) is right))
 
 -- the number is that of a result
 pub returns : {T : Type 0} (code : ℕ) (Right : Result T Refusal → Type 0) (r : Result T Refusal) → code ≡ code_of r → Right r → Returns code Right

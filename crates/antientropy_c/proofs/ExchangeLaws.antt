@@ -14,7 +14,8 @@ where_already : (was : Bool) (code : ℕ) (old new : Bool × Exchange) (s t : St
 where_already true code old new s t Right is same = same
 where_already false code old new s t Right is same = absurd (cc)
 
-where_opened : (was : Bool) (code : ℕ) (old new : Bool × Exchange) (s t : State) (Right : Result Exchange Refusal → Type 0) (r : Result Exchange Refusal)
+where_opened : (was : Bool) (code : ℕ) (old new : Bool × Exchange) (s t : State) (Right : Result Exchange Refusal → Type 0)
+    (r : Result Exchange Refusal)
     → was ≡ false → code ≡ code_of r → Right r × Holds r new → OpensWhere was code old new s t Right
 where_opened true code old new s t Right r is number right = absurd (cc)
 where_opened false code old new s t Right r is number right = returns code (λ r. Right r × Holds r new) r number right
@@ -36,7 +37,8 @@ holds value new (Ok b) filled = filled
 holds value new (Err e) filled = filled
 
 -- none was, and one was opened, or refused
-pub opened : {B : Type 0} (code : ℕ) (old new : Bool × Exchange) (s t : State) (Right : Result Exchange Refusal → Type 0) (value : B → Exchange) (r : Result B Refusal)
+pub opened : {B : Type 0} (code : ℕ) (old new : Bool × Exchange) (s t : State) (Right : Result Exchange Refusal → Type 0) (value : B → Exchange)
+    (r : Result B Refusal)
     → old.0 ≡ false → code ≡ code_of r → MatchResult r (λ b. (new.0 ≡ true) × (new.1 ≡ value b)) (λ _. new.0 ≡ false) → Right (unboxed value r)
     → OpensIn code old new s t Right
 unfolding OpensIn

@@ -14,11 +14,13 @@ pub held : (code : ℕ) (was now : Bool) (before after : ℕ) (old new s t : Lis
     → was ≡ true → now ≡ true → s ≡ old → new ≡ t → Right (carried before s) (carried after t)
     → CallsOn code (was, carried before old) (now, carried after new) Same Right
 held code was now before after old new s t Same Right is_was is_now is_old is_new right =
-    calls.held code (was, carried before old) (now, carried after new) Same Right (carried before s) (carried after t) is_was is_now (ap (carried before) is_old) (ap (carried after) is_new) right
+    calls.held code (was, carried before old) (now, carried after new) Same Right (carried before s) (carried after t) is_was is_now
+    (ap (carried before) is_old) (ap (carried after) is_new) right
 
 -- hints were held already
 pub already : (code : ℕ) (was now : Bool) (before : ℕ) (old new kept : List Kept) (cause : Option Refusal) (Right : Carried → Type 0)
     → was ≡ true → now ≡ true → kept ≡ old → new ≡ kept → code ≡ HELD
     → MakesIn code (was, carried before old) (now, carried before new) cause Right
 already code was now before old new kept cause Right is_was is_now is_old is_new is_code =
-    makes.already code (was, carried before old) (now, carried before new) cause Right (carried before kept) is_was is_now (ap (carried before) is_old) (ap (carried before) is_new) is_code
+    makes.already code (was, carried before old) (now, carried before new) cause Right (carried before kept) is_was is_now
+    (ap (carried before) is_old) (ap (carried before) is_new) is_code

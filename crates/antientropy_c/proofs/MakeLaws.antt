@@ -23,7 +23,8 @@ where_made false code old new cause Right r is number takes = returns code (Take
 pub already : {S : Type 0} (code : ℕ) (old new : Bool × S) (cause : Option Refusal) (Right : S → Type 0) (kept : S)
     → old.0 ≡ true → new.0 ≡ true → kept ≡ old.1 → new.1 ≡ kept → code ≡ HELD → MakesIn code old new cause Right
 unfolding MakesIn
-already {S} code old new cause Right kept was now is_old is_new is_code = where_already old.0 code old new cause Right was (now, subst (λ (x : S). new.1 ≡ x) is_old is_new, is_code)
+already {S} code old new cause Right kept was now is_old is_new is_code =
+    where_already old.0 code old new cause Right was (now, subst (λ (x : S). new.1 ≡ x) is_old is_new, is_code)
 
 -- none was
 pub made : {S : Type 0} (code : ℕ) (old new : Bool × S) (cause : Option Refusal) (Right : S → Type 0) (r : Result (Unit {0}) Refusal)
@@ -41,26 +42,32 @@ same_code (Ok b) = refl
 same_code (Err e) = refl
 
 takes : {B S : Type 0} (new : Bool × S) (cause : Option Refusal) (Right : S → Type 0) (value : B → S) (r : Result B Refusal)
-    → Answers r cause (λ b. Right (value b)) → MatchResult r (λ b. (new.0 ≡ true) × (new.1 ≡ value b)) (λ _. new.0 ≡ false) → Takes new cause Right (unit_of r)
+    → Answers r cause (λ b. Right (value b)) → MatchResult r (λ b. (new.0 ≡ true) × (new.1 ≡ value b)) (λ _. new.0 ≡ false)
+    → Takes new cause Right (unit_of r)
 takes {B} {S} new cause Right value (Ok b) right filled = ((right.0, (filled.0, subst Right (sym filled.1) right.1)), tt)
 takes new cause Right value (Err e) right filled = (right, filled)
 
 -- none was, and a value was made, or refused
 pub filled : {B S : Type 0} (code : ℕ) (old new : Bool × S) (cause : Option Refusal) (Right : S → Type 0) (value : B → S) (r : Result B Refusal)
-    → old.0 ≡ false → code ≡ code_of r → MatchResult r (λ b. (new.0 ≡ true) × (new.1 ≡ value b)) (λ _. new.0 ≡ false) → Answers r cause (λ b. Right (value b))
+    → old.0 ≡ false → code ≡ code_of r → MatchResult r (λ b. (new.0 ≡ true) × (new.1 ≡ value b)) (λ _. new.0 ≡ false)
+    → Answers r cause (λ b. Right (value b))
     → MakesIn code old new cause Right
 filled code old new cause Right value r was number fills right =
     made code old new cause Right (unit_of r) was (number ∙ same_code r) (takes new cause Right value r right fills)
 
 -- where a call returns what is right, it makes a value in the handle that it fills
-makes : {B S : Type 0} (was : Bool) (code : ℕ) (old new : Bool × S) (Returned : Result B Refusal → Type 0) (value : B → S) (cause : Option Refusal) (Right : S → Type 0)
-    → ((r : Result B Refusal) → Returned r → Answers r cause (λ b. Right (value b))) → FillsWhere was code old new Returned value → MadeWhere was code old new cause Right
+makes : {B S : Type 0} (was : Bool) (code : ℕ) (old new : Bool × S) (Returned : Result B Refusal → Type 0) (value : B → S) (cause : Option Refusal)
+    (Right : S → Type 0)
+    → ((r : Result B Refusal) → Returned r → Answers r cause (λ b. Right (value b))) → FillsWhere was code old new Returned value
+    → MadeWhere was code old new cause Right
 makes true code old new Returned value cause Right right fills = fills
 makes false code old new Returned value cause Right right fills =
-    returns code (Takes new cause Right) (unit_of fills.made) (fills.number ∙ same_code fills.made) (takes new cause Right value fills.made (right fills.made fills.returned) fills.filled)
+    returns code (Takes new cause Right) (unit_of fills.made) (fills.number ∙ same_code fills.made)
+    (takes new cause Right value fills.made (right fills.made fills.returned) fills.filled)
 
 -- the same of a call on a share of another value, which it reads
-pub made_from : {B S T H : Type 0} (from after : T) (held : Bool) (s : S) (code : ℕ) (Same : Type 0) (old new : Bool × H) (Returned : Result B Refusal → Type 0) (value : B → H)
+pub made_from : {B S T H : Type 0} (from after : T) (held : Bool) (s : S) (code : ℕ) (Same : Type 0) (old new : Bool × H)
+    (Returned : Result B Refusal → Type 0) (value : B → H)
     → (cause : S → Option Refusal) (Right : S → H → Type 0)
     → ((r : Result B Refusal) → Returned r → Answers r (cause s) (λ b. Right s (value b)))
     → after ≡ from → OnHeld held held code Same (FillsWhere old.0 code old new Returned value)

@@ -25,7 +25,7 @@ CallsOnState code old new Same Right = OnHeld old.0 new.0 code Same
 abbrev pub Calls : ℕ → Replica → Replica → Type 0 → (State → State → Type 0) → Type 0
 Calls code old new Same Right = CallsOnState code (replica_in old) (replica_in new) Same Right
 
--- a call that reads a value of which a handle has a share, by the handle's flag and the value
+-- a call that reads a value that a handle shares, by the handle's flag and the value
 unfoldable pub ReadsOn : {H S : Type 0} → ℕ → H → H → Bool → S → Type 0 → (S → Type 0) → Type 0
 ReadsOn code old new held s Same Right = (new ≡ old) × OnHeld held held code Same (Right s)
 

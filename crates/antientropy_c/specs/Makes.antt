@@ -7,7 +7,7 @@ use Rattle.c_calls.specs.Kept.{KeptState}
 use Rattle.c_calls.specs.Numbers.{Returns, HELD}
 use Rattle.antientropy_c.specs.declared.replica.Replica.{Replica}
 
--- a handle holds a right value, or is empty on error
+-- a handle holds a value that satisfies `Right`, or is empty on error
 abbrev pub Takes : {S : Type 0} → Bool × S → Option Refusal → (S → Type 0) → Result (Unit {0}) Refusal → Type 0
 Takes new cause Right r = Answers r cause (λ _. (new.0 ≡ true) × Right new.1) × OnErr r (new.0 ≡ false)
 

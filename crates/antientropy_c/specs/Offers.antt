@@ -15,7 +15,7 @@ shown_in h = (h.held, h.shown)
 abbrev pub Shows : ℕ → PublicationShare → PublicationShare → Type 0 → (Shown → Type 0) → Type 0
 Shows code old new Same Right = ReadsOn code old new old.held old.shown Same Right
 
--- one that speaks of its rows
+-- a call that reads the rows of a publication
 abbrev pub ShowsRows : ℕ → PublicationShare → PublicationShare → Type 0 → (RowMap → Type 0) → Type 0
 ShowsRows code old new Same Right = Shows code old new Same (λ m. Right m.rows)
 

@@ -25,8 +25,8 @@ pub extern "C" fn antientropy_share_about(share: &mut ReplicaShare, about: &mut 
     read(share, &mut call)
 }
 
-/// Stores the place of the range of a snapshot, and the number of entries that made its rows: of a moment those that the
-/// replica had at the time. Refused: EMPTY.
+/// Stores the place of the range of a snapshot, and the number of entries that made its rows: for a moment, the
+/// replica's number at that time. Refused: EMPTY.
 #[unsafe(no_mangle)]
 #[tactic(auto, using(crate::proofs::CallLaws::reads_nothing, crate::proofs::CallLaws::reads_held))]
 pub extern "C" fn antientropy_share_snapshot_about(

@@ -1,4 +1,4 @@
-//! Asks for the nodes that a session has outstanding, and outlines of them.
+//! Asks for the outstanding nodes of a session, and outlines of them.
 ghost use Rattle.std.specs.Prelude.{◌≡◌, ℕ, Result};
 ghost use Rattle.vclock.specs.declared.refusal.Refusal.{Refusal};
 ghost use Rattle.c_calls.specs.Asks.{outstanding_count, Asks, Outlines};
@@ -16,7 +16,7 @@ use c_calls::output::hand_out;
 use c_calls::sessions::tell_number;
 use std::alloc::Global;
 
-/// Counts the nodes that a session has outstanding. Refused, in order: EMPTY, UnknownSession.
+/// Counts the outstanding nodes of a session. Refused, in order: EMPTY, UnknownSession.
 #[unsafe(no_mangle)]
 #[tactic(auto, using(crate::proofs::CallLaws::reads_nothing, crate::proofs::CallLaws::reads_held, crate::proofs::CallLaws::returns))]
 pub extern "C" fn antientropy_share_outstanding(
@@ -59,9 +59,8 @@ pub extern "C" fn antientropy_share_ask(
     read(share, &mut call)
 }
 
-/// Writes the message that asks for one of the outstanding nodes of a session, by its place from 0 in the order in
-/// which the session asks: no bytes if fewer are outstanding. Refused, in order: EMPTY, UnknownSession, NoMemory,
-/// SMALL.
+/// Writes the message that asks for one of the outstanding nodes of a session, by its place from 0 in the session's
+/// order: no bytes if fewer are outstanding. Refused, in order: EMPTY, UnknownSession, NoMemory, SMALL.
 #[unsafe(no_mangle)]
 #[tactic(auto, using(crate::proofs::CallLaws::reads_nothing, crate::proofs::CallLaws::reads_held, crate::proofs::CallLaws::gives))]
 pub extern "C" fn antientropy_share_ask_at(
@@ -84,8 +83,8 @@ pub extern "C" fn antientropy_share_ask_at(
     read(share, &mut call)
 }
 
-/// Writes the outline of one of the outstanding nodes of a session, by its place from 0 in the order in which the
-/// session asks, with marks of so many bytes: no bytes if fewer are outstanding.
+/// Writes the outline of one of the outstanding nodes of a session, by its place from 0 in the session's order, with
+/// marks of `width` bytes: no bytes if fewer are outstanding.
 ///
 /// Refused, in order: EMPTY, BadMessage (the width isn't 1 to 8), UnknownSession, NoMemory, SMALL.
 #[unsafe(no_mangle)]

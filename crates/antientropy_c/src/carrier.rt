@@ -1,7 +1,7 @@
 //! The handle of a carrier: its hints, and their numbers.
 use crate::hints::Hints;
 
-/// The hints of a carrier, or nothing: then all its bytes are zero.
+/// The hints of a carrier, or nothing. All bytes of an empty handle are zero.
 #[repr(C)]
 pub struct Carrier {
     /// The store of the hints, which numbers them from 1.

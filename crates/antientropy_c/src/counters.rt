@@ -16,8 +16,8 @@ use c_calls::kept::Kept;
 use c_calls::numbers::code;
 use c_calls::sessions::tell_number;
 
-/// Stores the greatest counter of a node in the clocks of the versions that the entries of numbers below `entries` have
-/// for a key: of all entries if there are fewer, and 0 if no clock has the node. Reads each of these entries.
+/// Stores the greatest counter of a node in the clocks of a key's versions, among the entries with numbers below
+/// `entries`: among all entries if there are fewer, and 0 if no clock has the node. Reads each of these entries.
 /// Refused, in order: EMPTY, BadClock (the node is 0 or over 65,535).
 #[unsafe(no_mangle)]
 #[tactic(auto, using(crate::proofs::CallLaws::reads_nothing, crate::proofs::CallLaws::reads_held, crate::proofs::CallLaws::returns))]

@@ -65,8 +65,8 @@ pub extern "C" fn antientropy_share_entry_clock(
     read(share, &mut call)
 }
 
-/// Stores the source of an entry's version: 0 for a put, 1 for a copy, 2 for a hint, 3 for a partner's. Refused, in order:
-/// EMPTY, NO_VERSION (the journal has no such entry).
+/// Stores the source of an entry's version: 0 for a put, 1 for a copy, 2 for a hint, 3 for a partner's. Refused, in
+/// order: EMPTY, NO_VERSION (the journal has no such entry).
 #[unsafe(no_mangle)]
 #[tactic(auto, using(crate::proofs::CallLaws::reads_nothing, crate::proofs::CallLaws::reads_held))]
 pub extern "C" fn antientropy_share_entry_source(

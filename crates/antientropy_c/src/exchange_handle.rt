@@ -9,7 +9,7 @@ use exchange::Exchange;
 use std::alloc::Global;
 use std::marker::Model;
 
-/// An exchange on the heap, or nothing: then all its bytes are zero, and the ghost exchange is arbitrary.
+/// An exchange on the heap, or nothing. All bytes of an empty handle are zero, and its ghost exchange is arbitrary.
 #[repr(C)]
 #[derive(Drop)]
 pub struct ExchangeHandle {

@@ -70,11 +70,11 @@ fn open_into(
     fill(exchange, made)
 }
 
-/// Writes the message of the next ask to send, and stores its length: 0 if there is none now. If an outline pays and fits
-/// into the room, it is sent in place of the ask, unless memory runs out.
+/// Writes the message of the next ask to send, and stores its length: 0 if none is to be sent now. If an outline pays
+/// and fits into the buffer, it is sent in place of the ask, unless memory runs out.
 ///
-/// Refused, in order: EMPTY (the exchange), EMPTY (the replica), SMALL (the room is below 8 bytes). After SMALL 8 is
-/// stored, and nothing else changes.
+/// Refused, in order: EMPTY (the exchange), EMPTY (the replica), SMALL (the buffer has fewer than 8 bytes). After SMALL
+/// 8 is stored, and nothing else changes.
 #[unsafe(no_mangle)]
 #[tactic(auto, using(crate::proofs::CallLaws::empty, crate::proofs::CallLaws::held))]
 pub extern "C" fn antientropy_share_exchange_next(
@@ -115,7 +115,8 @@ fn next_of(
     read(share, &mut call)
 }
 
-/// Takes the bytes of a partner's answer or patch, and stores the verdict on them. Refused: EMPTY (the exchange or the replica).
+/// Takes the bytes of a partner's answer or patch, and stores the verdict on them. Refused: EMPTY (the exchange or the
+/// replica).
 #[unsafe(no_mangle)]
 #[tactic(auto, using(crate::proofs::CallLaws::empty, crate::proofs::CallLaws::held))]
 pub extern "C" fn antientropy_exchange_take(
@@ -157,8 +158,8 @@ fn take_by(
     with_state(replica, alloc, &mut call)
 }
 
-/// Counts an ask or an outline as lost, by its bytes, if it is on its way. One for another offer changes nothing. Refused,
-/// in order: EMPTY, BadMessage (the bytes are neither). On error the exchange is unchanged.
+/// Counts an ask or an outline as lost, by its bytes, if it is in progress. One for another offer changes nothing.
+/// Refused, in order: EMPTY, BadMessage (the bytes are neither). On error the exchange is unchanged.
 #[unsafe(no_mangle)]
 #[tactic(auto, using(crate::proofs::CallLaws::empty, crate::proofs::CallLaws::held, crate::proofs::CallLaws::returns))]
 pub extern "C" fn antientropy_exchange_lose(
@@ -176,7 +177,8 @@ pub extern "C" fn antientropy_exchange_lose(
     with(exchange, alloc, &mut call)
 }
 
-/// Lets asks be sent again after there was no room for an answer, as [`Exchange::go_on`] does. Refused: EMPTY.
+/// Lets asks be sent again after an answer was refused as JournalFull or NoMemory, as [`Exchange::go_on`] does.
+/// Refused: EMPTY.
 #[unsafe(no_mangle)]
 #[tactic(auto, using(crate::proofs::CallLaws::empty, crate::proofs::CallLaws::held))]
 pub extern "C" fn antientropy_exchange_go_on(alloc: Global, exchange: &mut ExchangeHandle) -> u32
@@ -190,7 +192,7 @@ pub extern "C" fn antientropy_exchange_go_on(alloc: Global, exchange: &mut Excha
     with(exchange, alloc, &mut call)
 }
 
-/// Closes the exchange: cancels its session, if that is in progress. Refused: EMPTY (the exchange or the replica).
+/// Closes the exchange: cancels its session, if it is in progress. Refused: EMPTY (the exchange or the replica).
 #[unsafe(no_mangle)]
 #[tactic(auto, using(crate::proofs::CallLaws::empty, crate::proofs::CallLaws::held))]
 pub extern "C" fn antientropy_exchange_close(
@@ -224,7 +226,7 @@ fn close_in(alloc: Global, exchange: &mut Exchange, replica: &mut Replica) -> u3
     with_state(replica, alloc, &mut call)
 }
 
-/// Frees the exchange of a handle, if any. Its session stays as it is.
+/// Frees the exchange of a handle, if any. Its session is unchanged.
 #[unsafe(no_mangle)]
 pub extern "C" fn antientropy_exchange_free(alloc: Global, exchange: &mut ExchangeHandle)
     ensures { exchange.new.held ≡ false }

@@ -9,8 +9,8 @@ use c_handle::InC;
 use range_state::RangeState;
 use std::alloc::Global;
 
-/// Calls a function with the state of a replica, and returns its code. The numbers of entries are unchanged. Returns EMPTY
-/// if nothing is held.
+/// Calls a function with the state of a replica, and returns its code. The numbers of entries are unchanged. Returns
+/// EMPTY if the handle is empty.
 pub(crate) fn with_state<F: FnMut(&mut RangeState) -> u32>(
     replica: &mut Replica,
     alloc: Global,

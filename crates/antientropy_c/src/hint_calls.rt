@@ -35,9 +35,9 @@ pub extern "C" fn antientropy_hints_new(alloc: Global, hints: &mut Carrier) -> u
     antientropy_hints_restore(alloc, hints, 1)
 }
 
-/// Makes an empty store of hints, whose first hint gets the number `first`: after a restart, one above all that were
-/// used. Refused, in order: HELD (the handle holds one already), UnknownHint (`first` is 0), NoMemory. On error the
-/// handle is unchanged.
+/// Makes an empty store of hints, whose first hint gets the number `first`: after a restart, a number above all that
+/// were used. Refused, in order: HELD (the handle holds one already), UnknownHint (`first` is 0), NoMemory. On error
+/// the handle is unchanged.
 #[unsafe(no_mangle)]
 #[tactic(auto, using(crate::proofs::HintCallLaws::already, crate::proofs::MakeLaws::made))]
 pub extern "C" fn antientropy_hints_restore(alloc: Global, hints: &mut Carrier, first: u64) -> u32
@@ -106,7 +106,7 @@ pub extern "C" fn antientropy_hint_keep(
 }
 
 /// Stores the number of the pending hint of an owner with the least number over `after`. Refused, in order: EMPTY,
-/// NO_VERSION (there is none).
+/// NO_VERSION (no hint follows).
 #[unsafe(no_mangle)]
 #[tactic(auto, using(crate::proofs::CallLaws::empty, crate::proofs::HintCallLaws::held))]
 pub extern "C" fn antientropy_hint_next(
@@ -127,7 +127,7 @@ pub extern "C" fn antientropy_hint_next(
     result
 }
 
-/// Stores the owner of a hint. Refused, in order: EMPTY, NO_VERSION (there is no hint with this number).
+/// Stores the owner of a hint. Refused, in order: EMPTY, NO_VERSION (no hint has this number).
 #[unsafe(no_mangle)]
 #[tactic(auto, using(crate::proofs::CallLaws::empty, crate::proofs::HintCallLaws::held))]
 pub extern "C" fn antientropy_hint_owner(
@@ -147,7 +147,7 @@ pub extern "C" fn antientropy_hint_owner(
     result
 }
 
-/// Copies out the key of a hint. Refused, in order: EMPTY, NO_VERSION (there is no hint with this number), SMALL.
+/// Copies out the key of a hint. Refused, in order: EMPTY, NO_VERSION (no hint has this number), SMALL.
 #[unsafe(no_mangle)]
 #[tactic(auto, using(crate::proofs::CallLaws::empty, crate::proofs::HintCallLaws::held))]
 pub extern "C" fn antientropy_hint_key(
@@ -169,8 +169,7 @@ pub extern "C" fn antientropy_hint_key(
 }
 
 /// Copies out the value of a hint's version, and stores its kind: 0 for a live version, 1 for a tombstone. Refused, in
-/// order: EMPTY, NO_VERSION (there is no hint with this number), SMALL. The kind is stored even if the buffer is too
-/// small.
+/// order: EMPTY, NO_VERSION (no hint has this number), SMALL. The kind is stored even if the buffer is too small.
 #[unsafe(no_mangle)]
 #[tactic(auto, using(crate::proofs::CallLaws::empty, crate::proofs::HintCallLaws::held))]
 pub extern "C" fn antientropy_hint_value(
@@ -192,8 +191,8 @@ pub extern "C" fn antientropy_hint_value(
     result
 }
 
-/// Copies out the pairs of the clock of a hint's version. The pairs ascend by node. Refused, in order: EMPTY, NO_VERSION
-/// (there is no hint with this number), SMALL.
+/// Copies out the pairs of the clock of a hint's version. The pairs ascend by node. Refused, in order: EMPTY,
+/// NO_VERSION (no hint has this number), SMALL.
 #[unsafe(no_mangle)]
 #[tactic(auto, using(crate::proofs::CallLaws::empty, crate::proofs::HintCallLaws::held))]
 pub extern "C" fn antientropy_hint_clock(
@@ -273,8 +272,8 @@ pub extern "C" fn antientropy_hints_count(
     0
 }
 
-/// Stores the size of hints in bytes, pending or delivered, at most 2^64 - 1: their keys, values and clocks, 10 bytes for
-/// each pair of a clock. Refused: EMPTY.
+/// Stores the size of hints in bytes, pending or delivered, at most 2^64 - 1: their keys, values and clocks, 10 bytes
+/// for each pair of a clock. Refused: EMPTY.
 #[unsafe(no_mangle)]
 #[tactic(auto, using(crate::proofs::CallLaws::empty, crate::proofs::HintCallLaws::held))]
 pub extern "C" fn antientropy_hints_bytes(

@@ -9,7 +9,7 @@ use hint_store::HintStore;
 use std::alloc::Global;
 use std::marker::Model;
 
-/// A store of hints on the heap, or nothing: then all its bytes are zero, and the ghost hints are arbitrary.
+/// A store of hints on the heap, or nothing. All bytes of an empty handle are zero, and its ghost hints are arbitrary.
 #[repr(C)]
 #[derive(Drop)]
 pub struct Hints {

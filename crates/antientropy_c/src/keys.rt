@@ -27,9 +27,9 @@ pub extern "C" fn antientropy_share_key_after(
     read(share, &mut call)
 }
 
-/// Puts the least key of a leaf above a key in that key's place: the first one, if the key that was seen has no byte. The
-/// key is the first `key_len` bytes of the room. Refused, in order: EMPTY, BadMessage (the tree has no such leaf), BadKey
-/// (the length is over the room's), NO_VERSION (no key follows), SMALL (the next key doesn't fit). On error the room and
+/// Replaces a key with the least key of a leaf above it: the first one, if the given key has no byte. The key is the
+/// first `key_len` bytes of the buffer. Refused, in order: EMPTY, BadMessage (the tree has no such leaf), BadKey (the
+/// length is over the buffer's), NO_VERSION (no key follows), SMALL (the next key doesn't fit). On error the buffer and
 /// the length are unchanged.
 #[unsafe(no_mangle)]
 #[tactic(auto, using(crate::proofs::CallLaws::reads_nothing, crate::proofs::CallLaws::reads_held))]

@@ -1,7 +1,7 @@
 //! A replica of a range, for programs in C and in languages that can call C. Use it through `include/antientropy.h`,
-//! which declares these calls. An export that changes a value takes it out of its handle, makes a call of `c_calls` with
-//! it, and puts it back. One that reads a replica or a snapshot has a share of the value: the caller passes a copy of the
-//! handle, so threads may read at the same time. Its name begins with `antientropy_share_`.
+//! which declares these calls. An export that changes a value takes it out of its handle, makes a call of `c_calls`
+//! with it, and puts it back. An export that reads a replica or a snapshot shares the value: the caller passes a copy
+//! of the handle, so threads may read at the same time. Its name begins with `antientropy_share_`.
 #![tactic(auto)]
 
 pub mod about;

@@ -19,8 +19,8 @@ pub extern "C" fn antientropy_version() -> u32
     VERSION
 }
 
-/// Copies out the name of a number that a call returned, in ASCII: for 1 to 32 the name that scripts print. A number that
-/// no call returns has no bytes. Refused: SMALL.
+/// Copies out the name of a number that a call returned, in ASCII: for 1 to 32 the name that scripts print. A number
+/// that no call returns has no bytes. Refused: SMALL.
 #[unsafe(no_mangle)]
 pub extern "C" fn antientropy_name(number: u32, out: &mut [u8], need: &mut u64) -> u32
     ensures name { HandsOut (Ok (name_numbered number)) result (need.old, out.old) (need.new, out.new) }

@@ -44,8 +44,8 @@ pub extern "C" fn antientropy_new(
     fill(replica, made)
 }
 
-/// Makes a replica as [`antientropy_new`] does, as [`RangeState::seeded`] does with a seed of two words: chosen at random,
-/// it keeps clients from choosing keys that are slow to find.
+/// Makes a replica like [`antientropy_new`], with a seed of two words as in [`RangeState::seeded`]. A random seed keeps
+/// clients from choosing keys that are slow to find.
 ///
 /// Refused, in order: HELD (the handle holds a replica already), BadRing (the numbers are outside the limits),
 /// NoMemory. On error the handle is unchanged.

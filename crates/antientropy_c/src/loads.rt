@@ -29,8 +29,8 @@ use c_calls::published::Published;
 use range_state::RangeState;
 use std::alloc::Global;
 
-/// Writes the texts of the rows of a leaf of a snapshot, in ascending order of key. Refused, in order: EMPTY, BadMessage
-/// (the tree has no such leaf), NoMemory, SMALL.
+/// Writes the texts of the rows of a leaf of a snapshot, in ascending order of key. Refused, in order: EMPTY,
+/// BadMessage (the tree has no such leaf), NoMemory, SMALL.
 #[unsafe(no_mangle)]
 #[tactic(auto, using(crate::proofs::CallLaws::reads_nothing, crate::proofs::CallLaws::reads_held, crate::proofs::CallLaws::gives))]
 pub extern "C" fn antientropy_share_rows(
@@ -55,8 +55,8 @@ pub extern "C" fn antientropy_share_rows(
 /// Loads rows of one leaf from their texts, as [`RangeState::load_rows`](range_state::RangeState::load_rows) does at
 /// seat 0.
 ///
-/// Refused, in order: EMPTY; then as `load_rows` is: RowBroken, OtherRange, Crowded, JournalFull, NoMemory. On error the
-/// replica is unchanged. After RowBroken the offset is stored; after any other refusal the result is unchanged.
+/// Refused, in order: EMPTY; then as `load_rows` is: RowBroken, OtherRange, Crowded, JournalFull, NoMemory. On error
+/// the replica is unchanged. After RowBroken the offset is stored; after any other refusal the result is unchanged.
 #[unsafe(no_mangle)]
 #[tactic(auto, using(crate::proofs::CallLaws::state_empty, crate::proofs::CallLaws::state_held, crate::proofs::CallLaws::returns))]
 pub extern "C" fn antientropy_load(

@@ -1,4 +1,4 @@
-//! The moment of a replica: its rows at a time, which are hashed and offered while it goes on.
+//! The moment of a replica: its rows at a time, which are hashed and offered while the replica continues.
 ghost use Rattle.std.specs.Prelude.{◌≡◌, ℕ, Result, ⊤};
 ghost use Rattle.vclock.specs.Outcome.{Does, gives};
 ghost use Rattle.vclock.specs.declared.refusal.Refusal.{Refusal};
@@ -24,8 +24,8 @@ use c_calls::sessions::tell_number;
 use range_state::{LocalRows, RangeState};
 use std::alloc::Global;
 
-/// Keeps the rows now as the moment of a replica, in the place of another one. Copies no row. Refused, in order: EMPTY,
-/// NoMemory. On error the replica is unchanged.
+/// Keeps the current rows as the moment of a replica, in place of the previous one. Copies no row. Refused, in order:
+/// EMPTY, NoMemory. On error the replica is unchanged.
 #[unsafe(no_mangle)]
 #[tactic(auto, using(crate::proofs::CallLaws::state_empty, crate::proofs::CallLaws::state_held, crate::proofs::CallLaws::returns))]
 pub extern "C" fn antientropy_hold(alloc: Global, replica: &mut Replica) -> u32
@@ -39,7 +39,7 @@ pub extern "C" fn antientropy_hold(alloc: Global, replica: &mut Replica) -> u32
     with_state(replica, alloc, &mut call)
 }
 
-/// Lets go of the moment of a replica, if there is one. Refused: EMPTY.
+/// Releases the moment of a replica, if any. Refused: EMPTY.
 #[unsafe(no_mangle)]
 #[tactic(auto, using(crate::proofs::CallLaws::state_empty, crate::proofs::CallLaws::state_held))]
 pub extern "C" fn antientropy_drop_moment(alloc: Global, replica: &mut Replica) -> u32
@@ -52,8 +52,8 @@ pub extern "C" fn antientropy_drop_moment(alloc: Global, replica: &mut Replica) 
     with_state(replica, alloc, &mut call)
 }
 
-/// Hashes at most `most` of the moment's dirty nodes whose children are clean, and stores the number of its nodes that are
-/// dirty then: 0 without a moment. Refused, in order: EMPTY, NoMemory. On error the replica is unchanged.
+/// Hashes at most `most` of the moment's dirty nodes whose children are clean, and stores the number of its nodes that
+/// are dirty afterwards: 0 without a moment. Refused, in order: EMPTY, NoMemory. On error the replica is unchanged.
 #[unsafe(no_mangle)]
 #[tactic(auto, using(crate::proofs::CallLaws::state_empty, crate::proofs::CallLaws::state_held, crate::proofs::CallLaws::returns))]
 pub extern "C" fn antientropy_hash_moment(
@@ -74,7 +74,7 @@ pub extern "C" fn antientropy_hash_moment(
 }
 
 /// Publishes the rows of the moment of a replica. Refused, in order: EMPTY, HELD (the publication holds a snapshot
-/// already), Dirty (there is no moment, or some node of it has no digest), NoMemory. On error the publication is
+/// already), Dirty (the replica has no moment, or some node of it has no digest), NoMemory. On error the publication is
 /// unchanged.
 #[unsafe(no_mangle)]
 pub extern "C" fn antientropy_share_moment(

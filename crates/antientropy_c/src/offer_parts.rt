@@ -10,8 +10,8 @@ use c_calls::numbers::code;
 use c_calls::offer_parts::{OfferParts, read_offer, tell_parts};
 use std::alloc::Global;
 
-/// Reads the bytes of an offer, and stores its parts. Refused, in order: BadMessage (the bytes aren't an offer), NoMemory,
-/// which may replace BadMessage if the bytes are an answer. On error the parts are unchanged.
+/// Reads the bytes of an offer, and stores its parts. Refused, in order: BadMessage (the bytes aren't an offer),
+/// NoMemory, which may replace BadMessage if the bytes are an answer. On error the parts are unchanged.
 #[unsafe(no_mangle)]
 #[tactic(auto, using(crate::proofs::CallLaws::returns))]
 pub extern "C" fn antientropy_read_offer(alloc: Global, offer: &[u8], parts: &mut OfferParts) -> u32

@@ -25,7 +25,7 @@ use c_handle::InC;
 use range_state::LocalRows;
 use std::alloc::Global;
 
-/// Publishes the rows of a replica now. Refused, in order: EMPTY, HELD (the publication holds a snapshot already),
+/// Publishes the current rows of a replica. Refused, in order: EMPTY, HELD (the publication holds a snapshot already),
 /// Dirty (some node has no digest), NoMemory. On error the publication is unchanged.
 #[unsafe(no_mangle)]
 pub extern "C" fn antientropy_share_snapshot(
@@ -88,10 +88,11 @@ pub extern "C" fn antientropy_share_offer(
     read(share, &mut call)
 }
 
-/// Writes the message that answers an ask or an outline, if it is for the offer with this number: an answer or a patch.
+/// Writes the message that replies to an ask or an outline, if it is for the offer with this number: an answer or a
+/// patch.
 ///
-/// Refused, in order: EMPTY, BadMessage (the bytes are neither), Gone (it is for another offer), BadMessage (the tree has
-/// no such node), NoMemory, SMALL. If the bytes are an answer, NoMemory may replace BadMessage.
+/// Refused, in order: EMPTY, BadMessage (the bytes are neither), Gone (it is for another offer), BadMessage (the tree
+/// has no such node), NoMemory, SMALL. If the bytes are an answer, NoMemory may replace BadMessage.
 #[unsafe(no_mangle)]
 #[tactic(auto, using(crate::proofs::CallLaws::reads_nothing, crate::proofs::CallLaws::reads_held, crate::proofs::CallLaws::gives))]
 pub extern "C" fn antientropy_share_serve(

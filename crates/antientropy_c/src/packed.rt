@@ -9,14 +9,14 @@ use c_calls::frame::read;
 use c_calls::kept::Kept;
 use c_calls::packed::pack_from;
 
-/// Copies out the entries from number `from` on, as many whole ones as fit. Stores the number of bytes in `need`, and the
-/// number after the last of these entries in `next`: `from` if there is none. The text of an entry is its source in one
-/// byte, and the text of a row of its key with its version. If entries are left and the first one doesn't fit, `need` is
-/// the length of its text.
+/// Copies out whole entries from number `from` on, until the next one doesn't fit. Stores the number of bytes in
+/// `need`, and the number after the last of these entries in `next`: `from` if none was copied. The text of an entry is
+/// its source in one byte, and the text of a row of its key with its version. If entries are left and the first one
+/// doesn't fit, `need` is the length of its text.
 ///
 /// Refused, in order: EMPTY; BAD_POSITION (`from` is over the number of entries; or it is below the number at the last
-/// renewal, and isn't the journal's first number); SMALL (the first entry doesn't fit). On error `next` and the buffer are
-/// unchanged.
+/// renewal, and isn't the journal's first number); SMALL (the first entry doesn't fit). On error `next` and the buffer
+/// are unchanged.
 #[unsafe(no_mangle)]
 #[tactic(auto, using(crate::proofs::CallLaws::reads_nothing, crate::proofs::CallLaws::reads_held))]
 pub extern "C" fn antientropy_share_entries(

@@ -9,7 +9,7 @@ use range_state::Portion;
 use std::alloc::Global;
 use std::marker::Model;
 
-/// A portion on the heap, or nothing: then all its bytes are zero, and the ghost nodes are arbitrary.
+/// A portion on the heap, or nothing. All bytes of an empty handle are zero, and its ghost nodes are arbitrary.
 #[repr(C)]
 #[derive(Drop)]
 pub struct PortionHandle {

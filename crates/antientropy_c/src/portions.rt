@@ -17,8 +17,8 @@ use c_handle::InC;
 use range_state::{Portion, RangeState};
 use std::alloc::Global;
 
-/// Takes a portion of the dirty nodes of a replica's moment: those whose children are clean, or the first `most` of them
-/// if there are more. Without a moment it has no node.
+/// Takes a portion of the dirty nodes of a replica's moment: those whose children are clean, or the first `most` of
+/// them if there are more. Without a moment it has no node.
 ///
 /// Refused, in order: EMPTY (the replica), HELD (the handle holds a portion already), NoMemory. On error the handle is
 /// unchanged.
@@ -37,7 +37,7 @@ pub extern "C" fn antientropy_share_take_portion(
     })
 }
 
-/// Hashes the nodes of a portion; those that are hashed stay so. It uses no replica. Refused: EMPTY.
+/// Hashes the nodes of a portion; a node that was hashed stays hashed. Uses no replica. Refused: EMPTY.
 #[unsafe(no_mangle)]
 #[tactic(auto, using(crate::proofs::CallLaws::empty, crate::proofs::CallLaws::held))]
 pub extern "C" fn antientropy_hash_portion(alloc: Global, portion: &mut PortionHandle) -> u32
@@ -50,12 +50,12 @@ pub extern "C" fn antientropy_hash_portion(alloc: Global, portion: &mut PortionH
     with(portion, alloc, &mut call)
 }
 
-/// Installs the digests of a portion in the moment of its replica, and where the replica's node has that text now, in the
-/// replica's tree. Leaves out those of nodes that aren't in the moment, or have another text there: of a moment before
-/// it. Hashes the nodes that aren't hashed yet. The portion's handle is empty then. Stores the number of the moment's
-/// nodes that are dirty then: 0 without a moment.
+/// Installs the digests of a portion in the moment of its replica, and in the replica's tree if the node has the same
+/// text there now. Leaves out a node that isn't in the moment, or has another text there because it belongs to a
+/// previous moment. Hashes the nodes that aren't hashed yet. Empties the portion's handle. Stores the number of the
+/// moment's nodes that are dirty afterwards: 0 without a moment.
 ///
-/// Refused: EMPTY (the replica or the portion). Then nothing changes.
+/// Refused: EMPTY (the replica or the portion). On error nothing changes.
 #[unsafe(no_mangle)]
 #[tactic(auto, using(crate::proofs::CallLaws::state_empty, crate::proofs::CallLaws::state_held))]
 pub extern "C" fn antientropy_install_portion(
@@ -71,7 +71,7 @@ pub extern "C" fn antientropy_install_portion(
     with_state(replica, alloc, &mut call)
 }
 
-/// Installs the digests of a portion, if there is one.
+/// Installs the digests of a portion, if any.
 #[tactic(auto, using(crate::proofs::PortionLaws::installed, crate::proofs::PortionLaws::none))]
 fn install(
     alloc: Global,

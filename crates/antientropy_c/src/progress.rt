@@ -1,4 +1,4 @@
-//! How far exchanges are.
+//! The progress of exchanges.
 ghost use Rattle.std.specs.Prelude.{◌≡◌, slice_get};
 ghost use Rattle.exchange.specs.Exchanges.{left_of, record_in};
 ghost use Rattle.c_calls.specs.Progress.{progress_in, TellsNode};
@@ -15,7 +15,7 @@ use c_handle::InC;
 use exchange::Exchange;
 use std::alloc::Global;
 
-/// Stores how far an exchange is. Refused: EMPTY (the exchange or the replica).
+/// Stores the progress of an exchange. Refused: EMPTY (the exchange or the replica).
 #[unsafe(no_mangle)]
 #[tactic(auto, using(crate::proofs::CallLaws::empty, crate::proofs::CallLaws::held))]
 pub extern "C" fn antientropy_share_exchange_report(
@@ -37,7 +37,7 @@ pub extern "C" fn antientropy_share_exchange_report(
     result
 }
 
-/// Stores how far an exchange with a replica is.
+/// Stores the progress of an exchange with a replica.
 #[tactic(auto, using(crate::proofs::CallLaws::reads_nothing, crate::proofs::CallLaws::reads_held))]
 fn report_to(exchange: &Exchange, share: &mut ReplicaShare, progress: &mut Progress) -> u32
     ensures { ReadsState result share.old share.new (progress.new ≡ progress.old)
@@ -50,7 +50,7 @@ fn report_to(exchange: &Exchange, share: &mut ReplicaShare, progress: &mut Progr
     read(share, &mut call)
 }
 
-/// Stores a leaf that was left, by its place among them from 0 in the order in which the session asks.
+/// Stores a leaf that was left, by its place among them from 0 in the session's order.
 ///
 /// Refused, in order: EMPTY (the exchange), EMPTY (the replica), NO_VERSION (fewer were left).
 #[unsafe(no_mangle)]

@@ -9,7 +9,7 @@ use c_handle::{Handle, InC};
 use std::alloc::Global;
 use std::marker::Model;
 
-/// A snapshot on the heap, or nothing: then all its bytes are zero, and the ghost value is arbitrary.
+/// A snapshot on the heap, or nothing. All bytes of an empty handle are zero, and its ghost value is arbitrary.
 #[repr(C)]
 #[derive(Drop)]
 pub struct Publication {

@@ -8,7 +8,8 @@ use c_calls::published::Published;
 use c_handle::{Lent, ReadInC};
 use std::marker::Model;
 
-/// A share of a snapshot on the heap, or nothing: then the ghost value is arbitrary. A snapshot has 2^63 shares.
+/// A share of a snapshot on the heap, or nothing. The ghost value of an empty share is arbitrary. A snapshot has 2^63
+/// shares.
 #[repr(C)]
 #[derive(Drop)]
 pub struct PublicationShare {

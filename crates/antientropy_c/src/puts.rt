@@ -25,8 +25,8 @@ use std::alloc::Global;
 ///
 /// Refused, in order: EMPTY; BadClock (the node is 0 or over 65,535, or the context isn't a clock), ClockFull (the
 /// context has over 32 pairs), BadValue (the kind is neither 0 nor 1); then as [`RangeState::put`] is. On error the
-/// replica and the receipt are unchanged. The clock and the value are copied once the causes up to BadValue were tested,
-/// so NoMemory may replace a cause from OtherRange on.
+/// replica and the receipt are unchanged. The clock and the value are copied once the causes up to BadValue were
+/// tested, so NoMemory may replace a cause from OtherRange on.
 #[unsafe(no_mangle)]
 #[tactic(auto, using(crate::proofs::CallLaws::empty, crate::proofs::CallLaws::held, crate::proofs::CallLaws::returns))]
 pub extern "C" fn antientropy_put(
@@ -57,12 +57,12 @@ pub extern "C" fn antientropy_put(
 }
 
 /// Puts a value, or a tombstone, for a key at a node, as [`antientropy_put`] does, if its client has read all that the
-/// node put: so it replaces only versions that the context has seen.
+/// node put. It replaces only versions that the context has seen.
 ///
 /// Refused, in order: EMPTY; BadClock (the node is 0 or over 65,535, or the context isn't a clock), ClockFull (the
-/// context has over 32 pairs), BadValue (the kind is neither 0 nor 1); then as [`RangeState::put_read`] is. On error the
-/// replica and the receipt are unchanged. The clock and the value are copied once the causes up to BadValue were tested,
-/// so NoMemory may replace a cause from OtherRange on.
+/// context has over 32 pairs), BadValue (the kind is neither 0 nor 1); then as [`RangeState::put_read`] is. On error
+/// the replica and the receipt are unchanged. The clock and the value are copied once the causes up to BadValue were
+/// tested, so NoMemory may replace a cause from OtherRange on.
 #[unsafe(no_mangle)]
 #[tactic(auto, using(crate::proofs::CallLaws::empty, crate::proofs::CallLaws::held, crate::proofs::CallLaws::returns))]
 pub extern "C" fn antientropy_put_read(

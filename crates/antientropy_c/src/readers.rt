@@ -14,8 +14,8 @@ use c_calls::published::Published;
 use c_calls::readers::{row, shared, show_digest, show_key_next};
 use std::alloc::Global;
 
-/// Makes another handle of the rows of a snapshot. Copies no row. Refused, in order: EMPTY (the snapshot), HELD (the other
-/// handle holds one already), NoMemory. On error the other handle is unchanged.
+/// Makes another handle of the rows of a snapshot. Copies no row. Refused, in order: EMPTY (the snapshot), HELD (the
+/// other handle holds one already), NoMemory. On error the other handle is unchanged.
 #[unsafe(no_mangle)]
 pub extern "C" fn antientropy_share_snapshot_share(
     alloc: Global,
@@ -30,8 +30,8 @@ pub extern "C" fn antientropy_share_snapshot_share(
     })
 }
 
-/// Writes the text of the row of a key of a snapshot: no bytes if it has none. Refused, in order: EMPTY, BadKey, NoMemory,
-/// SMALL.
+/// Writes the text of the row of a key of a snapshot: no bytes if the key has no row. Refused, in order: EMPTY, BadKey,
+/// NoMemory, SMALL.
 #[unsafe(no_mangle)]
 #[tactic(auto, using(crate::proofs::CallLaws::reads_nothing, crate::proofs::CallLaws::reads_held, crate::proofs::CallLaws::gives))]
 pub extern "C" fn antientropy_share_snapshot_get(
@@ -52,9 +52,9 @@ pub extern "C" fn antientropy_share_snapshot_get(
     read(share, &mut call)
 }
 
-/// Puts the least key of a leaf of a snapshot above a key in that key's place, as `antientropy_share_key_next` does. Refused, in
-/// order: EMPTY, BadMessage (the tree has no such leaf), BadKey (the length is over the room's), NO_VERSION (no key
-/// follows), SMALL (the next key doesn't fit). On error the room and the length are unchanged.
+/// Replaces a key with the least key of a leaf of a snapshot above it, like `antientropy_share_key_next`. Refused, in
+/// order: EMPTY, BadMessage (the tree has no such leaf), BadKey (the length is over the buffer's), NO_VERSION (no key
+/// follows), SMALL (the next key doesn't fit). On error the buffer and the length are unchanged.
 #[unsafe(no_mangle)]
 #[tactic(auto, using(crate::proofs::CallLaws::reads_nothing, crate::proofs::CallLaws::reads_held))]
 pub extern "C" fn antientropy_share_snapshot_key_next(

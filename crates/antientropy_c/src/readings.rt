@@ -11,8 +11,8 @@ use c_calls::pair::Pair;
 use c_calls::readings::{Reading, read};
 
 /// Copies out the clock and the value of a version that is held for a key, by its index from 0, and stores their sizes
-/// and the version's kind. Refused, in order: EMPTY, NO_VERSION, SMALL (the pairs or the bytes don't fit: then the
-/// reading is stored, and of the two what fits is copied).
+/// and the version's kind. Refused, in order: EMPTY, NO_VERSION, SMALL (the pairs or the bytes don't fit: the reading
+/// is stored, and the one that fits, if any, is copied).
 #[unsafe(no_mangle)]
 #[tactic(auto, using(crate::proofs::CallLaws::reads_nothing, crate::proofs::CallLaws::reads_held))]
 pub extern "C" fn antientropy_share_read(

@@ -11,13 +11,13 @@ use c_calls::kept::Kept;
 use c_calls::renewal::renewed;
 use std::alloc::Global;
 
-/// Makes a new replica in an empty handle, that begins with the versions that another one holds, as
-/// [`RangeState::renewed`](range_state::RangeState::renewed) does at seat 0. The numbers of entries go on: the last entry
-/// of the new replica has the last number that the other one used. The other one is unchanged.
+/// Makes a new replica in an empty handle that begins with the versions that another one holds, as
+/// [`RangeState::renewed`](range_state::RangeState::renewed) does at seat 0. The numbers of entries continue: the last
+/// number that the other one used belongs to the last entry of the new replica. The other one is unchanged.
 ///
-/// Refused, in order: EMPTY (of the old handle), HELD (the new handle holds a replica), BadRing (the limit), JournalFull
-/// (more versions are held than the limit, or after 1,000,000 entries more a number could be over 2^64 - 1), NoMemory. On
-/// error both handles are unchanged.
+/// Refused, in order: EMPTY (of the old handle), HELD (the new handle holds a replica), BadRing (the limit),
+/// JournalFull (more versions are held than the limit, or after 1,000,000 entries more a number could be over
+/// 2^64 - 1), NoMemory. On error both handles are unchanged.
 #[unsafe(no_mangle)]
 pub extern "C" fn antientropy_share_renew(
     alloc: Global,

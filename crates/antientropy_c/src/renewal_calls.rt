@@ -1,4 +1,4 @@
-//! Renewals of replicas beside the puts.
+//! Renewals of replicas in parallel with puts.
 ghost use Rattle.std.specs.Prelude.{◌≡◌, false, ⊤};
 ghost use Rattle.range_state.specs.Moments.{moment_fault};
 ghost use Rattle.c_calls.specs.KeptRenewals.{start_in, renewing_in, BeginsAt, Builds, CatchesUpWith, Finishes};
@@ -18,8 +18,8 @@ use std::alloc::Global;
 
 /// Begins a renewal of a replica in an empty handle: takes the rows of the replica's moment. Copies no row.
 ///
-/// Refused, in order: EMPTY (the replica), HELD (the handle holds a renewal already), Dirty (there is no moment, or some
-/// node of it has no digest), NoMemory. On error the handle is unchanged.
+/// Refused, in order: EMPTY (the replica), HELD (the handle holds a renewal already), Dirty (the replica has no moment,
+/// or some node of it has no digest), NoMemory. On error the handle is unchanged.
 #[unsafe(no_mangle)]
 pub extern "C" fn antientropy_share_renewal_begin(
     alloc: Global,
@@ -52,13 +52,14 @@ pub extern "C" fn antientropy_renewal_build(alloc: Global, renewal: &mut Renewal
     with(renewal, alloc, &mut call)
 }
 
-/// Accepts the first `most` entries that the replica accepted after those that the new range has, and stores the number of
-/// those that are left. Reads the replica only.
+/// Accepts the next entries that the replica accepted and the new range doesn't have, at most `most`, and stores the
+/// number of those that are left. Only reads the replica.
 ///
-/// Refused, in order: EMPTY (the renewal or the replica; or the new range isn't made, or is in the replica's place), Stale
-/// (the replica's journal begins at another number, its format, ring or range differs, or it has fewer entries than were
-/// accepted); then, for one of the entries, Stale (it isn't new), Crowded (the key would hold over 64 versions),
-/// JournalFull, NoMemory, which may replace the three before it. The entries before it are accepted then.
+/// Refused, in order: EMPTY (the renewal or the replica; or the new range isn't made, or is in the replica's place),
+/// Stale (the replica's journal begins at another number, its format, ring or range differs, or it has fewer entries
+/// than were accepted); then, for one of the entries, Stale (it isn't new), Crowded (the key would hold over 64
+/// versions), JournalFull, NoMemory, which may replace the three before it. In that case the entries before it are
+/// accepted.
 #[unsafe(no_mangle)]
 #[tactic(auto, using(crate::proofs::CallLaws::empty, crate::proofs::CallLaws::held))]
 pub extern "C" fn antientropy_share_renewal_catch_up(
@@ -97,12 +98,12 @@ fn catch_up_with(
     read(share, &mut call)
 }
 
-/// Accepts all entries that are left, and puts the new range in the replica's place. The numbers of entries go on. The
-/// renewal has the old range then.
+/// Accepts all entries that are left, and puts the new range in the replica's place. The numbers of entries continue.
+/// Afterwards the renewal holds the old range.
 ///
-/// Refused, in order: EMPTY (the renewal or the replica; or the new range isn't made, or is in a replica's place), Stale
-/// (the replica's journal begins at another number), JournalFull (after 1,000,000 entries more a number could be over
-/// 2^64 - 1); then as [`antientropy_share_renewal_catch_up`] is. On error the replica is unchanged.
+/// Refused, in order: EMPTY (the renewal or the replica; or the new range isn't made, or is in a replica's place),
+/// Stale (the replica's journal begins at another number), JournalFull (after 1,000,000 entries more a number could be
+/// over 2^64 - 1); then as [`antientropy_share_renewal_catch_up`] is. On error the replica is unchanged.
 #[unsafe(no_mangle)]
 #[tactic(auto, using(crate::proofs::CallLaws::empty, crate::proofs::CallLaws::held))]
 pub extern "C" fn antientropy_renewal_finish(
@@ -122,7 +123,7 @@ pub extern "C" fn antientropy_renewal_finish(
     result
 }
 
-/// Puts the new range of a renewal in the place of a replica's.
+/// Puts the new range of a renewal in the replica's place.
 #[tactic(auto, using(crate::proofs::CallLaws::empty, crate::proofs::CallLaws::held))]
 fn finish_in(alloc: Global, renewal: &mut KeptRenewal, replica: &mut Replica) -> u32
     ensures { CallsKept result replica.old replica.new (renewal.new ≡ renewal.old)

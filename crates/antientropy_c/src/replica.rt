@@ -9,7 +9,7 @@ use c_handle::{Handle, InC};
 use std::alloc::Global;
 use std::marker::Model;
 
-/// A replica on the heap, or nothing: then all its bytes are zero, and the ghost state is arbitrary.
+/// A replica on the heap, or nothing. All bytes of an empty handle are zero, and its ghost state is arbitrary.
 #[repr(C)]
 #[derive(Drop)]
 pub struct Replica {

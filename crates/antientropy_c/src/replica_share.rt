@@ -8,7 +8,8 @@ use c_calls::kept::Kept;
 use c_handle::{Lent, ReadInC};
 use std::marker::Model;
 
-/// A share of a replica on the heap, or nothing: then the ghost state is arbitrary. A replica has 2^63 shares.
+/// A share of a replica on the heap, or nothing. The ghost state of an empty share is arbitrary. A replica has 2^63
+/// shares.
 #[repr(C)]
 #[derive(Drop)]
 pub struct ReplicaShare {

@@ -46,11 +46,11 @@ pub extern "C" fn antientropy_open(
     with_state(replica, alloc, &mut call)
 }
 
-/// Opens a session as [`antientropy_open`] does, but one that compares the rows of the moment that the replica keeps:
-/// it may ask for leaves that differ only because the replica has gone on.
+/// Opens a session as [`antientropy_open`] does, but compares the rows of the moment that the replica keeps: it may ask
+/// for leaves that differ only because the replica has changed since.
 ///
-/// Refused as [`antientropy_open`] is; Dirty if there is no moment, or some node of it has no digest. On error the
-/// replica and the stored number are unchanged.
+/// Refused as [`antientropy_open`] is; Dirty if the replica has no moment, or some node of it has no digest. On error
+/// the replica and the stored number are unchanged.
 #[unsafe(no_mangle)]
 #[tactic(auto, using(crate::proofs::CallLaws::state_empty, crate::proofs::CallLaws::state_held, crate::proofs::CallLaws::returns))]
 pub extern "C" fn antientropy_open_at_moment(
@@ -75,14 +75,14 @@ pub extern "C" fn antientropy_open_at_moment(
 /// Takes the bytes of a partner's answer or patch for a session with the partner's offer of that number. The text that
 /// a patch makes is taken as an answer's is.
 ///
-/// Refused, in order: EMPTY, BadMessage (the bytes are neither, or the answer is of another offer); then as
-/// [`RangeState::take_answer`] is: UnknownSession, NotAsked, WrongDigest, NotCanonical (the session has failed then),
+/// Refused, in order: EMPTY, BadMessage (the bytes are neither, or the answer belongs to another offer); then as
+/// [`RangeState::take_answer`] is: UnknownSession, NotAsked, WrongDigest, NotCanonical (the session has failed),
 /// Crowded, JournalFull, NoMemory. NoMemory may replace any of them if the bytes are an answer. On error the receipt is
 /// unchanged, and so is the replica after any refusal but NotCanonical.
 ///
-/// A patch is refused, in order: EMPTY, BadMessage (it is of another offer), UnknownSession, NotAsked, BadMessage (its
-/// steps make no text), and from WrongDigest on as an answer is. NoMemory may replace any from the second BadMessage
-/// on.
+/// A patch is refused, in order: EMPTY, BadMessage (it belongs to another offer), UnknownSession, NotAsked, BadMessage
+/// (its steps make no text), and from WrongDigest on as an answer is. NoMemory may replace any from the second
+/// BadMessage on.
 #[unsafe(no_mangle)]
 #[tactic(auto, using(crate::proofs::CallLaws::state_empty, crate::proofs::CallLaws::state_held, crate::proofs::CallLaws::returns))]
 pub extern "C" fn antientropy_take(
@@ -105,7 +105,7 @@ pub extern "C" fn antientropy_take(
     with_state(replica, alloc, &mut call)
 }
 
-/// Cancels a session that is open; a session that has ended is unchanged. Refused, in order: EMPTY, UnknownSession.
+/// Cancels an open session; a session that has ended is unchanged. Refused, in order: EMPTY, UnknownSession.
 #[unsafe(no_mangle)]
 #[tactic(auto, using(crate::proofs::CallLaws::state_empty, crate::proofs::CallLaws::state_held, crate::proofs::CallLaws::returns))]
 pub extern "C" fn antientropy_cancel(alloc: Global, replica: &mut Replica, session: u64) -> u32

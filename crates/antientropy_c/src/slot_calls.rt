@@ -21,8 +21,8 @@ use std::alloc::Global;
 
 /// Makes slots, as [`SlotBudget::new`] does: none is lent, and the target is the ceiling.
 ///
-/// Refused, in order: HELD (the handle holds slots already), BadRing (the floor is 0 or above the ceiling, or the ceiling
-/// is above 1,024), NoMemory. On error the handle is unchanged.
+/// Refused, in order: HELD (the handle holds slots already), BadRing (the floor is 0 or above the ceiling, or the
+/// ceiling is above 1,024), NoMemory. On error the handle is unchanged.
 #[unsafe(no_mangle)]
 #[tactic(auto, using(crate::proofs::MakeLaws::already))]
 pub extern "C" fn antientropy_slots_new(
@@ -81,8 +81,8 @@ pub extern "C" fn antientropy_slot_give_back(alloc: Global, slots: &mut Slots) -
     with(slots, alloc, &mut call)
 }
 
-/// Records the latency of a reply of the foreground, in microseconds, with its moment in milliseconds. Refused, in order:
-/// EMPTY, ClockBack (a later moment was accepted before).
+/// Records the latency of a reply of the foreground, in microseconds, with its moment in milliseconds. Refused, in
+/// order: EMPTY, ClockBack (a later moment was accepted before).
 #[unsafe(no_mangle)]
 #[tactic(auto, using(crate::proofs::CallLaws::empty, crate::proofs::CallLaws::held, crate::proofs::CallLaws::returns))]
 pub extern "C" fn antientropy_slots_sample(

@@ -30,8 +30,8 @@ pub extern "C" fn antientropy_rehash(alloc: Global, replica: &mut Replica) -> u3
     with_state(replica, alloc, &mut call)
 }
 
-/// Hashes at most `most` of the dirty nodes whose children are clean, and stores the number of nodes that are dirty then.
-/// Refused, in order: EMPTY, NoMemory. On error the replica is unchanged.
+/// Hashes at most `most` of the dirty nodes whose children are clean, and stores the number of nodes that are dirty
+/// afterwards. Refused, in order: EMPTY, NoMemory. On error the replica is unchanged.
 #[unsafe(no_mangle)]
 #[tactic(auto, using(crate::proofs::CallLaws::state_empty, crate::proofs::CallLaws::state_held, crate::proofs::CallLaws::returns))]
 pub extern "C" fn antientropy_rehash_some(

@@ -1,10 +1,10 @@
-//! The calls of a range in one thread, and the number of each that were done in a second.
+//! The calls of a range in one thread, and the number of each that are done in a second.
 //
 /// Keys are put into a range, got, put again with the context of the first put, and accepted as copies at another
-/// replica. If a journal has no room for two versions of each key, no key is put again. Turns follow: one more key is
+/// replica. If a journal is too small for two versions of each key, no key is put again. Turns follow: one more key is
 /// put, the tree is rehashed, a snapshot is made, and the other replica takes the key over by messages. The measured
-/// time includes making each call's key and value. Standard output has the number of each call; in the figures 0 means
-/// that a call was not made.
+/// time includes making each call's key and value. Standard output has the number of each call. In the figures, 0 means
+/// that a call wasn't made.
 mod pace;
 mod phase;
 pub(crate) mod plan;

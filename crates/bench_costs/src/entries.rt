@@ -4,10 +4,10 @@ use vclock::limits::KEY_LEN_MAX;
 use vclock::{Bytes, Clock, Format, Refusal};
 use version_set::{Kind, Version};
 
-/// The odd factor that scrambles a number, and the step of the numbers that a value is made of.
+/// The odd factor that scrambles a number, and the step between the numbers that make up a value.
 const SCRAMBLE: u64 = 0x9e37_79b9_7f4a_7c15;
 
-/// The least length of a scrambled key, in bytes, as in the yardstick.
+/// The minimum length of a scrambled key, in bytes, as in the yardstick.
 const SCRAMBLED_KEY_MIN: usize = 13;
 
 /// The byte after the first 32 of a longer value.
@@ -18,7 +18,7 @@ const FILL: u8 = 7;
 pub(crate) struct Shape {
     /// The format of the range.
     pub(crate) format: Format,
-    /// The length of a key, in bytes. Keys of fewer than 13 have 13, and those of 0 are `key-` and the number.
+    /// The length of a key, in bytes. Below 13, keys have 13 bytes; if it is 0, they are `key-` and the number.
     key_bytes: usize,
     /// The length of a value, in bytes.
     value_bytes: usize,
@@ -32,8 +32,8 @@ pub(crate) const PLAIN: Shape = Shape {
 };
 
 impl Shape {
-    /// Returns the shape of these words, or `None` if they are wrong: the lengths of keys and of values, and the
-    /// format, which may be omitted. The default is that of no words.
+    /// Returns the shape from these arguments, or `None` if they are invalid: the lengths of keys and of values, and
+    /// the format, which may be omitted. Without arguments, the shape is the default.
     pub(crate) fn of_words(words: &[String]) -> Option<Shape> {
         match words {
             [] => Some(PLAIN),
@@ -46,7 +46,7 @@ impl Shape {
         }
     }
 
-    /// Returns the shape of a format and two words, or `None` if a length is over the format's limit.
+    /// Returns the shape of a format and two arguments, or `None` if a length is over the format's limit.
     fn new(format: Format, key_bytes: &str, value_bytes: &str) -> Option<Shape> {
         let key_bytes = key_bytes.parse::<usize>().ok()?;
         let value_bytes = value_bytes.parse::<usize>().ok()?;
@@ -72,7 +72,7 @@ impl Shape {
         Ok(key)
     }
 
-    /// Returns the value of a number. Its first 32 bytes differ from those of each other number. Refused: NoMemory.
+    /// Returns the value of a number. Its first 32 bytes differ for each number. Refused: NoMemory.
     pub(crate) fn value(&self, alloc: Global, number: u64) -> Result<Bytes, Refusal> {
         let first = first_bytes(number);
         if let Some(short) = first.get(..self.value_bytes) {

@@ -4,7 +4,7 @@ use std::io;
 use thiserror::Error;
 use vclock::Refusal;
 
-/// The reason why the program could not do its work. Its text goes to standard error.
+/// The reason why the program couldn't do its work. Its text goes to standard error.
 #[derive(Debug, Drop, Error)]
 pub(crate) enum Fault {
     /// A call of the libraries was refused, or memory ran out.
@@ -13,16 +13,16 @@ pub(crate) enum Fault {
     /// The clock can't be read, or nothing can be written.
     #[error("{0}")]
     Device(#[from] io::Error),
-    /// A get did not return the one version of a key.
+    /// A get didn't return the only version of a key.
     #[error("a key that was put is not held")]
     NotHeld,
     /// A sync did more or less than take one key.
     #[error("a sync did not take one key by an ask at each depth")]
     NotOneKey,
-    /// A thread did not begin, or ended too early.
+    /// A thread didn't begin, or ended too early.
     #[error("the threads did not start together")]
     NotTogether,
-    /// A thread did not get a pass.
+    /// A thread didn't get a pass.
     #[error("there are too few passes")]
     TooFewPasses,
 }

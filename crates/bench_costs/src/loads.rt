@@ -1,4 +1,4 @@
-//! Puts at a pace beside a worker that makes snapshots, and how long both take. Standard output says what was done.
+//! Puts at a pace alongside a worker that makes snapshots, and the time that each takes. Standard output has a summary.
 pub(crate) mod plan;
 mod ranges;
 mod snapshots;
@@ -22,7 +22,7 @@ pub(crate) fn run<R: Threads + Wait + Clock + Print + Eprint + AllocGlobal + Syn
     Ok(true)
 }
 
-/// Prints what was done, and the figures on standard error.
+/// Prints a summary, and the figures on standard error.
 fn tell(rt: &(impl Print + Eprint), plan: &LoadPlan, done: &Done) -> io::Result<()> {
     let Done {
         alone,

@@ -1,21 +1,21 @@
-//! The measurements of `bench/`, one for each word, and most of them with a plain Rust program to compare:
+//! The measurements of `bench/`, one for each first argument. Most have a plain Rust program to compare with.
 //!
-//! - `snapshots KEYS COUNT` makes a range of KEYS keys, and then COUNT snapshots of it, one after another;
-//!   `snapshots KEYS migrate` migrates it to format 2 (`bench/snapshot`).
+//! - `snapshots KEYS COUNT` makes a range of KEYS keys, then COUNT snapshots of it in turn; `snapshots KEYS migrate`
+//!   migrates it to format 2 (`bench/snapshot`).
 //! - `reconciles KEYS DIFFER TURNS` makes two replicas with the same KEYS keys. In each turn it gives each replica
-//!   DIFFER keys that the other lacks, and reconciles them (`bench/reconcile`).
+//!   DIFFER keys that the other doesn't have, and reconciles them (`bench/reconcile`).
 //! - `calls [KEYS [KEY_BYTES VALUE_BYTES [FORMAT]]]` makes the calls of a range in one thread (`bench/calls`).
 //! - `threads KEYS THREADS one|each [KEY_BYTES VALUE_BYTES [FORMAT]]` puts keys into ranges that threads share, and
-//!   gets them again (`bench/threads`).
+//!   gets them (`bench/threads`).
 //! - `storms PUTS beside|alone` runs a storm (`bench/storm`).
-//! - `loads KEYS PUTS_PER_S SECONDS nothing|moments|rounds [KEY_BYTES VALUE_BYTES [FORMAT]]` puts keys at a pace beside a
-//!   worker that makes snapshots (`bench/load`).
+//! - `loads KEYS PUTS_PER_S SECONDS nothing|moments|rounds [KEY_BYTES VALUE_BYTES [FORMAT]]` puts keys at a pace
+//!   alongside a worker that makes snapshots (`bench/load`).
 //!
 //! KEY_BYTES is 0 to 255. Keys of 0 bytes, the default, are `key-N`. Others have at least 13 bytes and are in no order:
 //! `user:` and 16 hexadecimal digits, cut or filled up with `z`. VALUE_BYTES is 32 by default, and at most 4,096, or
 //! 65,536 in format 2. FORMAT is 1 by default.
 //!
-//! Standard output says what was done. The figures, except those of snapshots, are a line of JSON on standard error.
+//! Standard output has a summary. The figures, except for snapshots, are a line of JSON on standard error.
 #![tactic(auto)]
 
 mod calls;
@@ -77,7 +77,7 @@ fn main(rt: HostRuntime) -> ExitCode {
     }
 }
 
-/// Reads the words on the command line. Returns `None` if they name no measurement.
+/// Reads the arguments. Returns `None` if they don't name a measurement.
 fn read_words(rt: &(impl Env + AllocGlobal)) -> Option<Measure> {
     let words: Vec<String> = env::args(rt).ok()?.collect(rt.alloc()).ok()?;
     let [_, name, words @ ..] = words.as_slice() else {
@@ -95,7 +95,7 @@ fn read_words(rt: &(impl Env + AllocGlobal)) -> Option<Measure> {
 }
 
 impl Measure {
-    /// Takes the measurement, and prints what was done. Returns true if it ended as it must.
+    /// Takes the measurement, and prints a summary. Returns true if it ended as expected.
     fn run<R: Threads + Wait + Clock + Print + Eprint + AllocGlobal + Sync>(
         self,
         rt: &R,

@@ -16,7 +16,7 @@ use std::time::{Clock, Duration, Instant};
 pub(crate) struct ReconcilePlan {
     /// The number of keys that both ranges have at first.
     keys: u64,
-    /// The number of keys that each gets in a turn, and that the other lacks.
+    /// The number of keys that each gets in a turn and the other doesn't have.
     differ: u64,
     /// The number of turns.
     turns: u64,
@@ -36,7 +36,7 @@ struct Done {
 }
 
 impl ReconcilePlan {
-    /// Returns the plan of these words, or `None` if they aren't three numbers.
+    /// Returns the plan from these arguments, or `None` if they aren't three numbers.
     pub(crate) fn of_words(words: &[String]) -> Option<ReconcilePlan> {
         let [keys, differ, turns] = words else {
             return None;

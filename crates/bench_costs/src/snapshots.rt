@@ -1,4 +1,4 @@
-//! Work with one range: snapshots, one after another, or a migration to format 2.
+//! Work with one range: snapshots in turn, or a migration to format 2.
 use crate::fault::Fault;
 use crate::ranges::{accept, new_range, rehash, snapshot};
 use range_state::RangeState;
@@ -26,8 +26,8 @@ enum Deed {
 }
 
 impl SnapshotPlan {
-    /// Returns the plan of these words, or `None` if they are wrong: the number of keys, and the number of snapshots or
-    /// `migrate`.
+    /// Returns the plan from these arguments, or `None` if they are invalid: the number of keys, and the number of
+    /// snapshots or `migrate`.
     pub(crate) fn of_words(words: &[String]) -> Option<SnapshotPlan> {
         let [keys, deed] = words else {
             return None;
@@ -40,7 +40,7 @@ impl SnapshotPlan {
 }
 
 impl Deed {
-    /// Returns the deed that a word names.
+    /// Returns the deed named by an argument.
     fn of_word(word: &str) -> Option<Deed> {
         match word {
             "migrate" => Some(Deed::Migrate),
@@ -62,7 +62,7 @@ impl Deed {
     }
 }
 
-/// Makes the range, does the work with it, and reports that.
+/// Makes the range, does the work with it, and reports the work.
 pub(crate) fn run<R: Threads + Print + AllocGlobal + Sync>(
     rt: &R,
     plan: SnapshotPlan,
@@ -88,7 +88,7 @@ fn clean_range(
     Ok(state)
 }
 
-/// Prints what was done.
+/// Prints a summary.
 fn tell(rt: &impl Print, plan: SnapshotPlan) -> io::Result<()> {
     let keys = plan.keys;
     match plan.deed {

@@ -31,8 +31,8 @@ pub(crate) struct StormPlan {
 }
 
 impl StormPlan {
-    /// Returns the plan of these words, or `None` if they are wrong: the number of puts, and `beside` if the workers
-    /// run while the writers do, or `alone` if they wait until both writers have ended.
+    /// Returns the plan from these arguments, or `None` if they are invalid: the number of puts, and `beside` if the
+    /// workers run while the writers do, or `alone` if they wait until both writers have ended.
     pub(crate) fn of_words(words: &[String]) -> Option<StormPlan> {
         let [puts, workers] = words else {
             return None;
@@ -48,7 +48,7 @@ impl StormPlan {
 }
 
 impl Workers {
-    /// Returns the time that a word names.
+    /// Returns the time named by an argument.
     fn of_word(word: &str) -> Option<Workers> {
         match word {
             "beside" => Some(Workers::Beside),
@@ -71,7 +71,7 @@ pub(crate) fn run<R: Threads + Wait + Clock + Print + Eprint + AllocGlobal + Syn
     Ok(end.equal && end.settled)
 }
 
-/// Runs the storm, and returns how it ended and the time that it took.
+/// Runs the storm, and returns its end and the time that it took.
 fn time_storm<R: Threads + Wait + Clock + Sync>(
     rt: &R,
     alloc: Global,
@@ -84,14 +84,14 @@ fn time_storm<R: Threads + Wait + Clock + Sync>(
     Ok((end, start.elapsed(rt)?))
 }
 
-/// Prints how the storm ended.
+/// Prints the end of the storm.
 fn tell_end(rt: &impl Print, end: &StormEnd) -> io::Result<()> {
     let roots = if end.equal { "equal" } else { "differ" };
     let settled = if end.settled { "settled" } else { "unsettled" };
     println!(rt; "puts {}, roots {roots}, {settled}", end.puts)
 }
 
-/// Prints the figures. The counts of the tallies are those of the workers, with the last rehashes and syncs.
+/// Prints the figures. The counts are the workers' tallies, with the last rehashes and syncs.
 fn tell_figures<R: Eprint + Wait>(
     rt: &R,
     took: Duration,

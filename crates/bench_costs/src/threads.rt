@@ -1,9 +1,8 @@
-//! Threads that put keys into ranges that they share, and get them again, and the numbers of puts and gets done in a
-//! second.
+//! Threads that put keys into ranges that they share, and get them, and the numbers of puts and gets done in a second.
 //
 /// All threads write one range, or each writes a range of its own. Each has its part of the keys. It puts all of them
-/// once all threads have reached this phase, and then gets all of them once all threads have reached that one. A phase
-/// lasts from the first start to the last end. Standard output says whether the ranges were closed.
+/// once all threads have reached this phase, then gets all of them once all threads have reached the second phase. A
+/// phase lasts from the first start to the last end. Standard output says whether the ranges were closed.
 mod calls;
 pub(crate) mod plan;
 pub(crate) mod ranges;
@@ -29,7 +28,7 @@ pub(crate) fn run<R: Threads + Wait + Clock + Print + Eprint + AllocGlobal + Syn
     Ok(done.closed)
 }
 
-/// Prints what was done and whether the ranges were closed, and the figures on standard error.
+/// Prints a summary that says whether the ranges were closed, and the figures on standard error.
 fn tell(rt: &(impl Print + Eprint), plan: &ThreadPlan, done: &Done) -> io::Result<()> {
     let closed = if done.closed { "closed" } else { "not closed" };
     let ThreadPlan { keys, threads, .. } = *plan;

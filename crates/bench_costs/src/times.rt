@@ -9,14 +9,14 @@ pub(crate) struct Times {
 }
 
 impl Times {
-    /// Returns no times, with memory for this number of them.
+    /// Returns an empty list, with capacity for this number of times.
     pub(crate) fn new(alloc: Global, count: usize) -> Result<Times, AllocError> {
         Ok(Times {
             took: Vec::with_capacity(alloc, count)?,
         })
     }
 
-    /// Notes a time. A time over the memory that was reserved is lost if there is no other memory.
+    /// Notes a time. Past the reserved capacity, it is lost if memory runs out.
     pub(crate) fn note(&mut self, took: Duration) {
         if let Ok(took) = u64::try_from(took.as_nanos()) {
             let _ = self.took.push(took);
@@ -33,8 +33,8 @@ impl Times {
         self.took.sort_unstable();
     }
 
-    /// Returns the shortest time within which this part of the calls were done, in ten thousandths, once the times are
-    /// sorted. Returns 0 if there is no time.
+    /// Returns the shortest time within which this part of the calls, in ten-thousandths, were done, once the times are
+    /// sorted. Returns 0 if the list is empty.
     pub(crate) fn at(&self, part: usize) -> u64 {
         let rank = self.took.len().saturating_mul(part).div_ceil(10_000);
         match self.took.get(rank.saturating_sub(1)) {

@@ -21,7 +21,8 @@ some_is a b e = cc
 -- a node at a place of a list is in it
 found_has : (xs : List Node) (i : ℕ) (n : Node) → Some n ≡ slice_get xs i → contains_node n xs ≡ true
 found_has [] i n e = absurd (cc)
-found_has (x ∷ xs) zero n e = or_left (is_same_node n x) (contains_node n xs) (subst (λ (y : Node). is_same_node n y ≡ true) (some_is n x e) (is_node-same n))
+found_has (x ∷ xs) zero n e =
+    or_left (is_same_node n x) (contains_node n xs) (subst (λ (y : Node). is_same_node n y ≡ true) (some_is n x e) (is_node-same n))
 found_has (x ∷ xs) (suc i) n e = or_right (is_same_node n x) (contains_node n xs) (found_has xs i n e)
 
 -- a range's outline of the node at a place
@@ -30,8 +31,10 @@ pub outlined : (s : State) (id place number width : ℕ) (n : Node) (r : Result 
     → Answers r (outline_fault s id n width) (IsOutlineFor s id (record { offer = number; node = n }) width) → Outlines s id place number width r
 outlined s id place number width n r wide known found said = by_case (record_of id s.records) (width_fault width) r wide known found said
   where
-    by_case : (o : Option Record) (f : Option Refusal) (r : Result (List ℕ) Refusal) → f ≡ None → unknown_for o ≡ None → MatchOption o ⊥ (λ k. Some n ≡ slice_get k.session.outstanding place)
-        → Answers r (first_fault f (asked_for o n)) (λ bytes. MatchOption o ⊥ (λ k. IsOutline k.session (record { offer = number; node = n }) width bytes))
+    by_case : (o : Option Record) (f : Option Refusal) (r : Result (List ℕ) Refusal) → f ≡ None → unknown_for o ≡ None
+        → MatchOption o ⊥ (λ k. Some n ≡ slice_get k.session.outstanding place)
+        → Answers r (first_fault f (asked_for o n))
+        (λ bytes. MatchOption o ⊥ (λ k. IsOutline k.session (record { offer = number; node = n }) width bytes))
         → Answers r (first_fault f (unknown_for o)) (λ bytes. MatchOption o ⊥ (λ k. OutlinesNode k place number width bytes))
     by_case None f r wide known found said = absurd found
     by_case (Some k) (Some e) r wide known found said = absurd (cc)

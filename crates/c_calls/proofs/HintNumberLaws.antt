@@ -1,5 +1,6 @@
 -- No number ever names two hints.
-use Rattle.std.proofs.Common.{◌≡◌, ℕ, ◌+◌, ◌-◌, ◌<◌, ◌≤◌, ◌^◌, Bool, true, false, ◌&&◌, cond, List, [], ◌∷◌, ◌++◌, length, get_or, Option, Some, None, refl, ap, sym, subst, ◌∙◌, inl, inr, arith, length-append}
+use Rattle.std.proofs.Common.{◌≡◌, ℕ, ◌+◌, ◌-◌, ◌<◌, ◌≤◌, ◌^◌, Bool, true, false, ◌&&◌, cond, List, [], ◌∷◌, ◌++◌, length, get_or, Option, Some}
+use Rattle.std.proofs.Common.{None, refl, ap, sym, subst, ◌∙◌, inl, inr, arith, length-append}
 use Rattle.std.specs.Prelude.{⊤, MatchOption, nat_eq, nat_lt, filter, slice_get}
 use Rattle.std.specs.Option.{option_map}
 use Rattle.std.specs.List.{list_any}
@@ -18,7 +19,8 @@ use Rattle.version_set.specs.declared.version.Version.{Version}
 use Rattle.hint_store.specs.declared.hint.Hint.{Hint}
 use Rattle.hint_store.specs.declared.hint.Fate.TheVariants.{Pending}
 use Rattle.hint_store.specs.declared.hint.Kept.{Kept}
-use Rattle.hint_store.specs.Hints.{kept_at, keep_fault, with_hint, is_pending, pending_count, closed_at, closed, fate_if, is_answered, delivery_by, settled_at}
+use Rattle.hint_store.specs.Hints.{kept_at, keep_fault, with_hint, is_pending, pending_count, closed_at, closed, fate_if, is_answered, delivery_by}
+use Rattle.hint_store.specs.Hints.{settled_at}
 use Rattle.hint_store.specs.Renewals.{numbered_from, renewed}
 use Rattle.hint_store.proofs.HintLaws.{kept_some, kept_there}
 use Rattle.c_calls.specs.Puts.{node_fault, kind_fault, kind_numbered}
@@ -86,11 +88,13 @@ held_after : {T : Type 0} (P : Carried → Type 0) (c : Carried) (o : Outcome T 
 held_after P c (gives x new) before after = after
 held_after P c (refuses e) before after = before
 
-guarded : {T : Type 0} (Right : T → Carried → Type 0) (cause : Option Refusal) (rest : Outcome T Carried) → Gives Right rest → Gives Right (cause >> rest)
+guarded : {T : Type 0} (Right : T → Carried → Type 0) (cause : Option Refusal) (rest : Outcome T Carried) → Gives Right rest
+    → Gives Right (cause >> rest)
 guarded Right None rest right = right
 guarded Right (Some e) rest right = tt
 
-below_limit : {T : Type 0} (Right : T → Carried → Type 0) (n : ℕ) (rest : Outcome T Carried) → (n < 2 ^ 64 → Gives Right rest) → Gives Right (number_fault n >> rest)
+below_limit : {T : Type 0} (Right : T → Carried → Type 0) (n : ℕ) (rest : Outcome T Carried) → (n < 2 ^ 64 → Gives Right rest)
+    → Gives Right (number_fault n >> rest)
 below_limit Right n rest right = elim (nat_lt n (2 ^ 64)) as (λ b. nat_lt n (2 ^ 64) ≡ b → Gives Right (cond b None (Some HintsFull) >> rest)) [
   | true ↦ λ is. right (ltb-true n (2 ^ 64) is)
   | false ↦ λ _. tt
@@ -98,7 +102,9 @@ below_limit Right n rest right = elim (nat_lt n (2 ^ 64)) as (λ b. nat_lt n (2 
 
 -- a keep has room for one more number, and adds a hint
 keep_gives : (Right : ℕ → Carried → Type 0) (c : Carried) (owner : ℕ) (key : List ℕ) (clock : Pairs) (kind : ℕ) (value : List ℕ)
-    → (last_number c + 1 < 2 ^ 64 → Right (c.before + (length c.hints + 1)) (carried c.before (with_hint c.hints owner key (record { clock = clock_of clock; kind = kind_numbered kind; value = value }))))
+    → (last_number c + 1 < 2 ^ 64
+    → Right (c.before + (length c.hints + 1))
+    (carried c.before (with_hint c.hints owner key (record { clock = clock_of clock; kind = kind_numbered kind; value = value }))))
     → Gives Right (keep_at c owner key clock kind value)
 keep_gives Right c owner key clock kind value right =
     guarded Right (node_fault owner) _ (
@@ -108,32 +114,42 @@ keep_gives Right c owner key clock kind value right =
     guarded Right (value_fault Two (kind_numbered kind) value) _ (
     below_limit Right (last_number c + 1) _ (λ small. unless (keep_fault c.hints) (right small)))))))
   where
-    unless : (cause : Option Refusal) → Right (c.before + (length c.hints + 1)) (carried c.before (with_hint c.hints owner key (record { clock = clock_of clock; kind = kind_numbered kind; value = value })))
-        → Gives Right ((cause >> gives (length c.hints + 1) (with_hint c.hints owner key (record { clock = clock_of clock; kind = kind_numbered kind; value = value }))) >>= (λ k. gives (c.before + k.0) (carried c.before k.1)))
+    unless : (cause : Option Refusal)
+        → Right (c.before + (length c.hints + 1))
+        (carried c.before (with_hint c.hints owner key (record { clock = clock_of clock; kind = kind_numbered kind; value = value })))
+        → Gives Right ((cause >> gives (length c.hints + 1)
+        (with_hint c.hints owner key (record { clock = clock_of clock; kind = kind_numbered kind; value = value }))) >>=
+        (λ k. gives (c.before + k.0) (carried c.before k.1)))
     unless None is_right = is_right
     unless (Some e) is_right = tt
 
 -- what holds of the hints before a confirmation and, if a hint was delivered, after it, holds after it
-after_settle : (P : Carried → Type 0) (c : Carried) (n : ℕ) (known : Bool) → P c → P (carried c.before (closed c.hints (n - c.before) known)) → P (after_outcome c (settle_at c n known))
+after_settle : (P : Carried → Type 0) (c : Carried) (n : ℕ) (known : Bool) → P c → P (carried c.before (closed c.hints (n - c.before) known))
+    → P (after_outcome c (settle_at c n known))
 after_settle P c n known before after = at (kept_at c.hints (n - c.before))
   where
-    by_test : (b : Bool) (one other : Outcome (Unit {0}) (List Kept)) → P (after_outcome c (through (carried c.before) one)) → P (after_outcome c (through (carried c.before) other))
+    by_test : (b : Bool) (one other : Outcome (Unit {0}) (List Kept)) → P (after_outcome c (through (carried c.before) one))
+        → P (after_outcome c (through (carried c.before) other))
         → P (after_outcome c (through (carried c.before) (cond b one other)))
     by_test true one other holds also = holds
     by_test false one other holds also = also
 
     at : (o : Option Kept) → P (after_outcome c (through (carried c.before) (settled_at c.hints (n - c.before) known o)))
     at None = before
-    at (Some k) = by_test (list_any (is_answered (n - c.before) (delivery_by k.hint known)) c.hints) (gives tt (closed c.hints (n - c.before) known)) (refuses UnknownHint) after before
+    at (Some k) = by_test (list_any (is_answered (n - c.before) (delivery_by k.hint known)) c.hints) (gives tt (closed c.hints (n - c.before) known))
+        (refuses UnknownHint) after before
 
 -- what holds of the hints before a restart and, if its number may be used, after it, holds after it
-after_restore : (P : Carried → Type 0) (c : Carried) (first : ℕ) → P c → (last_number c < first → first < 2 ^ 64 → P (restored first)) → P (after_step c (restores first))
-after_restore P c first before after = elim (nat_lt (last_number c) first && nat_lt first (2 ^ 64)) as (λ b. (nat_lt (last_number c) first && nat_lt first (2 ^ 64)) ≡ b → P (cond b (restored first) c)) [
-  | true ↦ λ is.
-      let both = and_parts (nat_lt (last_number c) first) (nat_lt first (2 ^ 64)) is in
-      after (ltb-true (last_number c) first both.0) (ltb-true first (2 ^ 64) both.1)
-  | false ↦ λ _. before
-] refl
+after_restore : (P : Carried → Type 0) (c : Carried) (first : ℕ) → P c → (last_number c < first → first < 2 ^ 64 → P (restored first))
+    → P (after_step c (restores first))
+after_restore P c first before after =
+    elim (nat_lt (last_number c) first && nat_lt first (2 ^ 64)) as (λ b. (nat_lt (last_number c) first && nat_lt first (2 ^ 64)) ≡ b
+    → P (cond b (restored first) c)) [
+      | true ↦ λ is.
+          let both = and_parts (nat_lt (last_number c) first) (nat_lt first (2 ^ 64)) is in
+          after (ltb-true (last_number c) first both.0) (ltb-true first (2 ^ 64) both.1)
+      | false ↦ λ _. before
+    ] refl
 
 -- one more hint
 grown : (c : Carried) (k : Kept) → GoesOn c (carried c.before (c.hints ++ k ∷ []))
@@ -157,16 +173,20 @@ begun c d above = record {
 }
 
 step_on : (c : Carried) (step : HintStep) → GoesOn c (after_step c step)
-step_on c (keeps owner key clock kind value) = held_after (GoesOn c) c (keep_at c owner key clock kind value) (goes_on-refl c) (keep_gives (λ _. GoesOn c) c owner key clock kind value (λ small. grown c _))
+step_on c (keeps owner key clock kind value) =
+    held_after (GoesOn c) c (keep_at c owner key clock kind value) (goes_on-refl c)
+    (keep_gives (λ _. GoesOn c) c owner key clock kind value (λ small. grown c _))
 step_on c (settles n known) = after_settle (GoesOn c) c n known (goes_on-refl c) (delivered c n known)
 step_on c renews =
     held_after (GoesOn c) c (renew c) (goes_on-refl c)
-    (below_limit (λ _. GoesOn c) (last_number c + pending_count c.hints) _ (λ small. begun c (carried (last_number c) (renewed c.hints)) (omega arith)))
+    (below_limit (λ _. GoesOn c) (last_number c + pending_count c.hints) _
+    (λ small. begun c (carried (last_number c) (renewed c.hints)) (omega arith)))
 step_on c (restores first) = after_restore (GoesOn c) c first (goes_on-refl c) (λ above small. begun c (restored first) (omega (arith, above)))
 
 pub goes_on : (c : Carried) (steps : List HintStep) → GoesOn c (after_steps c steps)
 goes_on c [] = goes_on-refl c
-goes_on c (step ∷ steps) = goes_on-trans c (after_step c step) (after_steps (after_step c step) steps) (step_on c step) (goes_on (after_step c step) steps)
+goes_on c (step ∷ steps) =
+    goes_on-trans c (after_step c step) (after_steps (after_step c step) steps) (step_on c step) (goes_on (after_step c step) steps)
 
 -- a number that names a hint was used
 named_used : (c : Carried) (n : ℕ) (h : Hint) → hint_named c n ≡ Some h → n ≤ last_number c
@@ -175,7 +195,8 @@ named_used c n h e = elim (named c n) as (λ o. named c n ≡ o → hint_of o �
   | Some k ↦ λ is some. let there = kept_some c.hints (n - c.before) k is in omega (arith, there.0, there.1)
 ] refl e
 
-pub one_hint : (c : Carried) (steps : List HintStep) (n : ℕ) (h later : Hint) → hint_named c n ≡ Some h → hint_named (after_steps c steps) n ≡ Some later → later ≡ h
+pub one_hint : (c : Carried) (steps : List HintStep) (n : ℕ) (h later : Hint) → hint_named c n ≡ Some h
+    → hint_named (after_steps c steps) n ≡ Some later → later ≡ h
 one_hint c steps n h later was is =
     let same : hint_named c n ≡ Some later = (goes_on c steps).same n (named_used c n h was) later is in
     same_Some later h (sym same ∙ was)
@@ -190,11 +211,14 @@ length-numbered n (k ∷ ks) = omega (arith, length-numbered (n + 1) ks)
 
 step_below : (c : Carried) (step : HintStep) → AreBelow c → AreBelow (after_step c step)
 step_below c (keeps owner key clock kind value) is_below =
-    held_after AreBelow c (keep_at c owner key clock kind value) is_below (keep_gives (λ _. AreBelow) c owner key clock kind value (λ small. omega (arith, small, length-append {A = Kept})))
-step_below c (settles n known) is_below = after_settle AreBelow c n known is_below (omega (arith, is_below, length-map c.hints (closed_at (n - c.before) known)))
+    held_after AreBelow c (keep_at c owner key clock kind value) is_below
+    (keep_gives (λ _. AreBelow) c owner key clock kind value (λ small. omega (arith, small, length-append {A = Kept})))
+step_below c (settles n known) is_below =
+    after_settle AreBelow c n known is_below (omega (arith, is_below, length-map c.hints (closed_at (n - c.before) known)))
 step_below c renews is_below =
     held_after AreBelow c (renew c) is_below
-    (below_limit (λ _. AreBelow) (last_number c + pending_count c.hints) _ (λ small. omega (arith, small, length-numbered 1 (filter is_pending c.hints))))
+    (below_limit (λ _. AreBelow) (last_number c + pending_count c.hints) _
+    (λ small. omega (arith, small, length-numbered 1 (filter is_pending c.hints))))
 step_below c (restores first) is_below = after_restore AreBelow c first is_below (λ above small. omega (arith, small))
 
 pub stays_below : (c : Carried) (steps : List HintStep) → last_number c < 2 ^ 64 → last_number (after_steps c steps) < 2 ^ 64
@@ -212,11 +236,13 @@ last_hint c k =
     ∙ ap (λ i. Some (get_or hints i k).hint) here
     ∙ ap (λ (x : Kept). Some x.hint) (get_or-append_seam c.hints k [] k)
 
-pub kept_hint : (c d : Carried) (n owner : ℕ) (key : List ℕ) (clock : Pairs) (kind : ℕ) (value : List ℕ) → keep_at c owner key clock kind value ≡ gives n d
+pub kept_hint : (c d : Carried) (n owner : ℕ) (key : List ℕ) (clock : Pairs) (kind : ℕ) (value : List ℕ)
+    → keep_at c owner key clock kind value ≡ gives n d
     → IsKept c d n owner key (record { clock = clock_of clock; kind = kind_numbered kind; value = value })
 kept_hint c d n owner key clock kind value is =
     let v : Version = record { clock = clock_of clock; kind = kind_numbered kind; value = value } in
     let k : Kept = record { hint = record { id = length c.hints + 1; owner = owner; key = key; version = v }; fate = Pending } in
     let Names : Option Hint → Type 0 = λ o. MatchOption o ⊥ (λ h. (h.owner ≡ owner) × (h.key ≡ key) × (h.version ≡ v)) in
     subst (Gives (λ m e. IsKept c e m owner key v)) is
-    (keep_gives (λ m e. IsKept c e m owner key v) c owner key clock kind value (λ small. record { unused = omega arith; names = subst Names (sym (last_hint c k)) (refl, refl, refl) }))
+    (keep_gives (λ m e. IsKept c e m owner key v) c owner key clock kind value
+    (λ small. record { unused = omega arith; names = subst Names (sym (last_hint c k)) (refl, refl, refl) }))

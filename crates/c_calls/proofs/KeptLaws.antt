@@ -14,11 +14,13 @@ not_positive : (n : ℕ) → (0 < n → ⊥) → n ≡ 0
 not_positive zero not = refl
 not_positive (suc n) not = absurd (not (omega arith))
 
-by_moment : (m : Option Moment) (before : ℕ) (s : Store) → moment_fault m ≡ None → IfSome m (IsMomentOf s) → min (whole_from m before) (length s.entries) ≡ front_of m
+by_moment : (m : Option Moment) (before : ℕ) (s : Store) → moment_fault m ≡ None → IfSome m (IsMomentOf s)
+    → min (whole_from m before) (length s.entries) ≡ front_of m
 by_moment None before s whole is = absurd (cc)
 by_moment (Some m) before s whole is =
     let clean : are_clean m.tree.marks ≡ true = no_fault_else (are_clean m.tree.marks) Dirty whole in
-    let none : dirty_count m.tree.marks ≡ 0 = not_positive (dirty_count m.tree.marks) (λ some. true≢false (sym clean ∙ some_dirty m.tree.marks some)) in
+    let none : dirty_count m.tree.marks ≡ 0 = not_positive (dirty_count m.tree.marks)
+    (λ some. true≢false (sym clean ∙ some_dirty m.tree.marks some)) in
     subst (λ (n : ℕ). min (if n == 0 then m.front else before) (length s.entries) ≡ m.front) (sym none) (omega (arith, is.front))
 
 -- it is the number of the moment's entries

@@ -1,5 +1,6 @@
 -- The first key above a key, run by run.
-use Rattle.std.proofs.Common.{◌≡◌, ℕ, zero, suc, ◌+◌, ◌-◌, ◌<◌, ◌≤◌, true, false, List, [], ◌∷◌, ◌++◌, length, take, get_or, cond, refl, sym, ap, ◌∙◌, arith, ⊎_elim}
+use Rattle.std.proofs.Common.{◌≡◌, ℕ, zero, suc, ◌+◌, ◌-◌, ◌<◌, ◌≤◌, true, false, List, [], ◌∷◌, ◌++◌, length, take, get_or, cond, refl, sym, ap}
+use Rattle.std.proofs.Common.{◌∙◌, arith, ⊎_elim}
 use Rattle.std.specs.Prelude.{Some, None}
 use Rattle.std.specs.declared.cmp.Ordering.{Ordering}
 use Rattle.std.specs.declared.cmp.Ordering.TheVariants.{Less, Equal, Greater}
@@ -52,7 +53,8 @@ pub none_above : (k : List ℕ) (run : List Row) (d : Row) → AscendByKey run �
     → (i : ℕ) → i < length run → is_before k (get_or run i d).key ≡ false
 none_above k run d a last i lt =
     ⊎_elim
-    (λ (before : i < length run - 1). lesser_not_above k (get_or run i d).key (get_or run (length run - 1) d).key (ascend_pair run i (length run - 1) d a before (omega (arith, lt))) last)
+    (λ (before : i < length run - 1). lesser_not_above k (get_or run i d).key (get_or run (length run - 1) d).key
+    (ascend_pair run i (length run - 1) d a before (omega (arith, lt))) last)
     (λ (at : length run - 1 ≤ i).
     let same : i ≡ length run - 1 = omega (arith, at, lt) in
     ap (λ j. is_before k (get_or run j d).key) same ∙ last)
@@ -81,7 +83,8 @@ none_yet k (x ∷ rows) zero r lt at none not =
 none_yet k (x ∷ rows) (suc i) r lt at none not =
     let more : suc i + 1 ≡ suc (i + 1) = omega arith in
     ap (λ n. key_after k (take n (x ∷ rows))) more ∙
-    elim (is_before k x.key) as (λ b. cond b (Some x.key) (key_after k (take i rows)) ≡ None → cond b (Some x.key) (key_after k (take (i + 1) rows)) ≡ None) [
+    elim (is_before k x.key) as (λ b. cond b (Some x.key) (key_after k (take i rows)) ≡ None
+    → cond b (Some x.key) (key_after k (take (i + 1) rows)) ≡ None) [
       | true ↦ λ e. absurd (cc)
       | false ↦ λ e. none_yet k rows i r (omega arith) at e not
     ] none

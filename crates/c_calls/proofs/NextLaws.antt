@@ -24,7 +24,8 @@ none_after owners after hints numbered past = ap (option_map (λ (k : Kept). k.h
         fails (is_pending h) (nat_lt after h.hint.id) (list_any (nat_eq h.hint.owner) owners)
         (le-ltb after h.hint.id (let id = id_at 1 hints k d numbered within in omega (arith, id, past, within)))
 
-pub no_next : (before : ℕ) (hints : List Kept) (owner after : ℕ) → HaveIdsFrom 1 hints → length hints < after - before → None ≡ next_number (carried before hints) owner after
+pub no_next : (before : ℕ) (hints : List Kept) (owner after : ℕ) → HaveIdsFrom 1 hints → length hints < after - before
+    → None ≡ next_number (carried before hints) owner after
 no_next before hints owner after numbered past =
     rw (none_after (owner ∷ []) (after - before) hints numbered past) (either (nat_le owner 65535))
   where

@@ -1,5 +1,6 @@
 -- The pairs of C as pairs of a clock: the tests of them, and the table of the nodes that came.
-use Rattle.std.proofs.Common.{◌≡◌, ℕ, ◌+◌, ◌<◌, Bool, true, false, ◌||◌, List, [], ◌∷◌, length, map, get_or, set, take, eqb, refl, ap, sym, subst, ◌∙◌, inl, inr, arith}
+use Rattle.std.proofs.Common.{◌≡◌, ℕ, ◌+◌, ◌<◌, Bool, true, false, ◌||◌, List, [], ◌∷◌, length, map, get_or, set, take, eqb, refl, ap, sym, subst}
+use Rattle.std.proofs.Common.{◌∙◌, inl, inr, arith}
 use Rattle.std.proofs.lemmas.Bool.{cases_Bool, cases_eq, eq-eqb, ne_eqb, eqb-true, or_cases, or_parts, or_right}
 use Rattle.std.proofs.lemmas.Bool.Decides.{nat_tests}
 use Rattle.std.proofs.lemmas.List.{get_or-set_same, get_or-set_other, length-map}
@@ -52,9 +53,13 @@ too_many ps many = elim (cases_Bool (is_bad ps)) [
 -- ---- the table
 
 -- it says which nodes came, one pair on
-pub came_more : (ps : Pairs) (seen : List Bool) (i n m : ℕ) → i < length ps → m ≡ (get_or ps i (0, 0)).0 → m < length seen → get_or seen n false ≡ has_node (take i ps) n → get_or (set seen m true) n false ≡ has_node (take (i + 1) ps) n
+pub came_more : (ps : Pairs) (seen : List Bool) (i n m : ℕ) → i < length ps → m ≡ (get_or ps i (0, 0)).0 → m < length seen
+    → get_or seen n false ≡ has_node (take i ps) n → get_or (set seen m true) n false ≡ has_node (take (i + 1) ps) n
 came_more ps seen i n m h is within old =
     elim (cases_eq n m) [
-      | inl same ↦ subst (λ k. get_or (set seen m true) k false ≡ true) (sym same) (get_or-set_same seen m true false within) ∙ sym (has_node_more ps i n (0, 0) h ∙ or_right (has_node (take i ps) n) _ (eq-eqb _ n (sym is ∙ sym same)))
-      | inr other ↦ get_or-set_other seen m n true false other ∙ old ∙ sym (has_node_more ps i n (0, 0) h ∙ (ap (λ b. has_node (take i ps) n || b) (ne_eqb (get_or ps i (0, 0)).0 n (λ e. other (sym (is ∙ e)))) ∙ or-false (has_node (take i ps) n)))
+      | inl same ↦ subst (λ k. get_or (set seen m true) k false ≡ true) (sym same) (get_or-set_same seen m true false within)
+          ∙ sym (has_node_more ps i n (0, 0) h ∙ or_right (has_node (take i ps) n) _ (eq-eqb _ n (sym is ∙ sym same)))
+      | inr other ↦ get_or-set_other seen m n true false other ∙ old
+          ∙ sym (has_node_more ps i n (0, 0) h
+          ∙ (ap (λ b. has_node (take i ps) n || b) (ne_eqb (get_or ps i (0, 0)).0 n (λ e. other (sym (is ∙ e)))) ∙ or-false (has_node (take i ps) n)))
     ]

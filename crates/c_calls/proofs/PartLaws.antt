@@ -47,14 +47,17 @@ pub put_refused : (test : ContextTest) (s : State) (node : ℕ) (key : List ℕ)
     → node_fault node ≡ None → parts_fault s.store.config.format key context kind value ≡ Some e
     → put_at_by test s node key context kind value ≡ refuses e
 put_refused Fresh s node key context kind value e is_node is =
-    rw is_node (parts_refused (with_store s) (pairs_fault context) (kind_fault kind) (key_fault key) (value_fault s.store.config.format (kind_numbered kind) value) _ e _ is)
+    rw is_node (parts_refused (with_store s) (pairs_fault context) (kind_fault kind) (key_fault key)
+    (value_fault s.store.config.format (kind_numbered kind) value) _ e _ is)
 put_refused Read s node key context kind value e is_node is =
-    rw is_node (asked_refused (with_store s) (pairs_fault context) (kind_fault kind) (key_fault key) (value_fault s.store.config.format (kind_numbered kind) value) _ _ e _ is)
+    rw is_node (asked_refused (with_store s) (pairs_fault context) (kind_fault kind) (key_fault key)
+    (value_fault s.store.config.format (kind_numbered kind) value) _ _ e _ is)
 
 pub accept_refused : (s : State) (key : List ℕ) (clock : Pairs) (kind : ℕ) (value : List ℕ) (e : Refusal)
     → parts_fault s.store.config.format key clock kind value ≡ Some e → accept_at s key clock kind value ≡ refuses e
 accept_refused s key clock kind value e is =
-    parts_refused (with_store s) (pairs_fault clock) (kind_fault kind) (key_fault key) (value_fault s.store.config.format (kind_numbered kind) value) _ e _ is
+    parts_refused (with_store s) (pairs_fault clock) (kind_fault kind) (key_fault key)
+    (value_fault s.store.config.format (kind_numbered kind) value) _ e _ is
 
 pub keep_refused : (c : Carried) (owner : ℕ) (key : List ℕ) (clock : Pairs) (kind : ℕ) (value : List ℕ) (e : Refusal)
     → node_fault owner ≡ None → parts_fault Two key clock kind value ≡ Some e

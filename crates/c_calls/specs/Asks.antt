@@ -1,4 +1,4 @@
--- The nodes that a session has outstanding, for C.
+-- The outstanding nodes of a session, for C.
 use Rattle.std.specs.Prelude.{◌≡◌, ℕ, List, [], length, slice_get, Option, Some, None, Result, Ok, Err, MatchOption}
 use Rattle.vclock.specs.Answer.{Answers, first_fault}
 use Rattle.vclock.specs.declared.refusal.Refusal.{Refusal}
@@ -13,7 +13,7 @@ use Rattle.range_state.specs.Patches.{IsOutline}
 use Rattle.text_patch.specs.Marks.{width_fault}
 use Rattle.range_state.specs.declared.«record».Record.{Record}
 
--- the number of nodes that a record's session has outstanding, if there is a record
+-- the number of outstanding nodes of a record's session, if there is a record
 abbrev pub count_of : Option Record → Result ℕ Refusal
 count_of None = Err UnknownSession
 count_of (Some r) = Ok (length r.session.outstanding)
@@ -26,7 +26,7 @@ abbrev pub asked_bytes : ℕ → Option Node → List ℕ
 asked_bytes number None = []
 asked_bytes number (Some node) = message_text (messages.Ask (record { offer = number; node = node }))
 
--- bytes that ask for the node that a session has outstanding at a place, counted from 0, if any
+-- bytes that ask for the outstanding node of a session at a place, counted from 0, if any
 pub record AsksNode (r : Record) (place number : ℕ) (bytes : List ℕ) : Type 0 where
   pub node : Option Node
   pub is_there : node ≡ slice_get r.session.outstanding place
@@ -37,7 +37,7 @@ abbrev pub OutlinesOf : Record → ℕ → ℕ → Option Node → List ℕ → 
 OutlinesOf r number width None bytes = bytes ≡ []
 OutlinesOf r number width (Some node) bytes = IsOutline r.session (record { offer = number; node = node }) width bytes
 
--- bytes that are the outline of the node that a session has outstanding at a place, counted from 0, if any
+-- bytes that are the outline of the outstanding node of a session at a place, counted from 0, if any
 pub record OutlinesNode (r : Record) (place number width : ℕ) (bytes : List ℕ) : Type 0 where
   pub node : Option Node
   pub is_there : node ≡ slice_get r.session.outstanding place

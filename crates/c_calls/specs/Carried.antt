@@ -1,4 +1,4 @@
--- The numbers of hints in C. The hints of a store are numbered from 1; in C their numbers go on, through renewals and
+-- The numbers of hints in C. The hints of a store are numbered from 1; in C their numbers continue through renewals and
 -- restarts.
 use Rattle.std.specs.Prelude.{ℕ, ◌+◌, ◌-◌, ◌^◌, Bool, ◌==◌, nat_lt, nat_le, List, [], ◌∷◌, length, Option, Some, None, if◌then◌else◌}
 use Rattle.std.specs.Option.{option_and_then}

@@ -34,7 +34,7 @@ narrowed n = min n (2 ^ 32 - 1)
 abbrev pub bounds_from : ExchangeBounds → Bounds
 bounds_from b = record { asks = narrowed b.asks; bytes = b.bytes; bad = narrowed b.bad; lost = narrowed b.lost }
 
--- the result, with the value that its box has
+-- the result, with the value in its box
 abbrev pub unboxed : {B : Type 0} → (B → Exchange) → Result B Refusal → Result Exchange Refusal
 unboxed value (Ok b) = Ok (value b)
 unboxed value (Err e) = Err e
@@ -61,7 +61,7 @@ Writes bytes code before after = (code ≡ 0) × (after.0 ≡ length bytes) × (
 abbrev pub WritesAsk : Ask → ℕ × List ℕ → ℕ × List ℕ → Exchange → Exchange → Type 0
 WritesAsk ask before after x y = Writes (message_text (messages.Ask ask)) 0 before after × (y ≡ x)
 
--- its outline is written in its place, if there is one and memory suffices
+-- the ask's outline is written in its place, if it has one and memory suffices
 abbrev pub WritesAsked : Ask → Outcome (Option (List ℕ)) Exchange → ℕ × List ℕ → ℕ × List ℕ → Exchange → Exchange → Type 0
 WritesAsked ask (gives (Some bytes) z) before after x y = (Writes bytes 0 before after × (y ≡ z)) ⊎ WritesAsk ask before after x y
 WritesAsked ask (gives None z) before after x y = WritesAsk ask before after x y
@@ -72,7 +72,7 @@ abbrev pub WritesSent : Option Ask × Exchange → Option Record → ℕ × List
 WritesSent (Some ask, x) r before after y = WritesAsked ask (outlines_of x r ask.node (length before.1)) before after x y
 WritesSent (None, x) r before after y = Writes [] 0 before after × (y ≡ x)
 
--- the message of the ask that is sent now is written, or no bytes; without room for the bytes of an ask none is sent
+-- the message of the ask that is sent now is written, or no bytes; if the buffer is too short for an ask, none is sent
 abbrev pub WritesNext : Bool → ℕ → ℕ × List ℕ → ℕ × List ℕ → Option Record → Exchange → Exchange → Type 0
 WritesNext true code before after r x y = (code ≡ 0) × WritesSent (asks_of x r) r before after y
 WritesNext false code before after r x y = (code ≡ SMALL) × (after.0 ≡ 8) × (after.1 ≡ before.1) × (y ≡ x)
@@ -84,7 +84,7 @@ abbrev pub stop_number : Stop → ℕ
 stop_number stops.JournalFull = cause_number JournalFull
 stop_number stops.NoMemory = cause_number NoMemory
 
--- a verdict on an answer that was not taken, with the number of its cause
+-- a verdict for an answer that was not taken, with the number of its cause
 abbrev pub untaken : ℕ → ℕ → ExchangeVerdict
 untaken verdict cause = record { verdict = verdict; cause = cause; accepted = 0; known = 0 }
 

@@ -3,8 +3,8 @@ use Rattle.std.specs.Prelude.{◌≡◌, ℕ, Bool, true, false, Result, MatchRe
 use Rattle.vclock.specs.declared.refusal.Refusal.{Refusal}
 use Rattle.c_calls.specs.Numbers.{code_of, EMPTY, HELD}
 
--- the call of a full handle leaves it full, and is right; the call of an empty handle leaves it empty, returns EMPTY,
--- and its other arguments are the same
+-- the call of a full handle leaves it full, and satisfies `Right`; the call of an empty handle leaves it empty, returns
+-- EMPTY, and its other arguments are unchanged
 abbrev pub OnHeld : Bool → Bool → ℕ → Type 0 → Type 0 → Type 0
 OnHeld true now code Same Right = (now ≡ true) × Right
 OnHeld false now code Same Right = (now ≡ false) × (code ≡ EMPTY) × Same

@@ -6,7 +6,7 @@ use Rattle.range_store.specs.Config.{Config}
 use Rattle.range_state.specs.State.{fresh}
 use Rattle.c_calls.specs.Kept.{KeptState, numbered}
 
--- the fault of numbers that are not those of a range
+-- the fault of numbers that are not a range's
 abbrev pub config_fault : Option Config → Option Refusal
 config_fault (Some c) = None
 config_fault None = Some BadRing

@@ -3,7 +3,7 @@ use Rattle.std.specs.Prelude.{ℕ, List, Option, option_map}
 use Rattle.version_set.specs.declared.version.Version.{Version}
 use Rattle.hint_store.specs.declared.hint.Kept.{Kept}
 
--- the parts of a hint, if there is one
+-- the parts of a hint, if any
 abbrev pub owner_in : Option Kept → Option ℕ
 owner_in k = option_map (λ (x : Kept). x.hint.owner) k
 

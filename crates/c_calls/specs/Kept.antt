@@ -1,4 +1,5 @@
--- The numbers of a replica's entries in C. A journal numbers its entries from 0; in C their numbers go on over renewals.
+-- The numbers of a replica's entries in C. A journal numbers its entries from 0; in C their numbers continue over
+-- renewals.
 use Rattle.std.specs.Prelude.{ℕ, ◌+◌, ◌-◌, ◌^◌, nat_lt, List, length, take, min, slice_get, Option, Some, None, if◌then◌else◌}
 use Rattle.vclock.specs.Answer.{first_fault}
 use Rattle.vclock.specs.declared.refusal.Refusal.{Refusal}
@@ -48,6 +49,6 @@ number_fault k = if nat_lt (entries_in k + 1000000) (2 ^ 64) then None else Some
 abbrev pub renewal_fault : KeptState → ℕ → Option Refusal
 renewal_fault k limit = first_fault (stores.renew_fault k.state.store limit) (number_fault k)
 
--- a renewed state, whose last entry has the last number that was used
+-- a renewed state; the last number that was used belongs to its last entry
 abbrev pub renewed_kept : KeptState → ℕ → KeptState
 renewed_kept k limit = record { state = renewed_by k.state 0 limit; first = entries_in k - length (renewed_by k.state 0 limit).store.entries; renewed = entries_in k }

@@ -1,4 +1,4 @@
--- Renewals of replicas beside the puts, as C makes them.
+-- Renewals of replicas in parallel with puts, as C makes them.
 use Rattle.std.specs.Prelude.{◌≡◌, ◌⊎◌, ℕ, ◌+◌, ◌-◌, ◌≤◌, ◌==◌, length, drop, Option, Some, None, MatchOption, Result, Ok, Err, if◌then◌else◌}
 use Rattle.vclock.specs.Answer.{first_fault}
 use Rattle.vclock.specs.Outcome.{Outcome, Does, gives, ◌>>◌}
@@ -29,7 +29,7 @@ start_in (stages.Built r) = None
 start_in (stages.Ended s) = None
 start_in stages.Vacant = None
 
--- the new range beside the old one, until it is in its place
+-- the new range alongside the old one, until it is in its place
 abbrev pub renewing_in : RenewalStage → Option Renewing
 renewing_in (stages.Begun start) = None
 renewing_in (stages.Built r) = Some r
@@ -40,7 +40,7 @@ renewing_in stages.Vacant = None
 abbrev pub at_stage : KeptRenewal → RenewalStage → KeptRenewal
 at_stage r stage = record { first = r.first; limit = r.limit; stage = stage }
 
--- the new range has no more entries than the old one had then
+-- the new range began at `front` or before, and has at most `front` entries
 abbrev pub IsNoLonger : Renewing → Type 0
 IsNoLonger r = (r.began ≤ r.front) × (length r.state.store.entries ≤ r.front)
 
@@ -70,7 +70,7 @@ Builds None code old new = (code ≡ HELD) × (new ≡ old)
 
 -- ---- catching up
 
--- the fault of a replica whose journal begins at another number than that of the renewal
+-- the fault of a replica whose journal begins at another number than the renewal's
 abbrev pub first_number_fault : ℕ → KeptState → Option Refusal
 first_number_fault first k = if first == k.first then None else Some Stale
 
@@ -79,7 +79,7 @@ abbrev pub CatchesUpUnless : Option Refusal → Renewing → State → ℕ → R
 CatchesUpUnless None r s most x t = CatchesUp r s 0 most x t
 CatchesUpUnless (Some e) r s most x t = (x ≡ Err e) × (t ≡ r)
 
--- the renewal has a new range still, which is right
+-- the renewal still has a new range, which satisfies `Right`
 abbrev pub Keeps : KeptRenewal → KeptRenewal → (Renewing → Type 0) → Type 0
 Keeps old new Right = (new.first ≡ old.first) × (new.limit ≡ old.limit) × MatchOption (renewing_in new.stage) ⊥ Right
 
@@ -95,7 +95,7 @@ CatchesUpWith None k most code old new = (code ≡ EMPTY) × (new.0 ≡ old.0) �
 abbrev pub finish_fault : ℕ → KeptState → Option Refusal
 finish_fault first k = first_fault (first_number_fault first k) (number_fault k)
 
--- The new range is in the place of the replica's. Its last entry has the last number that was used.
+-- The new range is in the place of the replica's. The last number that was used belongs to its last entry.
 abbrev pub IsRenewedBy : Renewing → KeptState → KeptState → Type 0
 IsRenewedBy r k new = IsInPlaceOf r k.state 0 new.state
     × (new ≡ record { state = new.state; first = entries_in k - length new.state.store.entries; renewed = k.first + r.began })
@@ -105,7 +105,7 @@ abbrev pub FallsBehindUnless : Option Refusal → Renewing → State → Refusal
 FallsBehindUnless None r s e t = FallsBehind r s 0 (drop r.front s.store.entries) e t
 FallsBehindUnless (Some cause) r s e t = (e ≡ cause) × (t ≡ r)
 
--- the renewal has the old range then; on error the replica is unchanged
+-- afterwards the renewal has the old range; on error the replica is unchanged
 abbrev pub Replaces : Renewing → Result (Unit {0}) Refusal → KeptRenewal → KeptRenewal → KeptState → KeptState → Type 0
 Replaces r (Ok _) old new k l = (finish_fault old.first k ≡ None) × IsRenewedBy r k l × (new ≡ at_stage old (stages.Ended k.state))
 Replaces r (Err e) old new k l = (l ≡ k) × Keeps old new (FallsBehindUnless (finish_fault old.first k) r k.state e)
@@ -115,7 +115,7 @@ abbrev pub Finishes : Option Renewing → ℕ → KeptRenewal → KeptRenewal �
 Finishes (Some r) code old new k l = Returns code (λ (x : Result (Unit {0}) Refusal). Replaces r x old new k l)
 Finishes None code old new k l = (code ≡ EMPTY) × (new ≡ old) × (l ≡ k)
 
--- ---- what the law speaks of
+-- ---- for the law
 
 -- the new range begins with the rows of a moment of s, and has the next n entries of s
 pub record HasCaughtUp (r : Renewing) (s : State) (m : Moment) (limit n : ℕ) : Type 0 where

@@ -15,7 +15,7 @@ abbrev pub key_after : List ℕ → List Row → Option (List ℕ)
 key_after k [] = None
 key_after k (r ∷ rows) = if is_before k r.key then Some r.key else key_after k rows
 
--- the least key of a leaf above k is handed out, if the tree has such a leaf
+-- the least key of a leaf above k is copied out, if the tree has such a leaf
 abbrev pub HandsKeyAfter : State → ℕ → List ℕ → ℕ → ℕ × List ℕ → ℕ × List ℕ → Type 0
 HandsKeyAfter s leaf k code before after = MatchBool (nat_lt leaf (leaf_count s.store.config))
     (HandsAny (key_after k (rows_in_leaf (leaf_in s.store.config) leaf (rows_of s.store.entries))) code before after)
@@ -35,7 +35,7 @@ HandsNext rows code before after = MatchBool (nat_le before.0 (length before.1))
     (Replaces (key_after (take before.0 before.1) rows) code before after)
     (HandsOut (Err BadKey) code before after)
 
--- the rows are those of a leaf of a replica, if the tree has such a leaf
+-- the least key of a replica's leaf above the one at the front of a buffer takes its place, if the tree has such a leaf
 abbrev pub HandsKeyNext : State → ℕ → ℕ → ℕ × List ℕ → ℕ × List ℕ → Type 0
 HandsKeyNext s leaf code before after = MatchBool (nat_lt leaf (leaf_count s.store.config))
     (HandsNext (rows_in_leaf (leaf_in s.store.config) leaf (rows_of s.store.entries)) code before after)

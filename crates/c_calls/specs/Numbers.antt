@@ -8,7 +8,7 @@ abbrev pub code_of : {T : Type 0} → Result T Refusal → ℕ
 code_of (Ok x) = 0
 code_of (Err e) = cause_number e
 
--- A result that is right has this number.
+-- The code is the number of a result that satisfies `Right`.
 pub record Returns {T : Type 0} (code : ℕ) (Right : Result T Refusal → Type 0) : Type 0 where
   pub outcome : Result T Refusal
   pub number : code ≡ code_of outcome
@@ -30,6 +30,6 @@ HELD = 35
 abbrev pub NO_VERSION : ℕ
 NO_VERSION = 36
 
--- the number is no position of the journal
+-- the number is not a position of the journal
 abbrev pub BAD_POSITION : ℕ
 BAD_POSITION = 37

@@ -24,7 +24,7 @@ offer_numbered number m = record { offer = number; format = format_number m.form
 abbrev pub answer_of : RowMap → Ask → Answer
 answer_of m ask = record { offer = ask.offer; node = ask.node; text = text_at m ask.node.depth ask.node.index }
 
--- an ask for the offer of that number is answered, and the result for another offer is Gone
+-- an ask for the offer of that number is answered; for another offer the result is Gone
 abbrev pub ServesAsk : RowMap → ℕ → Ask → Result (List ℕ) Refusal → Type 0
 ServesAsk m number ask r = MatchBool (ask.offer == number)
     (Answers r (answer_fault m ask.node) (λ bytes. bytes ≡ message_text (messages.Answer (answer_of m ask))))
@@ -37,20 +37,20 @@ Serves m number r (Ok (messages.Offer offer)) = r ≡ Err BadMessage
 Serves m number r (Ok (messages.Answer answer)) = r ≡ Err BadMessage
 Serves m number r (Err e) = r ≡ Err e
 
--- an outline for the offer of that number is answered by a patch, and the result for another offer is Gone
+-- an outline for the offer of that number gets a patch; for another offer the result is Gone
 abbrev pub ServesOutline : RowMap → ℕ → Ask → MarkList → Result (List ℕ) Refusal → Type 0
 ServesOutline m number ask marks r = MatchBool (ask.offer == number)
     (Answers r (answer_fault m ask.node) (λ bytes. bytes ≡ patch_of m ask marks))
     (r ≡ Err Gone)
 
--- the bytes are those of an outline
+-- the bytes are an outline
 pub record ServesMarks (m : RowMap) (number : ℕ) (bytes : List ℕ) (r : Result (List ℕ) Refusal) : Type 0 where
   pub ask : Ask
   pub marks : MarkList
   pub is : IsOutlineOf bytes ask marks
   pub served : ServesOutline m number ask marks r
 
--- they are those of none
+-- the bytes are not an outline
 pub record ServesOther (m : RowMap) (number : ℕ) (bytes : List ℕ) (r : Result (List ℕ) Refusal) : Type 0 where
   pub other : (ask : Ask) (marks : MarkList) → IsOutlineOf bytes ask marks → ⊥
   pub served : Reads bytes (Serves m number r)

@@ -1,4 +1,4 @@
--- Packed entries, for C: the texts of many entries, one after the other.
+-- Packed entries, for C: the concatenated texts of many entries.
 use Rattle.std.specs.Prelude.{◌≡◌, ℕ, ◌+◌, ◌-◌, ◌==◌, nat_le, nat_lt, Bool, not, ◌&&◌, ◌||◌, List, [], ◌∷◌, ◌++◌, length, drop, Option, Some, None, if◌then◌else◌, MatchBool}
 use Rattle.std.specs.List.{flat_map, splice}
 use Rattle.vclock.specs.Bytes.{key_fault}
@@ -15,17 +15,17 @@ use Rattle.c_calls.specs.Numbers.{SMALL, BAD_POSITION}
 abbrev pub entry_text : Format → Entry → List ℕ
 entry_text format e = number_of_source e.source ∷ row_text format (record { key = e.key; versions = e.version ∷ [] })
 
--- the texts of entries, one after the other
+-- the concatenated texts of entries
 abbrev pub entries_text : Format → List Entry → List ℕ
 entries_text format es = flat_map (entry_text format) es
 
--- the entries with which a list begins, as many as have texts that fit into so many bytes together
+-- the longest prefix of a list of entries whose texts have at most that many bytes together
 abbrev pub fitting : Format → ℕ → List Entry → List Entry
 fitting format room [] = []
 fitting format room (e ∷ es) =
     if nat_le (length (entry_text format e)) room then e ∷ fitting format (room - length (entry_text format e)) es else []
 
--- the length of the text of the first entry, if it does not fit into so many bytes
+-- the length of the text of the first entry, if it is over that many bytes
 abbrev pub first_over : Format → ℕ → List Entry → Option ℕ
 first_over format room [] = None
 first_over format room (e ∷ es) = if nat_le (length (entry_text format e)) room then None else Some (length (entry_text format e))
@@ -42,7 +42,7 @@ PacksUnless (Some len) text end code next next' before after = (code ≡ SMALL) 
 PacksUnless None text end code next next' before after =
     (code ≡ 0) × (after.0 ≡ length text) × (after.1 ≡ text ++ drop (length text) before.1) × (next' ≡ end)
 
--- of entries that begin at a number those that fit are packed
+-- the entries that fit are packed, from a number on
 abbrev pub Packs : Format → List Entry → ℕ → ℕ → ℕ → ℕ → ℕ × List ℕ → ℕ × List ℕ → Type 0
 Packs format es from code next next' before after =
     PacksUnless (first_over format (length before.1) es) (entries_text format (fitting format (length before.1) es))
@@ -52,8 +52,9 @@ Packs format es from code next next' before after =
 abbrev pub entries_from : KeptState → ℕ → List Entry
 entries_from k from = drop (from - k.first) k.state.store.entries
 
--- A number is no position if it is over the number of entries. A number below that of the last renewal is none either,
--- since a version that was carried over is not the entry that had its number before; but the first one gives them all.
+-- A number is not a position if it is over the number of entries. A number below the last renewal's is not one either,
+-- since a version that was carried over is not the entry that had its number before. The exception is the journal's
+-- first number: all versions follow it.
 abbrev pub is_no_position : KeptState → ℕ → Bool
 is_no_position k from = nat_lt (entries_in k) from || (nat_lt from k.renewed && not (from == k.first))
 
@@ -63,7 +64,7 @@ PacksFrom k from code next next' before after = MatchBool (is_no_position k from
     ((code ≡ BAD_POSITION) × (next' ≡ next) × HandsNothing before after)
     (Packs k.state.store.config.format (entries_from k from) from code next next' before after)
 
--- bytes take the place of those of a buffer from `at` on, and end at `end`
+-- `bytes` replace the bytes of a buffer from `at` on, and end at `end`
 pub record IsWritten (bytes old : List ℕ) (at : ℕ) (new : List ℕ) (end : ℕ) : Type 0 where
   pub ends : end ≡ at + length bytes
   pub is : new ≡ splice old at end bytes

@@ -1,4 +1,4 @@
--- How far an exchange is, for C.
+-- The progress of an exchange, for C.
 use Rattle.std.specs.Prelude.{◌≡◌, ℕ, Option, Some, None}
 use Rattle.tree_nodes.specs.Nodes.{Node}
 use Rattle.range_state.specs.State.{State}
@@ -39,7 +39,7 @@ report_cause reports.Gone = 0
 abbrev pub progress_in : Exchange → State → Progress
 progress_in x s = record { report = report_number (report_in x s); cause = report_cause (report_in x s); asks = x.course.tally.asks; on_way = ways x.course.standings; bytes_on_way = ways_bytes x.course.standings; bad = x.course.tally.bad; lost = x.course.tally.lost; accepted = x.course.tally.accepted; known = x.course.tally.known; leaves = x.course.tally.leaves }
 
--- the caller gets a node, if there is one; otherwise the result is NO_VERSION, and nothing is written
+-- the caller gets a node, if any; otherwise the result is NO_VERSION, and nothing is written
 abbrev pub TellsNode : Option Node → ℕ → LeftNode → LeftNode → Type 0
 TellsNode (Some n) code old new = (code ≡ 0) × (new ≡ record { depth = n.depth; index = n.index })
 TellsNode None code old new = (code ≡ NO_VERSION) × (new ≡ old)

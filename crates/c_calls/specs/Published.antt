@@ -11,7 +11,7 @@ pub record Shown : Type 0 where
   pub rows : RowMap
   pub entries : ℕ
 
--- the number of entries that made the rows now, or those of the moment
+-- the number of entries that made the current rows, or the moment's rows
 abbrev pub shown_entries : LocalRows → KeptState → ℕ
 shown_entries local_rows.Now k = entries_in k
 shown_entries local_rows.Moment k = k.first + front_of k.state.moment

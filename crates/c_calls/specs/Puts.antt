@@ -1,4 +1,4 @@
--- Versions from C: their numbers need not be right.
+-- Versions from C: their numbers may be invalid.
 use Rattle.std.specs.Prelude.{◌≡◌, ℕ, ◌+◌, ◌&&◌, nat_le, ◌==◌, List, Option, Some, None, Result, Ok, Err, if◌then◌else◌}
 use Rattle.vclock.specs.Answer.{first_fault}
 use Rattle.vclock.specs.Bytes.{key_fault}
@@ -19,7 +19,7 @@ use Rattle.range_store.specs.declared.receipt.Accepted.{Accepted}
 use Rattle.range_store.specs.declared.receipt.Accepted.TheVariants.{Taken, Known}
 use Rattle.c_calls.specs.declared.puts.PutReceipt.{PutReceipt}
 
--- the fault of a number that is not a node's: a node has a number from 1 to 65,535
+-- the fault of a number that is not a node's: nodes have numbers from 1 to 65,535
 abbrev pub node_fault : ℕ → Option Refusal
 node_fault node = if nat_le 1 node && nat_le node 65535 then None else Some BadClock
 
@@ -36,7 +36,7 @@ abbrev pub parts_fault : Format → List ℕ → Pairs → ℕ → List ℕ → 
 parts_fault format key clock kind value =
     first_fault (pairs_fault clock) (first_fault (kind_fault kind) (first_fault (key_fault key) (value_fault format (kind_numbered kind) value)))
 
--- the result is NoMemory only if there is none of these early causes
+-- the result is NoMemory only if none of these early causes applies
 abbrev pub NoMemoryAfter : {T : Type 0} → Option Refusal → Result T Refusal → Type 0
 NoMemoryAfter early (Ok x) = Unit {0}
 NoMemoryAfter early (Err e) = e ≡ NoMemory → early ≡ None
@@ -56,7 +56,7 @@ put_at s node key context kind value = put_at_by Fresh s node key context kind v
 abbrev pub put_read_at : State → ℕ → List ℕ → Pairs → ℕ → List ℕ → Outcome Entry State
 put_read_at s node key context kind value = put_at_by Read s node key context kind value
 
--- the caller gets the receipt of its entry, unless the put was refused; the journal's first entry has the number `first`
+-- the caller gets the receipt of its entry, unless the put was refused; the journal's first entry is number `first`
 abbrev pub TellsPut : ℕ → ℕ → Result Entry Refusal → PutReceipt → PutReceipt → Type 0
 TellsPut first node (Ok e) old new = new ≡ record { number = first + e.number; counter = counter e.version.clock node }
 TellsPut first node (Err e) old new = new ≡ old

@@ -10,7 +10,7 @@ use Rattle.c_calls.specs.Hands.{HandsOut}
 use Rattle.c_calls.specs.Keys.{HandsNext}
 use Rattle.c_calls.specs.Shows.{row_of}
 
--- the text of the row of a key: no bytes if it has none
+-- the text of the row of a key: no bytes if the key has no row
 abbrev pub row_in : RowMap → List ℕ → List ℕ
 row_in m key = row_of m.format key (versions_in key m.rows)
 

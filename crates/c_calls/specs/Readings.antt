@@ -12,8 +12,8 @@ use Rattle.c_calls.specs.declared.readings.Reading.{Reading}
 abbrev pub first_code : ℕ → ℕ → ℕ
 first_code a b = if a == 0 then b else a
 
--- A version and the number of versions beside it: of the pairs and of the value each is copied if all of it fits.
--- Before and after are the buffers.
+-- A version, with the number of versions of its key: the pairs and the value are each copied if they fit. Before and
+-- after are the buffers.
 abbrev pub ReadsVersion : Option Version → ℕ → ℕ → Reading → Reading → List Pair × List ℕ → List Pair × List ℕ → Type 0
 ReadsVersion None count code old new before after = (code ≡ NO_VERSION) × (new ≡ old) × (after.0 ≡ before.0) × (after.1 ≡ before.1)
 ReadsVersion (Some v) count code old new before after =

@@ -22,7 +22,7 @@ use Rattle.range_state.specs.declared.event.AnswerTaken.{AnswerTaken}
 use Rattle.c_calls.specs.Reads.{Reads}
 use Rattle.c_calls.specs.declared.sessions.TakenReceipt.{TakenReceipt}
 
--- a session that compares the rows now, or those of the moment, is opened by a decoded message, if it is an offer
+-- a session that compares the current rows, or the moment's rows, is opened by a decoded message, if it is an offer
 abbrev pub Opens : LocalRows → State → ℕ → Result ℕ Refusal → State → Result Message Refusal → Type 0
 Opens rows s partner r t (Ok (messages.Offer offer)) = Does r s t (opening rows s partner offer)
 Opens rows s partner r t (Ok (messages.Ask ask)) = (r ≡ Err BadMessage) × (t ≡ s)
@@ -38,7 +38,7 @@ abbrev pub OpensUnless : Option Refusal → LocalRows → State → ℕ → List
 OpensUnless None rows s partner bytes r t = Reads bytes (Opens rows s partner r t)
 OpensUnless (Some e) rows s partner bytes r t = (r ≡ Err e) × (t ≡ s)
 
--- the caller's number is that of the result, if it has one
+-- the caller gets the number, unless the call was refused
 abbrev pub TellsNumber : Result ℕ Refusal → ℕ → ℕ → Type 0
 TellsNumber (Ok n) old new = new ≡ n
 TellsNumber (Err e) old new = new ≡ old
@@ -73,14 +73,14 @@ TakesPatch s id number ask steps r t = MatchBool (ask.offer == number)
     (TakesSteps s id ask.node steps r t)
     ((r ≡ Err BadMessage) × (t ≡ s))
 
--- the bytes are those of a patch
+-- the bytes are a patch
 pub record TakesPatched (s : State) (id number : ℕ) (bytes : List ℕ) (r : Result AnswerTaken Refusal) (t : State) : Type 0 where
   pub ask : Ask
   pub steps : List ℕ
   pub is : IsPatchOf bytes ask steps
   pub taken : TakesPatch s id number ask steps r t
 
--- they are those of none
+-- the bytes are not a patch
 pub record TakesOther (s : State) (id number : ℕ) (bytes : List ℕ) (r : Result AnswerTaken Refusal) (t : State) : Type 0 where
   pub other : (ask : Ask) (steps : List ℕ) → IsPatchOf bytes ask steps → ⊥
   pub taken : Reads bytes (TakesMessage s id number r t)

@@ -7,7 +7,7 @@ use Rattle.vclock.specs.declared.refusal.Refusal.TheVariants.{BadRing}
 use Rattle.key_ring.specs.Places.{range_at, leaf_at}
 use Rattle.c_calls.specs.declared.spots.Spot.{Spot}
 
--- the range and the leaf of a key, if there is no cause against it
+-- the range and the leaf of a key, unless there is a cause to refuse it
 abbrev pub spot_unless : Option Refusal → Format → ℕ → List ℕ → Result Spot Refusal
 spot_unless None format bits key = Ok (record { range = range_at bits key; leaf = leaf_at format bits key })
 spot_unless (Some e) format bits key = Err e

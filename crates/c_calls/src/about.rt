@@ -5,7 +5,7 @@ ghost use Rattle.c_calls.specs.About.{about_of, about_shown};
 use crate::kept::Kept;
 use crate::published::Published;
 
-/// What a checkpoint has to name: the range, and the position of its log.
+/// The data that a checkpoint has to name: the range, and the position of its log.
 #[repr(C)]
 #[derive(Clone, Copy)]
 pub struct About {

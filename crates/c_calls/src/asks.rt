@@ -1,4 +1,4 @@
-//! Asks for the nodes that a session has outstanding, and outlines of them.
+//! Asks for the outstanding nodes of a session, and outlines of them.
 ghost use Rattle.std.specs.Prelude.{◌≡◌, slice_get, MatchOption};
 ghost use Rattle.vclock.specs.Answer.{AnswersAtOnce};
 ghost use Rattle.range_state.specs.Records.{record_of};
@@ -13,15 +13,15 @@ use tree_nodes::{NodeAt, Text};
 use vclock::Refusal;
 use walk_messages::{Ask, Message, encode};
 
-/// Counts the nodes that a session has outstanding. Refused: UnknownSession.
+/// Counts the outstanding nodes of a session. Refused: UnknownSession.
 pub fn count_of(state: &RangeState, session: u64) -> Result<u64, Refusal>
     ensures { result ≡ outstanding_count state.now session }
 {
     Ok(state.record(session)?.session().outstanding().len() as u64)
 }
 
-/// Writes the message that asks for the node that a session has outstanding at a place, with the number of the partner's
-/// offer: no bytes if there is none. Refused, in order: UnknownSession, NoMemory.
+/// Writes the message that asks for the outstanding node of a session at a place, with the number of the partner's
+/// offer: no bytes if the place is past the last. Refused, in order: UnknownSession, NoMemory.
 pub fn ask(
     alloc: Global,
     state: &RangeState,
@@ -42,8 +42,8 @@ pub fn ask(
     Ok(Text::from(bytes))
 }
 
-/// Writes the outline of the node that a session has outstanding at a place, with the number of the partner's offer and
-/// marks of so many bytes: no bytes if there is none.
+/// Writes the outline of the outstanding node of a session at a place, with the number of the partner's offer and marks
+/// of `width` bytes: no bytes if the place is past the last.
 ///
 /// Refused, in order: BadMessage (the width isn't 1 to 8), UnknownSession, NoMemory.
 pub fn outline(
@@ -74,7 +74,7 @@ fn width_of(number: u64) -> Result<u8, Refusal>
     Ok(width)
 }
 
-/// Returns the node that a session has outstanding at a place, if any. Refused: UnknownSession.
+/// Returns the outstanding node of a session at a place, if any. Refused: UnknownSession.
 fn node_at(state: &RangeState, session: u64, place: u64) -> Result<Option<NodeAt>, Refusal>
     ensures { AnswersAtOnce result (unknown_fault state.now session)
         (λ node. MatchOption (record_of session state.now.records) ⊥

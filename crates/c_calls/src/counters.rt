@@ -9,9 +9,9 @@ use crate::kept::Kept;
 use crate::puts::node_of;
 use vclock::{Refusal, check_key};
 
-/// Returns the greatest counter of a node in the clocks of the versions that the entries of numbers below `entries` have
-/// for a key: of all entries if there are fewer, and 0 if no clock has the node. Reads each of these entries, and of a
-/// key that isn't 1 to 255 bytes long no byte. Refused: BadClock (the node is 0 or over 65,535).
+/// Returns the greatest counter of a node in the clocks of a key's versions, among the entries with numbers below
+/// `entries`: among all entries if there are fewer, and 0 if no clock has the node. Reads each of these entries, but no
+/// byte of a key that isn't 1 to 255 bytes long. Refused: BadClock (the node is 0 or over 65,535).
 pub fn top_counter(kept: &Kept, node: u64, key: &[u8], entries: u64) -> Result<u64, Refusal>
     ensures { AnswersAtOnce result (node_fault node) (λ n. n ≡ top_counter (entries_below kept.now entries) key.now node) }
 {

@@ -10,7 +10,7 @@ use crate::kept::Kept;
 pub struct Counts {
     /// The number of entries, with those before the last renewals: the number of the next entry.
     pub entries: u64,
-    /// The maximum number of entries of the journal, which has those from `first` on.
+    /// The maximum number of entries of the journal, which has the entries from `first` on.
     pub limit: u64,
     /// The number of nodes of the tree without a digest.
     pub dirty: u64,

@@ -35,8 +35,8 @@ pub fn show_value(kept: &Kept, number: u64, kind: &mut u8, out: &mut [u8], need:
     copy_out(entry.version.value.as_slice(), out, need)
 }
 
-/// Copies out the pairs of the clock of an entry's version. The pairs ascend by node. Refused, in order: NO_VERSION (the
-/// journal has no such entry), SMALL.
+/// Copies out the pairs of the clock of an entry's version. The pairs ascend by node. Refused, in order: NO_VERSION
+/// (the journal has no such entry), SMALL.
 pub fn show_clock(kept: &Kept, number: u64, out: &mut [Pair], need: &mut u64) -> u32
     ensures { ShowsClock (version_in (entry_at kept.now number)) result (need.old, out.old) (need.new, out.new) }
 {

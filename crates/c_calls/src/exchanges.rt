@@ -24,10 +24,10 @@ const ASK_LEN: usize = 8;
 #[repr(C)]
 #[derive(Clone, Copy)]
 pub struct ExchangeBounds {
-    /// The maximum number of asks on their way. This and the two last count as 2^32 - 1 if they are over it.
+    /// The maximum number of asks in progress. This and the last two fields count as 2^32 - 1 if they are over it.
     pub asks: u64,
-    /// The maximum size in bytes of the answers that are asked for at once, as far as they can be estimated. A single
-    /// answer may be longer.
+    /// The maximum size in bytes of the requested answers in progress, as far as it can be estimated. A single answer
+    /// may be longer.
     pub bytes: u64,
     /// The maximum number of bad answers: after one more the exchange is over.
     pub bad: u64,
@@ -41,7 +41,7 @@ pub struct ExchangeBounds {
 pub struct ExchangeVerdict {
     /// 0 taken, 1 left, 2 bad, 3 late, 4 refused, 5 failed.
     pub verdict: u64,
-    /// The number of BadMessage, NotAsked or WrongDigest if it is bad; that of JournalFull or NoMemory if it is refused;
+    /// The number of BadMessage, NotAsked or WrongDigest if it is bad, or of JournalFull or NoMemory if it is refused;
     /// otherwise 0.
     pub cause: u64,
     /// The number of versions that were new, if it is taken; otherwise 0.
@@ -53,8 +53,8 @@ pub struct ExchangeVerdict {
 /// Opens an exchange with a partner by the bytes of its offer.
 ///
 /// Refused, in order: BadClock (the partner is over 65,535), BadMessage (the bytes aren't an offer); then as
-/// [`Exchange::open`] is: OtherFormat, OtherRange, Dirty, SessionsFull, NoMemory, which may replace the two before it. On
-/// error the replica is unchanged.
+/// [`Exchange::open`] is: OtherFormat, OtherRange, Dirty, SessionsFull, NoMemory, which may replace the two before it.
+/// On error the replica is unchanged.
 pub fn open(
     alloc: Global,
     state: &mut RangeState,
@@ -138,10 +138,10 @@ fn open_boxed(
     Ok(whole)
 }
 
-/// Writes the message of the next ask to send, and stores its length: 0 if there is none now. If an outline pays and fits
-/// into the room, it is sent in place of the ask, unless memory runs out.
+/// Writes the message of the next ask to send, and stores its length: 0 if none is to be sent now. If an outline pays
+/// and fits into the buffer, it is sent in place of the ask, unless memory runs out.
 ///
-/// Refused: SMALL (the room is below 8 bytes). Then 8 is stored, and nothing else changes.
+/// Refused: SMALL (the buffer has fewer than 8 bytes). Then 8 is stored, and nothing else changes.
 pub fn next(
     alloc: Global,
     exchange: &mut Exchange,
@@ -163,7 +163,7 @@ pub fn next(
     0
 }
 
-/// Writes the outline of an ask that is on its way, if there is one, or the ask.
+/// Writes the outline of an ask in progress, if it has one, or the ask.
 fn send(
     alloc: Global,
     exchange: &mut Exchange,
@@ -233,7 +233,7 @@ fn verdict_of(verdict: &Verdict) -> ExchangeVerdict
     }
 }
 
-/// Returns the verdict on an answer that was not taken, with the number of its cause.
+/// Returns the verdict for an answer that was not taken, with the number of its cause.
 fn untaken(verdict: u64, cause: u64) -> ExchangeVerdict
     ensures { result ≡ untaken verdict cause }
 {
@@ -256,8 +256,8 @@ pub(crate) fn number_of(stop: Stop) -> u64
     cause.number()
 }
 
-/// Counts an ask or an outline as lost, by its bytes, if it is on its way. One for another offer changes nothing. Refused:
-/// BadMessage (the bytes are neither). Then the exchange is unchanged.
+/// Counts an ask or an outline as lost, by its bytes, if it is in progress. One for another offer changes nothing.
+/// Refused: BadMessage (the bytes are neither). Then the exchange is unchanged.
 pub fn lose(alloc: Global, exchange: &mut Exchange, bytes: &[u8]) -> Result<(), Refusal>
     ensures { LosesBytes exchange.old bytes.now result exchange.new }
 {

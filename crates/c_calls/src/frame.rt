@@ -9,7 +9,7 @@ use c_handle::{InC, ReadInC};
 use std::alloc::Global;
 use vclock::Refusal;
 
-/// Calls a function with the value of a handle, and returns its code. Returns EMPTY if nothing is held.
+/// Calls a function with the value of a handle, and returns its code. Returns EMPTY if the handle is empty.
 pub fn with<H: InC, F: FnMut(&mut H::Held) -> u32>(
     handle: &mut H,
     alloc: Global,
@@ -27,8 +27,8 @@ pub fn with<H: InC, F: FnMut(&mut H::Held) -> u32>(
     result
 }
 
-/// Calls a function with the value of which a handle has a share, and returns its code. The handle is unchanged. Returns
-/// EMPTY if nothing is held.
+/// Calls a function with the value that a handle shares, and returns its code. The handle is unchanged. Returns EMPTY
+/// if the handle is empty.
 pub fn read<H: ReadInC, F: FnMut(&H::Held) -> u32>(handle: &mut H, call: &mut F) -> u32
     requires { F.IsAlwaysCallable call.old }
     ensures same { handle.new ≡ handle.old }
@@ -44,8 +44,7 @@ pub fn read<H: ReadInC, F: FnMut(&H::Held) -> u32>(handle: &mut H, call: &mut F)
     result
 }
 
-/// Puts a value that was made into an empty handle, and returns the number of the outcome. On error the handle stays
-/// empty.
+/// Puts a new value into an empty handle, and returns the number of the outcome. On error the handle stays empty.
 pub fn fill<H: InC>(handle: &mut H, made: Result<Box<H::Held, Global>, Refusal>) -> u32
     requires { H.held handle.old ≡ false }
     ensures number { result ≡ code_of made }
@@ -61,9 +60,9 @@ pub fn fill<H: InC>(handle: &mut H, made: Result<Box<H::Held, Global>, Refusal>)
     }
 }
 
-/// Fills a handle with a value that a function makes of the value of which another handle has a share. That handle is
-/// unchanged. Returns the number of the outcome: EMPTY if nothing is held there, and HELD if something is held here; then
-/// nothing is made.
+/// Fills a handle with a value that a function makes of the value that another handle shares. The other handle is
+/// unchanged. Returns the number of the outcome. Returns EMPTY if the other handle is empty, and HELD if this one
+/// isn't; in both cases nothing is made.
 pub fn read_into<G: ReadInC, H: InC, F: FnOnce(&G::Held) -> Result<Box<H::Held, Global>, Refusal>>(
     from: &mut G,
     into: &mut H,
@@ -86,8 +85,8 @@ pub fn read_into<G: ReadInC, H: InC, F: FnOnce(&G::Held) -> Result<Box<H::Held, 
     result
 }
 
-/// Fills a handle with a value that a function makes of another one. Returns the number of the outcome: HELD if something
-/// is held; then nothing is made.
+/// Fills a handle with a value that a function makes of another one. Returns the number of the outcome. Returns HELD if
+/// the handle isn't empty, and makes nothing.
 #[tactic(auto, using(crate::proofs::FrameLaws::full))]
 fn fill_of<V, H: InC, F: FnOnce(&V) -> Result<Box<H::Held, Global>, Refusal>>(
     handle: &mut H,

@@ -32,8 +32,8 @@ pub struct HintNumbers {
     pub delivered: u64,
 }
 
-/// Makes an empty store of hints, whose first hint gets the number `first`. Refused, in order: UnknownHint (`first` is 0),
-/// NoMemory.
+/// Makes an empty store of hints, whose first hint gets the number `first`. Refused, in order: UnknownHint (`first` is
+/// 0), NoMemory.
 pub fn new_hints(alloc: Global, first: u64) -> Result<Box<HintStore, Global>, Refusal>
     ensures { Answers result (restore_fault first) (λ store. store.value ≡ []) }
 {
@@ -43,8 +43,8 @@ pub fn new_hints(alloc: Global, first: u64) -> Result<Box<HintStore, Global>, Re
     Ok(Box::new(alloc, HintStore::new(alloc))?)
 }
 
-/// Keeps a version for a replica that is down, its owner, and returns the hint's number, the next one. Hint n of the store
-/// has the number `before` + n.
+/// Keeps a version for a replica that is down, its owner, and returns the hint's number, the next one. Hint n of the
+/// store has the number `before` + n.
 ///
 /// Refused, in order: BadClock (the owner is 0 or over 65,535, or the pairs aren't a clock), ClockFull, BadValue (the
 /// kind is neither 0 nor 1); BadKey, BadValue (of format 2); HintsFull (the number would be over 2^64 - 1, 10,000 hints
@@ -84,7 +84,7 @@ fn check_room(store: &HintStore) -> Result<(), Refusal>
     Ok(())
 }
 
-/// Returns the last number that was used. Refused: HintsFull (the number so many after it is over 2^64 - 1).
+/// Returns the last number that was used. Refused: HintsFull (the number plus `more` is over 2^64 - 1).
 fn last_number(store: &HintStore, before: u64, more: u32) -> Result<u64, Refusal>
     ensures { AnswersAtOnce result (number_fault (last_number (carried before store.now) + more))
         (λ last. last ≡ last_number (carried before store.now)) }
@@ -96,7 +96,7 @@ fn last_number(store: &HintStore, before: u64, more: u32) -> Result<u64, Refusal
     Ok(before + kept)
 }
 
-/// Returns the number of the pending hint of an owner with the least number over `after`, if there is one.
+/// Returns the number of the pending hint of an owner with the least number over `after`, if any.
 pub fn next_number(store: &HintStore, before: u64, owner: u64, after: u64) -> Option<u64>
     ensures { result ≡ next_number (carried before store.now) owner after }
 {
@@ -106,7 +106,7 @@ pub fn next_number(store: &HintStore, before: u64, owner: u64, after: u64) -> Op
     before.checked_add(u64::from(id))
 }
 
-/// Returns the store's number of a hint, unless it is above those of all hints.
+/// Returns the store's number of a hint, unless it is above all hints' numbers.
 fn place_of(store: &HintStore, before: u64, number: u64) -> Option<u32>
     ensures place { MatchOption result (length store.now < number - before) (λ place. place ≡ number - before) }
     ensures valid { AreHints store.now }
@@ -116,14 +116,14 @@ fn place_of(store: &HintStore, before: u64, number: u64) -> Option<u32>
     u32::try_from(number.saturating_sub(before)).ok()
 }
 
-/// Returns the hint of a number, if there is one.
+/// Returns the hint of a number, if any.
 fn hint_of(store: &HintStore, before: u64, number: u64) -> Option<&Kept>
     ensures { option_copied result ≡ named (carried before store.now) number }
 {
     store.get(place_of(store, before, number)?)
 }
 
-/// Stores a number, if there is one. Refused: NO_VERSION (there is none).
+/// Stores a number, if any. Refused: NO_VERSION (none was found).
 pub fn tell_any(found: Option<u64>, out: &mut u64) -> u32
     ensures { TellsAny found result out.old out.new }
 {
@@ -134,7 +134,7 @@ pub fn tell_any(found: Option<u64>, out: &mut u64) -> u32
     0
 }
 
-/// Stores the owner of a hint. Refused: NO_VERSION (there is no hint with this number).
+/// Stores the owner of a hint. Refused: NO_VERSION (no hint has this number).
 pub fn show_owner(store: &HintStore, before: u64, id: u64, owner: &mut u64) -> u32
     ensures { TellsAny (owner_in (named (carried before store.now) id)) result owner.old owner.new }
 {
@@ -145,7 +145,7 @@ pub fn show_owner(store: &HintStore, before: u64, id: u64, owner: &mut u64) -> u
     0
 }
 
-/// Copies out the key of a hint. Refused, in order: NO_VERSION (there is no hint with this number), SMALL.
+/// Copies out the key of a hint. Refused, in order: NO_VERSION (no hint has this number), SMALL.
 pub fn show_key(store: &HintStore, before: u64, id: u64, out: &mut [u8], need: &mut u64) -> u32
     ensures { HandsAny (hint_key_in (named (carried before store.now) id)) result (need.old, out.old) (need.new, out.new) }
 {
@@ -156,7 +156,7 @@ pub fn show_key(store: &HintStore, before: u64, id: u64, out: &mut [u8], need: &
 }
 
 /// Copies out the value of a hint's version, and stores its kind: 0 for a live version, 1 for a tombstone. Refused, in
-/// order: NO_VERSION (there is no hint with this number), SMALL. The kind is stored even if the buffer is too small.
+/// order: NO_VERSION (no hint has this number), SMALL. The kind is stored even if the buffer is too small.
 pub fn show_value(
     store: &HintStore,
     before: u64,
@@ -175,8 +175,8 @@ pub fn show_value(
     copy_out(hint.version.value.as_slice(), out, need)
 }
 
-/// Copies out the pairs of the clock of a hint's version. The pairs ascend by node. Refused, in order: NO_VERSION (there
-/// is no hint with this number), SMALL.
+/// Copies out the pairs of the clock of a hint's version. The pairs ascend by node. Refused, in order: NO_VERSION (no
+/// hint has this number), SMALL.
 pub fn show_clock(store: &HintStore, before: u64, id: u64, out: &mut [Pair], need: &mut u64) -> u32
     ensures { ShowsClock (hint_version_in (named (carried before store.now) id)) result (need.old, out.old) (need.new, out.new) }
 {

@@ -20,7 +20,7 @@ use vclock::limits::ENTRIES_MAX;
 use vclock::{Bytes, Clock, Refusal};
 use version_set::Kind;
 
-/// A replica's state, and the numbers that C uses for its entries. They go on over renewals.
+/// A replica's state, and the numbers that C uses for its entries. The numbers continue over renewals.
 #[derive(Drop)]
 pub struct Kept {
     state: RangeState,
@@ -53,8 +53,8 @@ impl Kept {
         }
     }
 
-    /// Makes a new replica that begins with the versions that this one holds, as [`RangeState::renewed`] does at seat 0.
-    /// Its last entry has the last number that was used here.
+    /// Makes a new replica that begins with the versions that this one holds, as [`RangeState::renewed`] does at seat
+    /// 0. The last number that was used here belongs to its last entry.
     ///
     /// Refused, in order: BadRing (the limit), JournalFull (more versions are held than the limit, or a number could be
     /// over 2^64 - 1 after 1,000,000 entries more), NoMemory.
@@ -97,8 +97,8 @@ impl Kept {
         Ok(())
     }
 
-    /// Puts the new range of a renewal in the place of the state, as [`Renewal::finish`] does at seat 0, and returns the
-    /// old one. Its last entry has the last number that was used here.
+    /// Puts the new range of a renewal in the place of the state, as [`Renewal::finish`] does at seat 0, and returns
+    /// the old one. The last number that was used here belongs to its last entry.
     ///
     /// Refused, in order: Stale (the journal doesn't begin at the number `first`), JournalFull (after 1,000,000 entries
     /// more a number could be over 2^64 - 1); then as [`Renewal::finish`] is. On error the replica is unchanged.
@@ -156,7 +156,7 @@ impl Kept {
         self.first + self.state.whole_front().min(entries)
     }
 
-    /// Returns the number of entries that made the rows now, or those of the moment, which is whole.
+    /// Returns the number of entries that made the current rows, or the rows of the moment, which is whole.
     pub(crate) fn shown_entries(&self, local: LocalRows) -> u64
         requires { shown_fault local self.now.state ≡ None }
         ensures { result ≡ shown_entries local self.now }
@@ -164,7 +164,7 @@ impl Kept {
         match local {
             LocalRows::Now => self.entries(),
             LocalRows::Moment => {
-                // Called for its clause alone: the moment is one of the journal.
+                // Called only for its clause: the moment is one of the journal.
                 let _right = self.state.journal();
                 self.front()
             }
@@ -188,7 +188,7 @@ impl Kept {
         entries.saturating_sub(self.first)
     }
 
-    /// Returns the entries from a number on, or `None` if the number is no position.
+    /// Returns the entries from a number on, or `None` if the number isn't a position.
     pub(crate) fn entries_from(&self, from: u64) -> Option<&[Entry]>
         ensures are { MatchOption result (is_no_position self.now from ≡ true)
             (λ es. (is_no_position self.now from ≡ false) × (es.now ≡ entries_from self.now from)) }
@@ -212,8 +212,8 @@ impl Kept {
         call(&mut self.state)
     }
 
-    /// Puts a value at a node, or a tombstone, at seat 0, as [`RangeState::put`] or [`RangeState::put_read`] does, by the
-    /// test of its context. The receipt has the number of the journal.
+    /// Puts a value at a node, or a tombstone, at seat 0, as [`RangeState::put`] or [`RangeState::put_read`] does, by
+    /// the test of its context. The receipt has the number of the journal.
     pub(crate) fn put(
         &mut self,
         alloc: Global,
@@ -229,7 +229,7 @@ impl Kept {
             (through (with_state self.old) (put_by test self.old.state 0 node key.now context.now kind value)) }
         ensures number { IfOk result (λ entry. self.old.first + entry.number < 2 ^ 64) }
     {
-        // Called for its clause alone: the journal has at most 1,000,000 entries.
+        // Called only for its clause: the journal has at most 1,000,000 entries.
         let _entries = self.entries();
         match test {
             ContextTest::Fresh => self.state.put(alloc, 0, node, key, context, kind, value),

@@ -1,4 +1,4 @@
-//! Renewals of replicas beside the puts.
+//! Renewals of replicas in parallel with puts.
 ghost use Rattle.std.specs.Prelude.{◌≡◌, IfOk, IfErr, OnOk};
 ghost use Rattle.vclock.specs.Answer.{Answers, AnswersAtOnce};
 ghost use Rattle.range_state.specs.Moments.{moment_fault};
@@ -29,11 +29,11 @@ pub struct KeptRenewal {
 pub enum RenewalStage {
     /// The rows of the replica's moment.
     Begun(RenewalStart),
-    /// The new range, beside the old one.
+    /// The new range, alongside the old one.
     Built(Renewal),
-    /// The old range, in whose place the new one is.
+    /// The old range, which the new one has replaced.
     Ended(RangeState),
-    /// Nothing. The stage is this one only inside [`KeptRenewal::finish`].
+    /// Nothing. The stage is `Vacant` only inside [`KeptRenewal::finish`].
     Vacant,
 }
 
@@ -47,12 +47,12 @@ impl Model for KeptRenewal {
     ghost invariant = { λ r. IsRenewal r.stage };
 }
 
-/// Begins a renewal with a limit: takes the rows of a replica's moment. Copies no row. Refused, in order: Dirty (there is
-/// no moment, or some node of it has no digest), NoMemory.
+/// Begins a renewal with a limit: takes the rows of a replica's moment. Copies no row. Refused, in order: Dirty (the
+/// replica has no moment, or some node of it has no digest), NoMemory.
 pub fn begin(alloc: Global, kept: &Kept, limit: u64) -> Result<Box<KeptRenewal, Global>, Refusal>
     ensures { Answers result (moment_fault kept.now.state.moment) (λ whole. BeginsAt kept.now limit whole.value) }
 {
-    // Called for its clause alone: the moment is one of the journal.
+    // Called only for its clause: the moment is one of the journal.
     let _right = kept.state().journal();
     let start = kept.state().begin_renewal(alloc)?;
     let renewal = KeptRenewal {
@@ -66,8 +66,8 @@ pub fn begin(alloc: Global, kept: &Kept, limit: u64) -> Result<Box<KeptRenewal, 
 impl KeptRenewal {
     /// Makes the new range from the rows, as [`RenewalStart::renewal`] does at seat 0. Uses no replica.
     ///
-    /// Refused, in order: HELD (it is made already), BadRing (the limit isn't 1 to 1,000,000), JournalFull (the rows have
-    /// more versions than the limit), NoMemory. On error the renewal is unchanged.
+    /// Refused, in order: HELD (it is made already), BadRing (the limit isn't 1 to 1,000,000), JournalFull (the rows
+    /// have more versions than the limit), NoMemory. On error the renewal is unchanged.
     pub fn build(&mut self, alloc: Global) -> u32
         ensures { Builds (start_in self.old.stage) result self.old self.new }
     {
@@ -83,11 +83,11 @@ impl KeptRenewal {
         }
     }
 
-    /// Accepts the first `most` entries that the replica accepted after those that are here, and stores the number of
-    /// those that are left.
+    /// Accepts the next entries that the replica accepted and the new range doesn't have, at most `most`, and stores
+    /// the number of those that are left.
     ///
-    /// Refused, in order: EMPTY (the new range isn't made yet, or is in the replica's place), Stale (the replica's journal
-    /// begins at another number); then as [`Renewal::catch_up`] is: Stale, Crowded, JournalFull, NoMemory.
+    /// Refused, in order: EMPTY (the new range isn't made yet, or is in the replica's place), Stale (the replica's
+    /// journal begins at another number); then as [`Renewal::catch_up`] is: Stale, Crowded, JournalFull, NoMemory.
     pub fn catch_up(&mut self, alloc: Global, kept: &Kept, most: u64, left: &mut u64) -> u32
         ensures { CatchesUpWith (renewing_in self.old.stage) kept.now most result (self.old, left.old) (self.new, left.new) }
     {
@@ -99,12 +99,12 @@ impl KeptRenewal {
         code(&outcome)
     }
 
-    /// Accepts all entries that are left, and puts the new range in the replica's place. The numbers of entries go on. The
-    /// old range is in the renewal then.
+    /// Accepts all entries that are left, and puts the new range in the replica's place. The numbers of entries
+    /// continue. Afterwards the renewal holds the old range.
     ///
-    /// Refused, in order: EMPTY (the new range isn't made yet, or is in the replica's place), Stale (the replica's journal
-    /// begins at another number), JournalFull (after 1,000,000 entries more a number could be over 2^64 - 1); then as
-    /// [`Renewal::catch_up`] is: Stale, Crowded, JournalFull, NoMemory. On error the replica is unchanged.
+    /// Refused, in order: EMPTY (the new range isn't made yet, or is in the replica's place), Stale (the replica's
+    /// journal begins at another number), JournalFull (after 1,000,000 entries more a number could be over 2^64 - 1);
+    /// then as [`Renewal::catch_up`] is: Stale, Crowded, JournalFull, NoMemory. On error the replica is unchanged.
     pub fn finish(&mut self, alloc: Global, kept: &mut Kept) -> u32
         ensures { Finishes (renewing_in self.old.stage) result self.old self.new kept.old kept.new }
     {

@@ -35,9 +35,9 @@ pub fn show_key_after(
     }
 }
 
-/// Puts the least key of a leaf above a key in that key's place: the first one, if the key that was seen has no byte. The
-/// key is the first `key_len` bytes of the room. Refused, in order: BadMessage (the tree has no such leaf), BadKey (the
-/// length is over the room's), NO_VERSION (no key follows), SMALL (the next key doesn't fit). On error the room and the
+/// Replaces a key with the least key of a leaf above it: the first one, if the given key has no byte. The key is the
+/// first `key_len` bytes of the buffer. Refused, in order: BadMessage (the tree has no such leaf), BadKey (the length
+/// is over the buffer's), NO_VERSION (no key follows), SMALL (the next key doesn't fit). On error the buffer and the
 /// length are unchanged.
 pub fn show_key_next(state: &RangeState, leaf: u64, key: &mut [u8], key_len: &mut u64) -> u32
     ensures { HandsKeyNext state.now leaf result (key_len.old, key.old) (key_len.new, key.new) }
@@ -48,8 +48,7 @@ pub fn show_key_next(state: &RangeState, leaf: u64, key: &mut [u8], key_len: &mu
     next_key(rows, key, key_len)
 }
 
-/// Puts the least key of some rows above a key in that key's place. Returns 0, or the number of BadKey, NO_VERSION or
-/// SMALL.
+/// Replaces a key with the least key of some rows above it. Returns 0, or the number of BadKey, NO_VERSION or SMALL.
 pub(crate) fn next_key(rows: &SharedLeaf, key: &mut [u8], key_len: &mut u64) -> u32
     requires { AscendByKey rows.now.rows }
     ensures { HandsNext rows.now.rows result (key_len.old, key.old) (key_len.new, key.new) }
@@ -76,7 +75,7 @@ fn leaf_of(state: &RangeState, leaf: u64) -> Option<&SharedLeaf>
     Some(state.store().tree().rows(leaf as u16))
 }
 
-/// Copies a key to the front of the room and stores its length, if it fits. Returns 0 or SMALL.
+/// Copies a key to the front of the buffer and stores its length, if it fits. Returns 0 or SMALL.
 fn replace_key(next: &[u8], key: &mut [u8], key_len: &mut u64) -> u32
     ensures { Replaces (Some next.now) result (key_len.old, key.old) (key_len.new, key.new) }
 {
@@ -86,7 +85,7 @@ fn replace_key(next: &[u8], key: &mut [u8], key_len: &mut u64) -> u32
     copy_out(next, key, key_len)
 }
 
-/// Returns the first key of a leaf above a key, if any. Of a run whose last key isn't above it, no other is read.
+/// Returns the first key of a leaf above a key, if any. In a run whose last key isn't above it, reads no other key.
 fn key_after<'a>(leaf: &'a SharedLeaf, key: &[u8]) -> Option<&'a [u8]>
     requires { AscendByKey leaf.now.rows }
     ensures { option_map (λ k. k.now) result ≡ key_after key.now leaf.now.rows }

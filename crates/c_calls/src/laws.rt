@@ -27,9 +27,9 @@ pub fn no_number_names_two_hints()
     ensures below { (c : Carried) (steps : List HintStep) → last_number c < 2 ^ 64 → last_number (after_steps c steps) < 2 ^ 64 }
 {}
 
-/// The numbers of entries go on over a renewal beside the puts, from a moment of a replica. It begins with the rows of the
-/// moment. When it is in the replica's place, the last entry has the last number that was used, and each entry since the
-/// moment has its number still, with its key and its version.
+/// The numbers of entries continue over a renewal in parallel with puts, from a moment of a replica. The renewal begins
+/// with the rows of the moment. When the new range is in the replica's place, the last number that was used belongs to
+/// the last entry, and each entry since the moment keeps its number, its key and its version.
 pub fn entries_since_a_moment_keep_their_numbers()
     ensures begins { (s : State) (m : Moment) (limit : ℕ) → HasCaughtUp (renewing_from (start_at s m) 0 limit) s m limit 0 }
     ensures last { (r : Renewing) (k l : KeptState) (m : Moment) (limit n : ℕ) → HasCaughtUp r k.state m limit n

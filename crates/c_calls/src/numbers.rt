@@ -1,4 +1,4 @@
-//! The numbers that calls return in addition to 0 and those of refusals.
+//! The numbers that calls return in addition to 0 and the refusals' numbers.
 ghost use Rattle.std.specs.Prelude.{◌≡◌};
 ghost use Rattle.c_calls.specs.Numbers.{code_of};
 

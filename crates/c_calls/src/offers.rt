@@ -18,8 +18,8 @@ use tree_nodes::Text;
 use vclock::Refusal;
 use walk_messages::{Answer, Ask, Message, decode, encode};
 
-/// Publishes the rows now or those of the moment. Copies no row. Refused, in order: Dirty (some node has no digest, or
-/// there is no moment), NoMemory.
+/// Publishes the current rows or the moment's rows. Copies no row. Refused, in order: Dirty (some node has no digest,
+/// or the replica has no moment), NoMemory.
 pub fn shown(
     alloc: Global,
     kept: &Kept,
@@ -40,10 +40,11 @@ pub fn offer(alloc: Global, snapshot: &Snapshot, number: u32) -> Result<Text, Re
     Ok(Text::from(bytes))
 }
 
-/// Writes the message that answers an ask or an outline, if it is for the offer with this number: an answer or a patch.
+/// Writes the message that replies to an ask or an outline, if it is for the offer with this number: an answer or a
+/// patch.
 ///
-/// Refused, in order: BadMessage (the bytes are neither), Gone (it is for another offer), BadMessage (the tree has no such
-/// node), NoMemory. If the bytes are an answer, NoMemory may replace BadMessage.
+/// Refused, in order: BadMessage (the bytes are neither), Gone (it is for another offer), BadMessage (the tree has no
+/// such node), NoMemory. If the bytes are an answer, NoMemory may replace BadMessage.
 #[tactic(auto, unfolding(crate::specs::Offers::ServesBytes))]
 pub fn serve(alloc: Global, snapshot: &Snapshot, number: u32, bytes: &[u8]) -> Result<Text, Refusal>
     ensures { ServesBytes snapshot.now number bytes.now result }
@@ -54,7 +55,7 @@ pub fn serve(alloc: Global, snapshot: &Snapshot, number: u32, bytes: &[u8]) -> R
     }
 }
 
-/// Answers an outline from a snapshot. Refused, in order: Gone, BadMessage, NoMemory.
+/// Replies to an outline from a snapshot. Refused, in order: Gone, BadMessage, NoMemory.
 fn serve_outline(
     alloc: Global,
     snapshot: &Snapshot,
@@ -71,7 +72,7 @@ fn serve_outline(
     Ok(Text::from(bytes))
 }
 
-/// Answers the bytes of a message from a snapshot, if it is an ask.
+/// Replies to the bytes of a message from a snapshot, if it is an ask.
 #[tactic(auto, using(crate::proofs::ReadLaws::reads))]
 fn serve_message(
     alloc: Global,
@@ -85,7 +86,7 @@ fn serve_message(
     serve_decoded(alloc, snapshot, number, decoded)
 }
 
-/// Answers a decoded message from a snapshot, if it is an ask.
+/// Replies to a decoded message from a snapshot, if it is an ask.
 fn serve_decoded(
     alloc: Global,
     snapshot: &Snapshot,
@@ -101,7 +102,7 @@ fn serve_decoded(
     serve_ask(alloc, snapshot, number, ask)
 }
 
-/// Answers an ask from a snapshot. Refused, in order: Gone, BadMessage, NoMemory.
+/// Replies to an ask from a snapshot. Refused, in order: Gone, BadMessage, NoMemory.
 fn serve_ask(alloc: Global, snapshot: &Snapshot, number: u32, ask: &Ask) -> Result<Text, Refusal>
     ensures { ServesAsk snapshot.now number ask.now result }
 {

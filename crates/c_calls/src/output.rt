@@ -6,8 +6,8 @@ use crate::numbers::SMALL;
 use tree_nodes::Text;
 use vclock::Refusal;
 
-/// Copies out the bytes of a result, or nothing on error, and returns the number of the outcome. Refused: SMALL (the bytes
-/// don't fit).
+/// Copies out the bytes of a result, or nothing on error, and returns the number of the outcome. Refused: SMALL (the
+/// bytes don't fit).
 pub fn hand_out(outcome: &Result<Text, Refusal>, out: &mut [u8], need: &mut u64) -> u32
     ensures { HandsOut outcome.now result (need.old, out.old) (need.new, out.new) }
 {

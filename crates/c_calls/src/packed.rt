@@ -22,14 +22,14 @@ struct Packed {
     count: usize,
 }
 
-/// Copies out the entries from number `from` on, as many whole ones as fit. Stores the number of bytes in `need`, and the
-/// number after the last of these entries in `next`: `from` if there is none. The text of an entry is its source in one
-/// byte, and the text of a row of its key with its version. If entries are left and the first one doesn't fit, `need` is
-/// the length of its text.
+/// Copies out whole entries from number `from` on, until the next one doesn't fit. Stores the number of bytes in
+/// `need`, and the number after the last of these entries in `next`: `from` if none was copied. The text of an entry is
+/// its source in one byte, and the text of a row of its key with its version. If entries are left and the first one
+/// doesn't fit, `need` is the length of its text.
 ///
-/// Refused, in order: BAD_POSITION (`from` is over the number of entries; or it is below the number at the last renewal,
-/// and isn't the journal's first number); SMALL (the first entry doesn't fit). On error `next` and the buffer are
-/// unchanged.
+/// Refused, in order: BAD_POSITION (`from` is over the number of entries; or it is below the number at the last
+/// renewal, and isn't the journal's first number); SMALL (the first entry doesn't fit). On error `next` and the buffer
+/// are unchanged.
 pub fn pack_from(kept: &Kept, from: u64, out: &mut [u8], need: &mut u64, next: &mut u64) -> u32
     ensures { PacksFrom kept.now from result next.old next.new (need.old, out.old) (need.new, out.new) }
 {
@@ -40,7 +40,7 @@ pub fn pack_from(kept: &Kept, from: u64, out: &mut [u8], need: &mut u64, next: &
     pack(format, entries, from, out, need, next)
 }
 
-/// Copies out the first entries, as many as fit. The first of them has the number `from`.
+/// Copies out entries from the first one on, until the next one doesn't fit. The first of them has the number `from`.
 fn pack(
     format: Format,
     entries: &[Entry],
@@ -63,7 +63,7 @@ fn pack(
     0
 }
 
-/// Returns the length of the text of the first entry, if it doesn't fit into so many bytes.
+/// Returns the length of the text of the first entry, if it is over `room` bytes.
 fn first_over(format: Format, entries: &[Entry], room: usize) -> Option<usize>
     requires { AllByRecursion (IsWithin format) entries.now }
     ensures { result ≡ first_over format room entries.now }
@@ -80,7 +80,7 @@ fn entry_len(format: Format, entry: &Entry) -> usize
     1 + 2 + entry.key.as_slice().len() + 2 + version_len(format, &entry.version) as usize
 }
 
-/// Writes the texts of the first entries to the front of a buffer, as many as fit together.
+/// Writes the texts of entries from the first one on to the front of a buffer, until the next one doesn't fit.
 fn put_fitting(out: &mut [u8], format: Format, entries: &[Entry]) -> Packed
     requires { AllByRecursion (IsWithin format) entries.now }
     ensures are { take result.count entries.now ≡ fitting format (length out.old) entries.now }

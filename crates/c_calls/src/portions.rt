@@ -7,8 +7,8 @@ use range_state::{Portion, RangeState};
 use std::alloc::Global;
 use vclock::Refusal;
 
-/// Takes a portion of the dirty nodes of a replica's moment: those whose children are clean, or the first `most` of them
-/// if there are more. Without a moment it has no node. Refused: NoMemory.
+/// Takes a portion of the dirty nodes of a replica's moment: those whose children are clean, or the first `most` of
+/// them if there are more. Without a moment it has no node. Refused: NoMemory.
 pub fn take_portion(
     alloc: Global,
     state: &RangeState,

@@ -1,4 +1,4 @@
-//! How far exchanges are.
+//! The progress of exchanges.
 ghost use Rattle.std.specs.Prelude.{◌≡◌, slice_get};
 ghost use Rattle.exchange.specs.Exchanges.{left_of, record_in};
 ghost use Rattle.c_calls.specs.Progress.{report_number, report_cause, progress_in, TellsNode};
@@ -8,7 +8,7 @@ use crate::numbers::NO_VERSION;
 use exchange::{Exchange, Report};
 use range_state::RangeState;
 
-/// How far an exchange is, with its counts.
+/// The progress of an exchange, with its counts.
 #[repr(C)]
 #[derive(Clone, Copy)]
 pub struct Progress {
@@ -18,7 +18,7 @@ pub struct Progress {
     pub cause: u64,
     /// The number of asks that were sent.
     pub asks: u64,
-    /// The number of asks on their way.
+    /// The number of asks in progress.
     pub on_way: u64,
     /// The estimated size of the answers to them, in bytes.
     pub bytes_on_way: u64,
@@ -26,7 +26,7 @@ pub struct Progress {
     pub bad: u64,
     /// The number of lost asks.
     pub lost: u64,
-    /// The number of new versions in the answers that were taken.
+    /// The number of new versions in the taken answers.
     pub accepted: u64,
     /// The number of known versions in them.
     pub known: u64,
@@ -44,7 +44,7 @@ pub struct LeftNode {
     pub index: u64,
 }
 
-/// Returns how far an exchange is. Doesn't allocate.
+/// Returns the progress of an exchange. Doesn't allocate.
 pub fn progress_of(exchange: &Exchange, state: &RangeState) -> Progress
     ensures { result ≡ progress_in exchange.now state.now }
 {
@@ -91,7 +91,8 @@ fn cause_of(report: Report) -> u64
     }
 }
 
-/// Stores a leaf that was left, by its place among them from 0. Doesn't allocate. Refused: NO_VERSION (fewer were left).
+/// Stores a leaf that was left, by its place among them from 0. Doesn't allocate. Refused: NO_VERSION (fewer were
+/// left).
 pub fn left(exchange: &Exchange, state: &RangeState, place: u64, node: &mut LeftNode) -> u32
     ensures { TellsNode (slice_get (left_of exchange.now (record_in exchange.now state.now)) place) result node.old node.new }
 {

@@ -27,14 +27,14 @@ impl Model for Published {
 }
 
 impl Published {
-    /// Makes the published form of a snapshot, whose rows so many entries made.
+    /// Makes the published form of a snapshot whose rows were made by that number of entries.
     pub(crate) fn new(snapshot: Arc<Snapshot, Global>, entries: u64) -> Published
         ensures { result ≡ record { rows = arc_value snapshot; entries = entries } }
     {
         Published { snapshot, entries }
     }
 
-    /// Makes another owner of the snapshot. Copies no row. Refused: NoMemory.
+    /// Shares the snapshot once more. Copies no row. Refused: NoMemory.
     pub(crate) fn share(&self) -> Result<Published, Refusal>
         ensures { Answers result None (λ other. other ≡ self.now) }
     {

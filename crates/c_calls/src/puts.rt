@@ -22,15 +22,15 @@ use version_set::{Kind, Version};
 pub struct PutReceipt {
     /// The number of the entry.
     pub number: u64,
-    /// The counter of the node in the new version's clock. The other counters are those of the context.
+    /// The counter of the node in the new version's clock. The context has the other counters.
     pub counter: u64,
 }
 
 /// Puts a value, or a tombstone, for a key at a node, by a test of its context.
 ///
 /// Refused, in order: BadClock (the node is 0 or over 65,535, or the context isn't a clock), ClockFull (the context has
-/// over 32 pairs), BadValue (the kind is neither 0 nor 1); then as [`RangeState::put`] or [`RangeState::put_read`] is. On
-/// error the replica is unchanged. The clock and the value are copied once the causes up to BadValue were tested, so
+/// over 32 pairs), BadValue (the kind is neither 0 nor 1); then as [`RangeState::put`] or [`RangeState::put_read`] is.
+/// On error the replica is unchanged. The clock and the value are copied once the causes up to BadValue were tested, so
 /// NoMemory may replace a cause from OtherRange on.
 pub fn put(
     alloc: Global,
@@ -75,8 +75,8 @@ pub(crate) fn node_of(number: u64) -> Result<u16, Refusal>
 /// Accepts a version of another replica, as a copy.
 ///
 /// Refused, in order: BadClock (the pairs aren't a clock), ClockFull, BadValue (the kind is neither 0 nor 1); then as
-/// [`RangeState::accept`] is. On error the replica is unchanged. The clock and the value are copied once the causes up to
-/// BadValue were tested, so NoMemory may replace a cause from OtherRange on.
+/// [`RangeState::accept`] is. On error the replica is unchanged. The clock and the value are copied once the causes up
+/// to BadValue were tested, so NoMemory may replace a cause from OtherRange on.
 pub fn accept(
     alloc: Global,
     state: &mut RangeState,
@@ -96,7 +96,7 @@ pub fn accept(
     state.accept(alloc, 0, Source::Copy, key, version)
 }
 
-/// Stores the receipt of a put, if it was not refused. The journal's first entry has the number `first`.
+/// Stores the receipt of a put, if it was not refused. The journal's first entry is number `first`.
 pub fn tell_put(outcome: &Result<Receipt, Refusal>, first: u64, node: u64, receipt: &mut PutReceipt)
     requires node { OnOk outcome.now (node ≤ 65535) }
     requires number { IfOk outcome.now (λ entry. first + entry.number < 2 ^ 64) }

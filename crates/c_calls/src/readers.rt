@@ -1,4 +1,4 @@
-//! Reads of a snapshot. Threads that have handles of their own read the same rows at the same time.
+//! Reads of a snapshot. Threads with their own handles read the same rows at the same time.
 ghost use Rattle.std.specs.Prelude.{◌≡◌, true, false, None, MatchOption};
 ghost use Rattle.vclock.specs.Answer.{Answers};
 ghost use Rattle.vclock.specs.Bytes.{key_fault};
@@ -15,14 +15,15 @@ use std::alloc::Global;
 use tree_nodes::{NodeAt, Text, tree_depth};
 use vclock::{Refusal, check_key};
 
-/// Makes another owner of the rows of a snapshot. Copies no row. Refused: NoMemory.
+/// Shares the rows of a snapshot once more. Copies no row. Refused: NoMemory.
 pub fn shared(alloc: Global, rows: &Published) -> Result<Box<Published, Global>, Refusal>
     ensures { Answers result None (λ other. other.value ≡ rows.now) }
 {
     Ok(Box::new(alloc, rows.share()?)?)
 }
 
-/// Writes the text of the row of a key of a snapshot: no bytes if it has none. Refused, in order: BadKey, NoMemory.
+/// Writes the text of the row of a key of a snapshot: no bytes if the key has no row. Refused, in order: BadKey,
+/// NoMemory.
 pub fn row(alloc: Global, snapshot: &Snapshot, key: &[u8]) -> Result<Text, Refusal>
     ensures { Answers result (key_fault key.now) (λ bytes. bytes ≡ row_in snapshot.now key.now) }
 {
@@ -30,9 +31,9 @@ pub fn row(alloc: Global, snapshot: &Snapshot, key: &[u8]) -> Result<Text, Refus
     held_row(alloc, snapshot.format(), key, &snapshot.find(key))
 }
 
-/// Puts the least key of a leaf of a snapshot above a key in that key's place, as [`crate::keys::show_key_next`] does.
-/// Refused, in order: BadMessage (the tree has no such leaf), BadKey (the length is over the room's), NO_VERSION (no key
-/// follows), SMALL (the next key doesn't fit). On error the room and the length are unchanged.
+/// Replaces a key with the least key of a leaf of a snapshot above it, as [`crate::keys::show_key_next`] does. Refused,
+/// in order: BadMessage (the tree has no such leaf), BadKey (the length is over the buffer's), NO_VERSION (no key
+/// follows), SMALL (the next key doesn't fit). On error the buffer and the length are unchanged.
 pub fn show_key_next(snapshot: &Snapshot, leaf: u64, key: &mut [u8], key_len: &mut u64) -> u32
     ensures { HandsKeyNextIn snapshot.now leaf result (key_len.old, key.old) (key_len.new, key.new) }
 {

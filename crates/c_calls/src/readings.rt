@@ -24,8 +24,8 @@ pub struct Reading {
 }
 
 /// Copies out the clock and the value of a version that is held for a key, by its index from 0, and stores their sizes
-/// and the version's kind. Refused, in order: NO_VERSION, SMALL (the pairs or the bytes don't fit: then the reading is
-/// stored, and of the two what fits is copied).
+/// and the version's kind. Refused, in order: NO_VERSION, SMALL (the pairs or the bytes don't fit: the reading is
+/// stored, and the one that fits, if any, is copied).
 pub fn read(
     state: &RangeState,
     key: &[u8],

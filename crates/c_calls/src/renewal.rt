@@ -8,11 +8,11 @@ use std::alloc::Global;
 use vclock::Refusal;
 
 /// Makes a new replica that begins with the versions that another one holds, as
-/// [`RangeState::renewed`](range_state::RangeState::renewed) does at seat 0. The numbers of entries go on: the last entry
-/// of the new replica has the last number that the other one used.
+/// [`RangeState::renewed`](range_state::RangeState::renewed) does at seat 0. The numbers of entries continue: the last
+/// number that the other one used belongs to the last entry of the new replica.
 ///
-/// Refused, in order: BadRing (the limit), JournalFull (more versions are held than the limit, or after 1,000,000 entries
-/// more a number could be over 2^64 - 1), NoMemory.
+/// Refused, in order: BadRing (the limit), JournalFull (more versions are held than the limit, or after 1,000,000
+/// entries more a number could be over 2^64 - 1), NoMemory.
 pub fn renewed(alloc: Global, kept: &Kept, limit: u64) -> Result<Box<Kept, Global>, Refusal>
     ensures { Answers result (renewal_fault kept.now limit) (λ new. new.value ≡ renewed_kept kept.now limit) }
 {

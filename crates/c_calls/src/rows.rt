@@ -14,8 +14,8 @@ use tree_nodes::Text;
 use vclock::{Format, Refusal, check_key};
 use version_set::Held;
 
-/// Writes the text of the row of a key: no bytes if no version is held. Copies neither the key nor the versions. Refused,
-/// in order: BadKey, NoMemory.
+/// Writes the text of the row of a key: no bytes if no version is held. Copies neither the key nor the versions.
+/// Refused, in order: BadKey, NoMemory.
 pub fn row(alloc: Global, state: &RangeState, key: &[u8]) -> Result<Text, Refusal>
     ensures { Answers result (key_fault key.now) (λ bytes. bytes ≡ row_shown state.now key.now) }
 {
@@ -24,7 +24,7 @@ pub fn row(alloc: Global, state: &RangeState, key: &[u8]) -> Result<Text, Refusa
     held_row(alloc, store.config().format(), key, &store.find(key))
 }
 
-/// Writes the text of the row of a key with its versions: no bytes if there are none. Refused: NoMemory.
+/// Writes the text of the row of a key with its versions: no bytes if it has no version. Refused: NoMemory.
 pub(crate) fn held_row(
     alloc: Global,
     format: Format,

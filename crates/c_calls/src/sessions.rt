@@ -13,7 +13,7 @@ use vclock::limits::NODE_MAX;
 use walk_messages::{Answer, Ask, Message, decode};
 
 /// Opens a session with a partner by the bytes of its offer, and returns the session's number, from 0. The session
-/// compares the rows now, or those of the moment that the replica keeps.
+/// compares the current rows, or the rows of the moment that the replica keeps.
 ///
 /// Refused, in order: BadClock (the partner is over 65,535), BadMessage (the bytes aren't an offer); then as
 /// [`RangeState::open_session_by`] is: OtherFormat, OtherRange, SessionsFull, Dirty, NoMemory. If the bytes are an
@@ -65,7 +65,7 @@ fn open_decoded(
     }
 }
 
-/// Stores a number, if there was no refusal.
+/// Stores a number, unless the call was refused.
 pub fn tell_number(outcome: &Result<u64, Refusal>, out: &mut u64)
     ensures { TellsNumber outcome.now out.old out.new }
 {
@@ -74,11 +74,11 @@ pub fn tell_number(outcome: &Result<u64, Refusal>, out: &mut u64)
     }
 }
 
-/// The receipt of an answer that a session took.
+/// The receipt of a taken answer of a session.
 #[repr(C)]
 #[derive(Clone, Copy)]
 pub struct TakenReceipt {
-    /// The number of versions that were new, and are entries of the journal from then on.
+    /// The number of versions that were new and are now entries of the journal.
     pub accepted: u64,
     /// The number of versions that were known.
     pub known: u64,
@@ -89,13 +89,14 @@ pub struct TakenReceipt {
 /// Takes the bytes of a partner's answer or patch for a session with the partner's offer of that number. The text that
 /// a patch makes is taken as an answer's is.
 ///
-/// An answer is refused, in order: BadMessage (the bytes are neither, or the answer is of another offer); then as
-/// [`RangeState::take_answer`] is: UnknownSession, NotAsked, WrongDigest, NotCanonical (the session has failed then),
+/// An answer is refused, in order: BadMessage (the bytes are neither, or the answer belongs to another offer); then as
+/// [`RangeState::take_answer`] is: UnknownSession, NotAsked, WrongDigest, NotCanonical (the session has failed),
 /// Crowded, JournalFull, NoMemory. NoMemory may replace any of them if the bytes are an answer. The replica is
 /// unchanged after any refusal but NotCanonical.
 ///
-/// A patch is refused, in order: BadMessage (it is of another offer), UnknownSession, NotAsked, BadMessage (its steps
-/// make no text), and from WrongDigest on as an answer is. NoMemory may replace any from the second BadMessage on.
+/// A patch is refused, in order: BadMessage (it belongs to another offer), UnknownSession, NotAsked, BadMessage (its
+/// steps make no text), and from WrongDigest on as an answer is. NoMemory may replace any from the second BadMessage
+/// on.
 #[tactic(auto, unfolding(crate::specs::Sessions::TakesBytes))]
 pub fn take(
     alloc: Global,
@@ -112,7 +113,7 @@ pub fn take(
     }
 }
 
-/// Takes the steps of a patch, if it is of the offer with that number.
+/// Takes the steps of a patch, if it belongs to the offer with that number.
 fn take_patch(
     alloc: Global,
     state: &mut RangeState,
@@ -162,7 +163,7 @@ fn take_decoded(
     }
 }
 
-/// Takes an answer, if it is of the offer with that number.
+/// Takes an answer, if it belongs to the offer with that number.
 fn take_answer(
     alloc: Global,
     state: &mut RangeState,

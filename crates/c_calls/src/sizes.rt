@@ -5,7 +5,7 @@ ghost use Rattle.c_calls.specs.Sizes.{sizes_of};
 use range_state::RangeState;
 
 /// The size of a replica: lengths of contents in bytes, each at most 2^64 - 1. Memory differs, since rows, entries and
-/// sessions share values. What the moment keeps isn't counted.
+/// sessions share values. The contents of the moment aren't counted.
 #[repr(C)]
 #[derive(Clone, Copy)]
 pub struct Sizes {

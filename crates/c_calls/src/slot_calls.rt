@@ -30,12 +30,12 @@ pub struct SlotNumbers {
     pub target: u64,
     /// The number of slots lent.
     pub lent: u64,
-    /// The number of slots that could be lent now.
+    /// The number of free slots, which could be lent now.
     pub free: u64,
 }
 
-/// Makes slots, as [`SlotBudget::new`] does: none is lent, and the target is the ceiling. Refused, in order: BadRing (the
-/// floor is 0 or above the ceiling, or the ceiling is above 1,024), NoMemory.
+/// Makes slots, as [`SlotBudget::new`] does: none is lent, and the target is the ceiling. Refused, in order: BadRing
+/// (the floor is 0 or above the ceiling, or the ceiling is above 1,024), NoMemory.
 pub fn new_slots(
     alloc: Global,
     floor: u32,

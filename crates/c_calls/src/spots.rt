@@ -17,8 +17,8 @@ pub struct Spot {
     pub leaf: u64,
 }
 
-/// Returns the range and the leaf of a key in a ring of 2^bits ranges, as [`place`] does. Refused, in order: BadRing (the
-/// format is neither 1 nor 2, or the bits are over 8), BadKey.
+/// Returns the range and the leaf of a key in a ring of 2^bits ranges, as [`place`] does. Refused, in order: BadRing
+/// (the format is neither 1 nor 2, or the bits are over 8), BadKey.
 pub fn spot_of(format: u64, bits: u64, key: &[u8]) -> Result<Spot, Refusal>
     ensures { result ≡ spot_of (format_of format) bits key.now }
 {

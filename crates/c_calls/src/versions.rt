@@ -15,7 +15,7 @@ use version_set::Version;
 pub fn versions_of<'a>(state: &'a RangeState, key: &[u8]) -> &'a [Version]
     ensures { result.now ≡ held state.now.store.entries key.now }
 {
-    // Called for its clause alone: each entry's key is 1 to 255 bytes long.
+    // Called only for its clause: each entry's key is 1 to 255 bytes long.
     let _valid = state.journal();
     match check_key(key) {
         Ok(()) => state.store().versions(key),
@@ -24,7 +24,8 @@ pub fn versions_of<'a>(state: &'a RangeState, key: &[u8]) -> &'a [Version]
 }
 
 /// Copies out the value of a version that is held for a key, by its index from 0, and stores its kind: 0 for a live
-/// version, 1 for a tombstone. Refused, in order: NO_VERSION, SMALL. The kind is stored even if the buffer is too small.
+/// version, 1 for a tombstone. Refused, in order: NO_VERSION, SMALL. The kind is stored even if the buffer is too
+/// small.
 pub fn show_value(
     state: &RangeState,
     key: &[u8],
@@ -45,8 +46,8 @@ pub fn show_value(
     copy_out(version.value.as_slice(), out, need)
 }
 
-/// Copies out the pairs of the clock of a version that is held for a key, by its index from 0. The pairs ascend by node.
-/// Refused, in order: NO_VERSION, SMALL.
+/// Copies out the pairs of the clock of a version that is held for a key, by its index from 0. The pairs ascend by
+/// node. Refused, in order: NO_VERSION, SMALL.
 pub fn show_clock(
     state: &RangeState,
     key: &[u8],

@@ -1,6 +1,12 @@
 -- The structs of C that are handles of one type: a function that makes one of a `Handle`, or a `Handle` of one, hands on the pointer, the flag and the allocator; and
 -- they may go to another thread. Assumes `Logic`.
-use Rattle.c_handle.proofs.Steps.{◌≡◌, List, [], ◌∷◌, sym, Ura, ty_ptr, ty_bool, Val, vstruct, of_list, ent, emp, ftrue, Closed, Model, Logic, sem, ‵, raw, ◌⊛◌, ◌$◌, ◌∵◌, !, qed, by, move, keep, split, fsplit, fjoin, use0, use1, rewrite, stop, fld, of_opd, no_more, and_then, returns, enter, alloc_all, pass_all, free_all, look_at, get, get_in, sets, agg, sub, whole, fact, fact_i, Running, tables, yes, under, hidden, owns, layout, Signature, types_at, plain, nothing, Values, intos, Struct, exits_of, Owning, row, shape, Ended, Clauses, closing, Meets, Stays, stay_dropped, walk_of, Goes-dropped, Ptr-Good, proved, leaves, refl, Option, Some, None, ◌∙◌, subst, Bool, true, false, id⊢, never_e, Fml, RattleType, Ptr, IfSome}
+use Rattle.c_handle.proofs.Steps.{◌≡◌, List, [], ◌∷◌, sym, Ura, ty_ptr, ty_bool, Val, vstruct, of_list, ent, emp, ftrue, Closed, Model, Logic, sem}
+use Rattle.c_handle.proofs.Steps.{‵, raw, ◌⊛◌, ◌$◌, ◌∵◌, !, qed, by, move, keep, split, fsplit, fjoin, use0, use1, rewrite, stop, fld, of_opd}
+use Rattle.c_handle.proofs.Steps.{no_more, and_then, returns, enter, alloc_all, pass_all, free_all, look_at, get, get_in, sets, agg, sub, whole}
+use Rattle.c_handle.proofs.Steps.{fact, fact_i, Running, tables, yes, under, hidden, owns, layout, Signature, types_at, plain, nothing, Values}
+use Rattle.c_handle.proofs.Steps.{intos, Struct, exits_of, Owning, row, shape, Ended, Clauses, closing, Meets, Stays, stay_dropped, walk_of}
+use Rattle.c_handle.proofs.Steps.{Goes-dropped, Ptr-Good, proved, leaves, refl, Option, Some, None, ◌∙◌, subst, Bool, true, false, id⊢, never_e, Fml}
+use Rattle.c_handle.proofs.Steps.{RattleType, Ptr, IfSome}
 use base.Shift.{Keyless}
 use denote.Memory.{lone}
 use denote.Param.Send.{IsSend, owning_send, sendable}
@@ -53,7 +59,9 @@ module _ (m : Move) where
 
   abbrev pub function : Fn
   function =
-      let locals = local (layout (row Into)) value_local ∷ local (layout (row From)) value_local ∷ local ty_ptr value_local ∷ local ty_bool value_local ∷ local (layout heap.the_row) value_local ∷ local ty_ptr value_local ∷ [] in
+      let locals = local (layout (row Into)) value_local ∷ local
+      (layout (row From)) value_local ∷ local ty_ptr value_local ∷ local ty_bool value_local ∷ local
+      (layout heap.the_row) value_local ∷ local ty_ptr value_local ∷ [] in
       let body =
       seq (assign (place 2 []) (rv_opd (copy (place 1 (field 0 ∷ []))))) (seq (assign (place 3 []) (rv_opd (copy (place 1 (field 1 ∷ []))))) (
       seq (assign (place 4 []) (rv_opd (copy (place 1 (field 2 ∷ []))))) (seq (assign (place 5 []) (rv_opd (copy (place 2 [])))) (
@@ -64,9 +72,11 @@ module _ (m : Move) where
     abbrev pub clauses : Clauses 𝓤 ended
     clauses κs a = record { ghost = Unit {0}; requires = λ _. emp 𝓤; ensures = λ _ r _. fact 𝓤 (m.Q a.0 r) }
 
-    pub moved : (k : Callee) → Closed 𝓤 𝓛.H (tables 𝓤 𝓛.H 𝓜 𝓡 𝓡.env).C (tables 𝓤 𝓛.H 𝓜 𝓡 𝓡.env).Λ k function → Meets 𝓛 signature ((tables 𝓤 𝓛.H 𝓜 𝓡 𝓡.env).C k) (closing 𝓛 ended clauses)
+    pub moved : (k : Callee) → Closed 𝓤 𝓛.H (tables 𝓤 𝓛.H 𝓜 𝓡 𝓡.env).C (tables 𝓤 𝓛.H 𝓜 𝓡 𝓡.env).Λ k function
+        → Meets 𝓛 signature ((tables 𝓤 𝓛.H 𝓜 𝓡 𝓡.env).C k) (closing 𝓛 ended clauses)
     moved k closed =
-        let stayed : Stays signature.params ended.kept = (stay_dropped (plain (λ κs. row From)) yes, tt) in let laws : Laws From = (RawPtr-laws, (bool-laws, (heap_laws.the_field_laws, tt))) in
+        let stayed : Stays signature.params ended.kept = (stay_dropped (plain (λ κs. row From)) yes, tt) in
+        let laws : Laws From = (RawPtr-laws, (bool-laws, (heap_laws.the_field_laws, tt))) in
         let word : Values parts → Val = λ u. vstruct (of_list (lows parts laws u)) in
         proved 𝓛 ended stayed clauses 𝓜 𝓡 (Goes-dropped 𝓛 0 (plain (λ κs. row From)) yes (λ κs x w. refl), tt) k function closed
         (λ κs. ((λ d. word (m.of_a d) ∷ []), tt)) (λ κs. (Tells-lowered From laws, tt)) (λ κs qs bounds a g are.
@@ -77,7 +87,8 @@ module _ (m : Move) where
         enter ! _ _ function (w ∷ []) _ $ alloc_all ! (λ l. pass_all ! refl (good, tt) $
         sets ! (of_opd ! (get_in ! (fld ! refl (stop !)) (sub ! 0 refl (whole !)))) refl (Ptr-Good v.0) $
         sets ! (of_opd ! (get_in ! (fld ! refl (stop !)) (sub ! 1 refl (whole !)))) refl (tt, tt) $
-        sets ! (of_opd ! (get_in ! (fld ! refl (stop !)) (sub ! 2 refl (whole !)))) refl (tt, ((tt, tt), tt)) $ sets ! (of_opd ! (get ! refl)) refl (Ptr-Good v.0) $
+        sets ! (of_opd ! (get_in ! (fld ! refl (stop !)) (sub ! 2 refl (whole !)))) refl (tt, ((tt, tt), tt)) $ sets ! (of_opd ! (get ! refl)) refl
+        (Ptr-Good v.0) $
         sets ! (agg ! (and_then ! (get ! refl) (and_then ! (get ! refl) (and_then ! (get ! refl) (no_more !))))) refl good $
         rewrite ! 0 (λ (u : Values parts). ‵ ((Struct (shape From)).own_val (intos parts u) (w ∷ []))) (sym (m.same d)) refl $
         move ! (1 ∷ []) $ use1 𝓛 (‵ (m.B.heap e)) (m.hands 𝓛 d) $ move ! (1 ∷ []) $ fjoin ! $
@@ -134,8 +145,13 @@ module _ (C : CStruct) where
     f = λ h. C.make (kept h);
     Q = λ h d. ((three d).1.0 ≡ h.held) × IfSome h.value (λ x. value d ≡ x);
     same = λ h i. (C.made (kept h) i).0;
-    holds = λ h. ((λ i. (C.made (kept h) i).0.1.0), subst (λ (y : C.R.Denot). IfSome h.value (λ x. y ≡ x)) (λ i. (sym (C.made (kept h)) i).1) (is_some C.any h.value));
-    hands = λ {𝓤 = 𝓤} 𝓛 h. subst (λ (F : Fml). ent 𝓤 (sem 𝓛 (H.heap h)) (sem 𝓛 F)) (sym (C.owns (C.make (kept h)) ∙ (λ i. let u = C.made (kept h) i in c_owns C.R u.0.1.1.0 u.0.1.0 u.0.0 u.1)))
+    holds = λ h. (
+      (λ i. (C.made (kept h) i).0.1.0),
+      subst (λ (y : C.R.Denot). IfSome h.value (λ x. y ≡ x)) (λ i. (sym (C.made (kept h)) i).1)
+          (is_some C.any h.value),
+    );
+    hands = λ {𝓤 = 𝓤} 𝓛 h. subst (λ (F : Fml). ent 𝓤 (sem 𝓛 (H.heap h)) (sem 𝓛 F))
+        (sym (C.owns (C.make (kept h)) ∙ (λ i. let u = C.made (kept h) i in c_owns C.R u.0.1.1.0 u.0.1.0 u.0.0 u.1)))
         (owns_some C.R h.alloc h.held h.at C.any h.value 𝓛);
   }
 

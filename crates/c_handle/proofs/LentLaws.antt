@@ -1,5 +1,11 @@
 -- The structs of C that hold a share of a value: a function that makes one of a `Lent`, or a `Lent` of one, hands on the pointer and the flag; and they may go to another thread. Assumes `Logic`.
-use Rattle.c_handle.proofs.Steps.{◌≡◌, List, [], ◌∷◌, sym, Ura, ty_ptr, ty_bool, Val, vstruct, of_list, ent, emp, ftrue, Closed, Model, Logic, sem, ‵, raw, ◌⊛◌, ◌$◌, ◌∵◌, !, qed, by, move, keep, split, fsplit, fjoin, use0, use1, rewrite, stop, fld, of_opd, no_more, and_then, returns, enter, alloc_all, pass_all, free_all, look_at, get, get_in, sets, agg, sub, whole, fact, fact_i, Running, tables, yes, under, hidden, owns, layout, Signature, types_at, plain, nothing, Values, intos, Struct, exits_of, Owning, row, shape, Ended, Clauses, closing, Meets, Stays, stay_dropped, walk_of, Goes-dropped, Ptr-Good, proved, leaves, refl, ap, Option, Some, None, ◌∙◌, subst, Bool, true, false, id⊢, never_e, Fml, RattleType, Ptr}
+use Rattle.c_handle.proofs.Steps.{◌≡◌, List, [], ◌∷◌, sym, Ura, ty_ptr, ty_bool, Val, vstruct, of_list, ent, emp, ftrue, Closed, Model, Logic, sem}
+use Rattle.c_handle.proofs.Steps.{‵, raw, ◌⊛◌, ◌$◌, ◌∵◌, !, qed, by, move, keep, split, fsplit, fjoin, use0, use1, rewrite, stop, fld, of_opd}
+use Rattle.c_handle.proofs.Steps.{no_more, and_then, returns, enter, alloc_all, pass_all, free_all, look_at, get, get_in, sets, agg, sub, whole}
+use Rattle.c_handle.proofs.Steps.{fact, fact_i, Running, tables, yes, under, hidden, owns, layout, Signature, types_at, plain, nothing, Values}
+use Rattle.c_handle.proofs.Steps.{intos, Struct, exits_of, Owning, row, shape, Ended, Clauses, closing, Meets, Stays, stay_dropped, walk_of}
+use Rattle.c_handle.proofs.Steps.{Goes-dropped, Ptr-Good, proved, leaves, refl, ap, Option, Some, None, ◌∙◌, subst, Bool, true, false, id⊢, never_e}
+use Rattle.c_handle.proofs.Steps.{Fml, RattleType, Ptr}
 use Prim.Native.Nat.{ℕ}
 use base.Shift.{Keyless}
 use denote.Param.Send.{IsSend, IsSync, owning_send, sendable}
@@ -46,19 +52,23 @@ module _ (m : Move) where
 
   abbrev pub function : Fn
   function =
-      let locals = local (layout (row Into)) value_local ∷ local (layout (row From)) value_local ∷ local ty_ptr value_local ∷ local ty_bool value_local ∷ local ty_ptr value_local ∷ [] in
+      let locals = local (layout (row Into)) value_local ∷ local
+      (layout (row From)) value_local ∷ local ty_ptr value_local ∷ local ty_bool value_local ∷ local ty_ptr value_local ∷ [] in
       let body =
       seq (assign (place 2 []) (rv_opd (copy (place 1 (field 0 ∷ []))))) (seq (assign (place 3 []) (rv_opd (copy (place 1 (field 1 ∷ []))))) (
-      seq (assign (place 4 []) (rv_opd (copy (place 2 [])))) (seq (assign (place 0 []) (aggregate (copy (place 4 []) ∷ copy (place 3 []) ∷ []))) return))) in
+      seq (assign (place 4 []) (rv_opd (copy (place 2 []))))
+      (seq (assign (place 0 []) (aggregate (copy (place 4 []) ∷ copy (place 3 []) ∷ []))) return))) in
       record { lifetimes = 0; outlives = []; ty_params = []; givens = 0; params = 1; locals = locals; body = body }
 
   module _ {M : Type 1} (𝓤 : Ura M) (𝓛 : Logic 𝓤) (𝓜 : Model 𝓤 𝓛.H) (𝓡 : Running 𝓤 𝓛.H 𝓜) where
     abbrev pub clauses : Clauses 𝓤 ended
     clauses κs a = record { ghost = Unit {0}; requires = λ _. emp 𝓤; ensures = λ _ r _. fact 𝓤 (m.Q a.0 r) }
 
-    pub moved : (k : Callee) → Closed 𝓤 𝓛.H (tables 𝓤 𝓛.H 𝓜 𝓡 𝓡.env).C (tables 𝓤 𝓛.H 𝓜 𝓡 𝓡.env).Λ k function → Meets 𝓛 signature ((tables 𝓤 𝓛.H 𝓜 𝓡 𝓡.env).C k) (closing 𝓛 ended clauses)
+    pub moved : (k : Callee) → Closed 𝓤 𝓛.H (tables 𝓤 𝓛.H 𝓜 𝓡 𝓡.env).C (tables 𝓤 𝓛.H 𝓜 𝓡 𝓡.env).Λ k function
+        → Meets 𝓛 signature ((tables 𝓤 𝓛.H 𝓜 𝓡 𝓡.env).C k) (closing 𝓛 ended clauses)
     moved k closed =
-        let stayed : Stays signature.params ended.kept = (stay_dropped (plain (λ κs. row From)) yes, tt) in let laws : Laws From = (RawPtr-laws, (bool-laws, tt)) in
+        let stayed : Stays signature.params ended.kept = (stay_dropped (plain (λ κs. row From)) yes, tt) in
+        let laws : Laws From = (RawPtr-laws, (bool-laws, tt)) in
         let word : Values parts → Val = λ u. vstruct (of_list (lows parts laws u)) in
         proved 𝓛 ended stayed clauses 𝓜 𝓡 (Goes-dropped 𝓛 0 (plain (λ κs. row From)) yes (λ κs x w. refl), tt) k function closed
         (λ κs. ((λ d. word (m.of_a d) ∷ []), tt)) (λ κs. (Tells-lowered From laws, tt)) (λ κs qs bounds a g are.
@@ -68,7 +78,8 @@ module _ (m : Move) where
         -- [the two fields; what is held; nothing; the tokens; the `requires`]
         enter ! _ _ function (w ∷ []) _ $ alloc_all ! (λ l. pass_all ! refl (good, tt) $
         sets ! (of_opd ! (get_in ! (fld ! refl (stop !)) (sub ! 0 refl (whole !)))) refl (Ptr-Good v.0) $
-        sets ! (of_opd ! (get_in ! (fld ! refl (stop !)) (sub ! 1 refl (whole !)))) refl (tt, tt) $ sets ! (of_opd ! (get ! refl)) refl (Ptr-Good v.0) $
+        sets ! (of_opd ! (get_in ! (fld ! refl (stop !)) (sub ! 1 refl (whole !)))) refl (tt, tt) $ sets ! (of_opd ! (get ! refl)) refl
+        (Ptr-Good v.0) $
         sets ! (agg ! (and_then ! (get ! refl) (and_then ! (get ! refl) (no_more !)))) refl good $
         rewrite ! 0 (λ (u : Values parts). ‵ ((Struct (shape From)).own_val (intos parts u) (w ∷ []))) (sym (m.same d)) refl $
         move ! (1 ∷ []) $ use1 𝓛 (‵ (m.B.heap e)) (m.hands 𝓛 d) $ move ! (1 ∷ []) $ fjoin ! $
@@ -119,7 +130,8 @@ module _ (C : CShare) where
     Q = λ h d. (e : C.T.D) → h ≡ back e → d ≡ e;
     same = λ h i. (C.made (kept h) i).0;
     holds = λ h e is. ap (λ (k : H.D). C.make (kept k)) is ∙ C.makes e;
-    hands = λ {𝓤 = 𝓤} 𝓛 h. subst (λ (F : Fml). ent 𝓤 (sem 𝓛 (H.heap h)) (sem 𝓛 F)) (sym (C.owns (C.make (kept h)) ∙ (λ i. let u = C.made (kept h) i in share_owns C.R u.0.1.0 u.0.0 (Some u.1) u.2 u.3)))
+    hands = λ {𝓤 = 𝓤} 𝓛 h. subst (λ (F : Fml). ent 𝓤 (sem 𝓛 (H.heap h)) (sem 𝓛 F))
+        (sym (C.owns (C.make (kept h)) ∙ (λ i. let u = C.made (kept h) i in share_owns C.R u.0.1.0 u.0.0 (Some u.1) u.2 u.3)))
         (owns_some C.R h.held h.at C.any h.value h.round h.count 𝓛);
   }
 
@@ -140,4 +152,5 @@ module _ (C : CShare) where
   Sends = IsSend (row (of_two C.T two))
 
   pub sent : IsSync C.R → Sends
-  sent s = owning_send (of_two C.T two) (search sendable, (search sendable, tt)) (λ d. subst Keyless (sym (C.owns d)) (keyless C.R s (two d).1.0 (two d).0 (C.parts_of d).1 (C.parts_of d).2 (C.parts_of d).3)) (λ k x w. tt)
+  sent s = owning_send (of_two C.T two) (search sendable, (search sendable, tt))
+      (λ d. subst Keyless (sym (C.owns d)) (keyless C.R s (two d).1.0 (two d).0 (C.parts_of d).1 (C.parts_of d).2 (C.parts_of d).3)) (λ k x w. tt)

@@ -14,8 +14,63 @@ pub use base.Fml.{Fml, ftrue, flft}
 pub use prog.Model.{Model}
 pub use prog.Wp.{WpFn, Closed}
 pub use types.Logic.{Logic, sem}
-pub use types.Kit.{Item, Goal, Seq, Step, step, ‵, raw, ◌⊛◌, some, given, later, at_ret, ◌$◌, ◌∵◌, !, qed, by, move, keep, drop, split, split3, join, fsplit, fjoin, fpick, fpack, pick, learn, suffices, use0, use1, await, rewrite, feq_i, feq_l}
-pub use types.Run.{stop, fld, lit, true_lit, false_lit, of_opd, un, no_more, and_then, first, blocks, branches, skips, exec, returns, returns_within, enter}
+pub use types.Kit.{
+  Item,
+  Goal,
+  Seq,
+  Step,
+  step,
+  ‵,
+  raw,
+  ◌⊛◌,
+  some,
+  given,
+  later,
+  at_ret,
+  ◌$◌,
+  ◌∵◌,
+  !,
+  qed,
+  by,
+  move,
+  keep,
+  drop,
+  split,
+  split3,
+  join,
+  fsplit,
+  fjoin,
+  fpick,
+  fpack,
+  pick,
+  learn,
+  suffices,
+  use0,
+  use1,
+  await,
+  rewrite,
+  feq_i,
+  feq_l,
+}
+pub use types.Run.{
+  stop,
+  fld,
+  lit,
+  true_lit,
+  false_lit,
+  of_opd,
+  un,
+  no_more,
+  and_then,
+  first,
+  blocks,
+  branches,
+  skips,
+  exec,
+  returns,
+  returns_within,
+  enter,
+}
 pub use types.ByLocal.{alloc_all, pass_all, free_all, look_at, get, get_in, sets, lands_as, lands_last, env}
 pub use types.Part.{agg, sub, whole}
 pub use contract.Monad.{fact, fact_i}

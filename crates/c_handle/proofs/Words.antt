@@ -1,5 +1,8 @@
 -- A pointer, a flag and an allocator as a machine value, and the `Handle` that has them. Assumes `Logic`.
-use Rattle.c_handle.proofs.Steps.{and_in, and_tt, ◌≡◌, List, [], ◌∷◌, refl, Option, Some, None, Bool, true, false, not, ◌&&◌, T, Ura, ty_ptr, Val, vbool, vstruct, vcons, vnil, has_ty, WT, Logic, never_e, ftrue, given, use1, learn, Item, Goal, Seq, Step, step, ‵, ◌$◌, move, fjoin, fpack, feq_i, RattleType, Valss, RawPtr, bool, Ptr, ptr_val, nothing, layout, within, shape, Ptr-Good, Good, box_owns}
+use Rattle.c_handle.proofs.Steps.{and_in, and_tt, ◌≡◌, List, [], ◌∷◌, refl, Option, Some, None, Bool, true, false, not, ◌&&◌, T, Ura, ty_ptr, Val}
+use Rattle.c_handle.proofs.Steps.{vbool, vstruct, vcons, vnil, has_ty, WT, Logic, never_e, ftrue, given, use1, learn, Item, Goal, Seq, Step, step, ‵}
+use Rattle.c_handle.proofs.Steps.{◌$◌, move, fjoin, fpack, feq_i, RattleType, Valss, RawPtr, bool, Ptr, ptr_val, nothing, layout, within, shape}
+use Rattle.c_handle.proofs.Steps.{Ptr-Good, Good, box_owns}
 use Rattle.core.specs.declared.alloc.Allocator.{Ghosts}
 use Rattle.c_handle.specs.Handles.{held_owns}
 use Rattle.c_handle.specs.contracts.handle.Handle as handle
@@ -24,8 +27,10 @@ module _ (R Z : RattleType) (g : Ghosts Z.Denot) where
         (‵ (held_owns (g.dealloc_token a) R held p x) ∷ ‵ (Z.own_val a (h ∷ [])) ∷ Γ) G
     handle_in t p held h a x = step (λ s.
         nothing t $ move t (2 ∷ 0 ∷ []) $ fjoin t $ feq_i t (List Val) (vbool held ∷ []) (vbool held ∷ []) refl $ fjoin t $
-        feq_i t (List Val) (ptr_val p ∷ []) (ptr_val p ∷ []) refl $ fjoin t $ feq_i t (List Val) (word p held h ∷ []) (word p held h ∷ []) refl $ fjoin t $
-        fpack t (Valss (RawPtr ∷ bool ∷ Z ∷ [])) (within (shape (handle.the_type R Z g)) (p, (held, (a, tt))) (word p held h ∷ [])) (ptr_val p ∷ [], (vbool held ∷ [], (h ∷ [], tt))) $
+        feq_i t (List Val) (ptr_val p ∷ []) (ptr_val p ∷ []) refl $ fjoin t $ feq_i t (List Val) (word p held h ∷ [])
+        (word p held h ∷ []) refl $ fjoin t $
+        fpack t (Valss (RawPtr ∷ bool ∷ Z ∷ [])) (within (shape (handle.the_type R Z g)) (p, (held, (a, tt))) (word p held h ∷ []))
+        (ptr_val p ∷ [], (vbool held ∷ [], (h ∷ [], tt))) $
         fjoin t $ s)
 
     -- what is held, after a branch on `!held`

@@ -1,5 +1,6 @@
 -- By what entries a range grows.
-use Rattle.std.proofs.Common.{◌≡◌, ℕ, ◌<◌, true, false, cond, Option, Some, None, List, [], ◌∷◌, ◌++◌, length, drop, sym, ap, subst, ◌∙◌, inl, inr, append-nil, arith}
+use Rattle.std.proofs.Common.{◌≡◌, ℕ, ◌<◌, true, false, cond, Option, Some, None, List, [], ◌∷◌, ◌++◌, length, drop, sym, ap, subst, ◌∙◌, inl, inr}
+use Rattle.std.proofs.Common.{append-nil, arith}
 use Rattle.std.proofs.Math.Seq.{drop-append_seam}
 use Rattle.std.proofs.lemmas.List.{length-append}
 use Rattle.std.specs.Prelude.{Ok, Err}
@@ -29,7 +30,8 @@ abbrev pub AreSeated : ℕ → List Entry → Type 0
 AreSeated n es = AllByRecursion (λ (e : Entry). e.seat < n) es
 
 -- what a call on the store of a range gave
-pub of_store : {T : Type 0} (s : State) (o : Outcome T Store) (x : T) (t : State) → through (with_store s) o ≡ gives x t → (o ≡ gives x t.store) × (t ≡ with_store s t.store)
+pub of_store : {T : Type 0} (s : State) (o : Outcome T Store) (x : T) (t : State) → through (with_store s) o ≡ gives x t
+    → (o ≡ gives x t.store) × (t ≡ with_store s t.store)
 of_store s (gives y u) x t is =
     let result : y ≡ x = cc in
     let now : with_store s u ≡ t = cc in
@@ -51,29 +53,37 @@ grown_by_one n s e t all seat is = record {
 
 -- ---- the versions of a leaf
 
-seated_step : (n : ℕ) (s : Store) (seat : ℕ) (source : Source) (key : List ℕ) (v : Version) → seat < n → AreSeated n s.entries → AreSeated n (accept_step s seat source key v).entries
-seated_step n s seat source key v lt all = elim (knows s key v) as (λ b. AreSeated n (cond b s (journaled s (entry_of s seat source key v))).entries) [
-  | true ↦ all
-  | false ↦ all-push (λ (x : Entry). x.seat < n) s.entries (entry_of s seat source key v) all lt
-]
+seated_step : (n : ℕ) (s : Store) (seat : ℕ) (source : Source) (key : List ℕ) (v : Version) → seat < n → AreSeated n s.entries
+    → AreSeated n (accept_step s seat source key v).entries
+seated_step n s seat source key v lt all =
+    elim (knows s key v) as (λ b. AreSeated n (cond b s (journaled s (entry_of s seat source key v))).entries) [
+      | true ↦ all
+      | false ↦ all-push (λ (x : Entry). x.seat < n) s.entries (entry_of s seat source key v) all lt
+    ]
 
-seated_accepted : (n : ℕ) (s : Store) (seat : ℕ) (source : Source) (offers : List (List ℕ × Version)) → seat < n → AreSeated n s.entries → AreSeated n (accepted_in s seat source offers).entries
+seated_accepted : (n : ℕ) (s : Store) (seat : ℕ) (source : Source) (offers : List (List ℕ × Version)) → seat < n → AreSeated n s.entries
+    → AreSeated n (accepted_in s seat source offers).entries
 seated_accepted n s seat source [] lt all = all
-seated_accepted n s seat source (o ∷ offers) lt all = seated_accepted n (accept_step s seat source o.0 o.1) seat source offers lt (seated_step n s seat source o.0 o.1 lt all)
+seated_accepted n s seat source (o ∷ offers) lt all =
+    seated_accepted n (accept_step s seat source o.0 o.1) seat source offers lt (seated_step n s seat source o.0 o.1 lt all)
 
-by_inner : (n : ℕ) (s : State) (id : ℕ) (r : Record) (t : TakenText) (a : AnswerTaken) (new : State) → AreSeated n s.store.entries → TakesInner s id r t a new → IsGrownBy n s.store a.receipts.items new.store
+by_inner : (n : ℕ) (s : State) (id : ℕ) (r : Record) (t : TakenText) (a : AnswerTaken) (new : State) → AreSeated n s.store.entries
+    → TakesInner s id r t a new → IsGrownBy n s.store a.receipts.items new.store
 by_inner n s id r t a new all took = record {
-  entries = ap (λ (x : State). x.store.entries) took.new_is ∙ sym (append-nil s.store.entries) ∙ ap (λ (es : List Entry). s.store.entries ++ es) (sym took.receipts);
+  entries = ap (λ (x : State). x.store.entries) took.new_is ∙ sym (append-nil s.store.entries)
+      ∙ ap (λ (es : List Entry). s.store.entries ++ es) (sym took.receipts);
   seated = subst (λ (x : State). AreSeated n x.store.entries) (sym took.new_is) all;
 }
 
-by_leaf : (n : ℕ) (s : State) (seat id : ℕ) (r : Record) (t : TakenText) (a : AnswerTaken) (new : State) → seat < n → AreSeated n s.store.entries → TakesLeaf s seat id r t a new → IsGrownBy n s.store a.receipts.items new.store
+by_leaf : (n : ℕ) (s : State) (seat id : ℕ) (r : Record) (t : TakenText) (a : AnswerTaken) (new : State) → seat < n → AreSeated n s.store.entries
+    → TakesLeaf s seat id r t a new → IsGrownBy n s.store a.receipts.items new.store
 by_leaf n s seat id r t a new lt all took = record {
   entries = ap (λ (x : State). x.store.entries) took.new_is ∙ sym took.receipts;
   seated = subst (λ (x : State). AreSeated n x.store.entries) (sym took.new_is) (seated_accepted n s.store seat Partner (offers_of took.rows) lt all);
 }
 
-pub grown_by_text : (n : ℕ) (s : State) (seat id : ℕ) (t : TakenText) (a : AnswerTaken) (new : State) → seat < n → AreSeated n s.store.entries → TakesAnswer s seat id t (Ok a) new → IsGrownBy n s.store a.receipts.items new.store
+pub grown_by_text : (n : ℕ) (s : State) (seat id : ℕ) (t : TakenText) (a : AnswerTaken) (new : State) → seat < n → AreSeated n s.store.entries
+    → TakesAnswer s seat id t (Ok a) new → IsGrownBy n s.store a.receipts.items new.store
 grown_by_text n s seat id t a new lt all = by_record (record_of id s.records)
   where
     by_record : (o : Option Record) → TakesFor s seat (place_of id s.records) o t (Ok a) new → IsGrownBy n s.store a.receipts.items new.store
@@ -86,7 +96,8 @@ grown_by_text n s seat id t a new lt all = by_record (record_of id s.records)
 -- ---- the rows of a leaf that are loaded
 
 -- by the new entries, as many as were taken
-pub grown_by_load : (n : ℕ) (s : Store) (seat : ℕ) (rows : List Row) (a : Loaded) (t : Store) → seat < n → AreSeated n s.entries → load s seat rows ≡ gives a t
+pub grown_by_load : (n : ℕ) (s : Store) (seat : ℕ) (rows : List Row) (a : Loaded) (t : Store) → seat < n → AreSeated n s.entries
+    → load s seat rows ≡ gives a t
     → IsGrownBy n s (drop (length s.entries) t.entries) t × (a.taken ≡ length (drop (length s.entries) t.entries))
 grown_by_load n s seat rows a t lt all h =
     let offers = offers_of rows in

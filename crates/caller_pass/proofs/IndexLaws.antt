@@ -1,5 +1,6 @@
 -- Where a pass has its receipts of each key.
-use Rattle.std.proofs.Common.{◌≡◌, ℕ, zero, suc, ◌+◌, ◌<◌, ◌≤◌, Bool, true, false, cond, List, [], ◌∷◌, ◌++◌, length, take, drop, Option, Some, None, refl, sym, ap, subst, arith, ◌∙◌, ◌-◌, add-one, inl, inr, eq-eqb, eqb-true, true≢false}
+use Rattle.std.proofs.Common.{◌≡◌, ℕ, zero, suc, ◌+◌, ◌<◌, ◌≤◌, Bool, true, false, cond, List, [], ◌∷◌, ◌++◌, length, take, drop, Option, Some, None}
+use Rattle.std.proofs.Common.{refl, sym, ap, subst, arith, ◌∙◌, ◌-◌, add-one, inl, inr, eq-eqb, eqb-true, true≢false}
 use Rattle.std.specs.Prelude.{slice_get, option_map, bytes_eq, nat_eq}
 use Rattle.std.proofs.lemmas.Bool.{cases_lt, cases_Bool}
 use Rattle.std.proofs.lemmas.List.{length-append, length-drop, take_all}
@@ -47,7 +48,8 @@ last_is_of : (es : List Entry) (hash : ℕ) (n i : ℕ) → last_of es hash n �
 last_is_of es hash zero i h = absurd (let no : 0 ≡ suc i = h in omega arith)
 last_is_of es hash (suc n) i h = by_test (last_is_of es hash n i) (is_entry_of (slice_get es n) hash) refl h
   where
-    by_test : (last_of es hash n ≡ suc i → (i < n) × (is_entry_of (slice_get es i) hash ≡ true)) → (b : Bool) → is_entry_of (slice_get es n) hash ≡ b → cond b (suc n) (last_of es hash n) ≡ suc i
+    by_test : (last_of es hash n ≡ suc i → (i < n) × (is_entry_of (slice_get es i) hash ≡ true)) → (b : Bool) → is_entry_of (slice_get es n) hash ≡ b
+        → cond b (suc n) (last_of es hash n) ≡ suc i
         → (i < suc n) × (is_entry_of (slice_get es i) hash ≡ true)
     by_test before true is e = let same : n ≡ i = omega arith in (omega arith, subst (λ j. is_entry_of (slice_get es j) hash ≡ true) same is)
     by_test before false is e = let known = before e in (omega (arith, known.0), known.1)
@@ -65,18 +67,22 @@ other_key key other apart = elim (cases_Bool (bytes_eq key other)) [
   | inr differ ↦ differ
 ]
 
-of_other_front : (e : Entry) (es : List Entry) (key : List ℕ) (vs : List Version) → nat_eq (key_hash e.key) (key_hash key) ≡ false → first_missing (e ∷ es) key vs ≡ first_missing es key vs
+of_other_front : (e : Entry) (es : List Entry) (key : List ℕ) (vs : List Version) → nat_eq (key_hash e.key) (key_hash key) ≡ false
+    → first_missing (e ∷ es) key vs ≡ first_missing es key vs
 unfolding is_missing
 of_other_front e es key vs apart = rw (other_key e.key key apart)
 
 -- the first missing entry after the last one of a key's hash among the first n is the first missing one after those n
-first_from_last : (es : List Entry) (key : List ℕ) (vs : List Version) (n : ℕ) → n ≤ length es → first_missing (drop (last_of es (key_hash key) n) es) key vs ≡ first_missing (drop n es) key vs
+first_from_last : (es : List Entry) (key : List ℕ) (vs : List Version) (n : ℕ) → n ≤ length es
+    → first_missing (drop (last_of es (key_hash key) n) es) key vs ≡ first_missing (drop n es) key vs
 first_from_last es key vs zero within = refl
 first_from_last es key vs (suc n) within =
     let entry = got es n (omega arith) in
-    by_test entry.0 entry.1 (first_from_last es key vs n (omega arith)) (nat_eq (key_hash entry.0.key) (key_hash key)) (ap (λ o. is_entry_of o (key_hash key)) entry.1)
+    by_test entry.0 entry.1 (first_from_last es key vs n (omega arith)) (nat_eq (key_hash entry.0.key) (key_hash key))
+    (ap (λ o. is_entry_of o (key_hash key)) entry.1)
   where
-    by_test : (e : Entry) → slice_get es n ≡ Some e → first_missing (drop (last_of es (key_hash key) n) es) key vs ≡ first_missing (drop n es) key vs → (b : Bool) → is_entry_of (slice_get es n) (key_hash key) ≡ b
+    by_test : (e : Entry) → slice_get es n ≡ Some e → first_missing (drop (last_of es (key_hash key) n) es) key vs ≡ first_missing (drop n es) key vs
+        → (b : Bool) → is_entry_of (slice_get es n) (key_hash key) ≡ b
         → first_missing (drop (last_of es (key_hash key) (suc n)) es) key vs ≡ first_missing (drop (suc n) es) key vs
     by_test e at before true is = ap (λ b. first_missing (drop (cond b (suc n) (last_of es (key_hash key) n)) es) key vs) is
     by_test e at before false is =
@@ -100,10 +106,12 @@ grown es fs ns index is are = subst (λ (xs : List Entry). IsIndex xs index) (sy
 })
 
 -- the hash of the last entry
-pub last_hash : (es ns : List Entry) (e : Entry) (key : List ℕ) (hash : ℕ) → ns ≡ es ++ e ∷ [] → e.key ≡ key → hash ≡ key_hash key → hash_at ns (length ns - 1) ≡ Some hash
+pub last_hash : (es ns : List Entry) (e : Entry) (key : List ℕ) (hash : ℕ) → ns ≡ es ++ e ∷ [] → e.key ≡ key → hash ≡ key_hash key
+    → hash_at ns (length ns - 1) ≡ Some hash
 last_hash es ns e key hash are of_key is =
     let place : length ns - 1 ≡ length es = omega (arith, ap length are, length-append es (e ∷ [])) in
-    (λ i. hash_at (are i) (place i)) ∙ ap (option_map (λ (x : Entry). key_hash x.key)) (got_last es e) ∙ ap (λ k. Some (key_hash k)) of_key ∙ ap Some (sym is)
+    (λ i. hash_at (are i) (place i)) ∙ ap (option_map (λ (x : Entry). key_hash x.key)) (got_last es e) ∙ ap (λ k. Some (key_hash k)) of_key
+    ∙ ap Some (sym is)
 
 -- the entry at a place is of its hash
 entry_of_hash : (o : Option Entry) (hash q : ℕ) → option_map (λ (e : Entry). key_hash e.key) o ≡ Some hash → is_entry_of o q ≡ nat_eq hash q
@@ -111,7 +119,8 @@ entry_of_hash None hash q at = absurd (let no : None ≡ Some hash = at in cc)
 entry_of_hash (Some e) hash q at = let same : key_hash e.key ≡ hash = cc in ap (λ f. nat_eq f q) same
 
 -- the index that links one more entry
-pub linked : (es : List Entry) (index new : ByKey) (hash : ℕ) → IsIndex es index → slice_get index.hashes.items (length index.earlier.items) ≡ Some hash → new.hashes ≡ index.hashes
+pub linked : (es : List Entry) (index new : ByKey) (hash : ℕ) → IsIndex es index
+    → slice_get index.hashes.items (length index.earlier.items) ≡ Some hash → new.hashes ≡ index.hashes
     → new.earlier.items ≡ index.earlier.items ++ found_in index hash ∷ []
     → ((q : ℕ) → found_in new q ≡ cond (nat_eq hash q) (length index.earlier.items + 1) (found_in index q))
     → IsIndex es new
@@ -129,7 +138,8 @@ linked es index new hash is has same items found =
         | inl lt ↦ got_left index.earlier.items (found_in index hash ∷ []) i lt ∙ is.earlier i x lt there
         | inr ge ↦
             let last : i ≡ n = omega arith in
-            let own : Some hash ≡ Some (key_hash x.key) = sym at ∙ ap (hash_at es) (sym last) ∙ ap (option_map (λ (e : Entry). key_hash e.key)) there in
+            let own : Some hash ≡ Some (key_hash x.key) = sym at ∙ ap (hash_at es) (sym last)
+            ∙ ap (option_map (λ (e : Entry). key_hash e.key)) there in
             let one : hash ≡ key_hash x.key = cc in
             ap (slice_get (index.earlier.items ++ found_in index hash ∷ [])) last
             ∙ got_last index.earlier.items (found_in index hash)
@@ -153,7 +163,8 @@ pub record IsWalked (es : List Entry) (index : ByKey) (key : List ℕ) (vs : Lis
   pub found_is : found ≡ first_missing (drop from es) key vs
 
 -- the walk at its start, where n entries are linked
-pub walk_begins : (es : List Entry) (index : ByKey) (key : List ℕ) (vs : List Version) (n next : ℕ) (found : Option ℕ) → IsIndex es index → n ≡ length index.earlier.items → next ≡ found_in index (key_hash key)
+pub walk_begins : (es : List Entry) (index : ByKey) (key : List ℕ) (vs : List Version) (n next : ℕ) (found : Option ℕ) → IsIndex es index
+    → n ≡ length index.earlier.items → next ≡ found_in index (key_hash key)
     → found ≡ first_missing (take (length es - n) (drop n es)) key vs → IsWalked es index key vs next found
 walk_begins es index key vs n next found is counted last first = record {
   from = n;
@@ -164,13 +175,15 @@ walk_begins es index key vs n next found is counted last first = record {
 }
 
 -- the first missing entry of all, once there is no next one
-pub walk_ends : (es : List Entry) (index : ByKey) (key : List ℕ) (vs : List Version) (next : ℕ) (found : Option ℕ) → IsWalked es index key vs next found → next ≡ 0 → found ≡ first_missing es key vs
+pub walk_ends : (es : List Entry) (index : ByKey) (key : List ℕ) (vs : List Version) (next : ℕ) (found : Option ℕ)
+    → IsWalked es index key vs next found → next ≡ 0 → found ≡ first_missing es key vs
 walk_ends es index key vs next found w last =
     w.found_is ∙ sym (first_from_last es key vs w.from w.within)
     ∙ ap (λ n. first_missing (drop n es) key vs) (sym w.next_is ∙ last)
 
 -- the entry before one that is of its hash has a lower place
-pub falls : (es : List Entry) (index : ByKey) (place : ℕ) (e : Entry) (earlier : ℕ) → IsIndex es index → place < length index.earlier.items → slice_get es place ≡ Some e
+pub falls : (es : List Entry) (index : ByKey) (place : ℕ) (e : Entry) (earlier : ℕ) → IsIndex es index → place < length index.earlier.items
+    → slice_get es place ≡ Some e
     → slice_get index.earlier.items place ≡ Some earlier → earlier ≤ place
 falls es index place e earlier is below at before =
     let known : Some earlier ≡ Some (last_of es (key_hash e.key) place) = sym before ∙ is.earlier place e below at in
@@ -178,15 +191,18 @@ falls es index place e earlier is below at before =
     omega (arith, last_of_within es (key_hash e.key) place)
 
 -- the walk after its next entry
-pub walk_goes_on : (es : List Entry) (index : ByKey) (key : List ℕ) (vs : List Version) (next : ℕ) (found : Option ℕ) (e : Entry) (missing : Bool) (earlier : ℕ) (now : Option ℕ)
-    → IsIndex es index → IsWalked es index key vs next found → 0 < next → slice_get es (next - 1) ≡ Some e → slice_get index.earlier.items (next - 1) ≡ Some earlier
+pub walk_goes_on : (es : List Entry) (index : ByKey) (key : List ℕ) (vs : List Version) (next : ℕ) (found : Option ℕ) (e : Entry) (missing : Bool)
+    (earlier : ℕ) (now : Option ℕ)
+    → IsIndex es index → IsWalked es index key vs next found → 0 < next → slice_get es (next - 1) ≡ Some e
+    → slice_get index.earlier.items (next - 1) ≡ Some earlier
     → missing ≡ is_missing e key vs → now ≡ cond missing (Some e.number) found → IsWalked es index key vs earlier now
 walk_goes_on es index key vs next found e missing earlier now is w more at before tested now_is =
     let place = next - 1 in
     let one : next ≡ suc place = omega arith in
     let here = last_is_of es (key_hash key) w.from place (sym w.next_is ∙ one) in
     let below : place < length index.earlier.items = omega (arith, w.below) in
-    let of_front : key_hash e.key ≡ key_hash key = eqb-true (key_hash e.key) (key_hash key) (ap (λ o. is_entry_of o (key_hash key)) (sym at) ∙ here.1) in
+    let of_front : key_hash e.key ≡ key_hash key = eqb-true (key_hash e.key) (key_hash key)
+    (ap (λ o. is_entry_of o (key_hash key)) (sym at) ∙ here.1) in
     let known : Some earlier ≡ Some (last_of es (key_hash e.key) place) = sym before ∙ is.earlier place e below at in
     let same : earlier ≡ last_of es (key_hash e.key) place = cc in
     let was : found ≡ first_missing (drop (suc place) es) key vs =

@@ -16,12 +16,15 @@ abbrev loads_read : Locked → PassView → ℕ → Result (List Row) ℕ → Ou
 loads_read l p len r = through (with_store l.state) (load_read l.state.store p.seat len r) >>= λ one. gives one.0 (after_load l p one.1)
 
 -- rows that are refused when they are read
-pub unread : (l : Locked) (p : PassView) (text : List ℕ) (e : Refusal) → read_fault l.state.store.config (length text) (rows_in l.state.store.config.format text) ≡ Some e → load_text_in l p text ≡ refuses e
-unread l p text e = elim (rows_in l.state.store.config.format text) as (λ r. read_fault l.state.store.config (length text) r ≡ Some e → loads_read l p (length text) r ≡ refuses e) [
-  | Ok rows ↦ λ fault. rw fault refl
-  | Err left ↦ λ fault. let same : RowBroken (length text - left) ≡ e = cc in ap (λ (x : Refusal). refuses x) same
-]
+pub unread : (l : Locked) (p : PassView) (text : List ℕ) (e : Refusal)
+    → read_fault l.state.store.config (length text) (rows_in l.state.store.config.format text) ≡ Some e → load_text_in l p text ≡ refuses e
+unread l p text e = elim (rows_in l.state.store.config.format text) as (λ r. read_fault l.state.store.config (length text) r ≡ Some e
+    → loads_read l p (length text) r ≡ refuses e) [
+      | Ok rows ↦ λ fault. rw fault refl
+      | Err left ↦ λ fault. let same : RowBroken (length text - left) ≡ e = cc in ap (λ (x : Refusal). refuses x) same
+    ]
 
 -- rows that were read
-pub was_read : (l : Locked) (p : PassView) (text : List ℕ) (rows : List Row) → rows_in l.state.store.config.format text ≡ Ok rows → load_text_in l p text ≡ load_in l p rows
+pub was_read : (l : Locked) (p : PassView) (text : List ℕ) (rows : List Row) → rows_in l.state.store.config.format text ≡ Ok rows
+    → load_text_in l p text ≡ load_in l p rows
 was_read l p text rows h = ap (loads_read l p (length text)) h

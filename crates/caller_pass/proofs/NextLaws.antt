@@ -15,7 +15,8 @@ use Rattle.caller_pass.specs.Locks.{Locked, TellsAnswer}
 use Rattle.caller_pass.specs.Passes.{PassView}
 
 -- a record that replaced another one of its number is there
-there : (rs ts : List Record) (id : ℕ) (r new : Record) → new.number ≡ r.number → record_of id rs ≡ Some r → ts ≡ slice_set rs (place_of id rs) new → unknown_for (record_of id ts) ≡ None
+there : (rs ts : List Record) (id : ℕ) (r new : Record) → new.number ≡ r.number → record_of id rs ≡ Some r → ts ≡ slice_set rs (place_of id rs) new
+    → unknown_for (record_of id ts) ≡ None
 there rs ts id r new same has is =
     let place = place_of id rs in
     let was : r ≡ get_or rs place r = sym (get_or_from_slice_get rs place r r has) in
@@ -24,12 +25,14 @@ there rs ts id r new same has is =
     let within : place < length ts = omega (arith, slice_get_within rs place r has, len) in
     ap (λ k. unknown_for (slice_get ts k)) kept ∙ ap unknown_for (slice_get-get_or ts place new within)
 
-known_for : (s : State) (seat id : ℕ) (t : TakenText) (a : AnswerTaken) (new : State) (o : Option Record) → record_of id s.records ≡ o → TakesFor s seat (place_of id s.records) o t (Ok a) new → unknown_fault new id ≡ None
+known_for : (s : State) (seat id : ℕ) (t : TakenText) (a : AnswerTaken) (new : State) (o : Option Record) → record_of id s.records ≡ o
+    → TakesFor s seat (place_of id s.records) o t (Ok a) new → unknown_fault new id ≡ None
 known_for s seat id t a new None is took = absurd (let no : Ok a ≡ Err _ = took.0 in cc)
 known_for s seat id t a new (Some r) is took = elim took.1 [
   | inl inner ↦ there s.records new.records id r _ refl is (ap (λ (x : State). x.records) inner.new_is)
   | inr leaf ↦ there s.records new.records id r _ refl is (ap (λ (x : State). x.records) leaf.new_is)
 ]
 
-pub still_known : (l m : Locked) (p q : PassView) (id : ℕ) (t : TakenText) (a : AnswerCounted) → TellsAnswer l p id t (Ok a) m q → unknown_fault m.state id ≡ None
+pub still_known : (l m : Locked) (p q : PassView) (id : ℕ) (t : TakenText) (a : AnswerCounted) → TellsAnswer l p id t (Ok a) m q
+    → unknown_fault m.state id ≡ None
 still_known l m p q id t a is = known_for l.state p.seat id t is.taken m.state (record_of id l.state.records) refl is.takes

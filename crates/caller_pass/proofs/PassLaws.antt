@@ -13,7 +13,8 @@ use Rattle.caller_pass.specs.Passes.{PassView, IsPass, AreInOrder, seen_after, w
 pub seen_rises : (seen journal k : ℕ) → seen ≤ seen_after seen journal k
 seen_rises seen journal k = elim (nat_eq k 0) as (λ b. seen ≤ cond b seen (max seen journal)) [ true ↦ omega arith | false ↦ omega arith ]
 
-all_below : (rs : List Reading) (m n : ℕ) → m ≤ n → AllByRecursion (λ (r : Reading). r.front ≤ m) rs → AllByRecursion (λ (r : Reading). r.front ≤ n) rs
+all_below : (rs : List Reading) (m n : ℕ) → m ≤ n → AllByRecursion (λ (r : Reading). r.front ≤ m) rs
+    → AllByRecursion (λ (r : Reading). r.front ≤ n) rs
 all_below [] m n le all = tt
 all_below (r ∷ rs) m n le all = (omega (arith, all.0, le), all_below rs m n le all.1)
 
@@ -26,7 +27,8 @@ pass_grown n p journal es ok = record {
 }
 
 -- the same of what a call left in a pass
-pub pass_after : (n : ℕ) (p : PassView) (journal seen share : ℕ) (receipts es : List Entry) → IsPass n p → seen ≡ seen_after p.seen journal (length es) → share ≡ p.share + length es → receipts ≡ p.receipts ++ es
+pub pass_after : (n : ℕ) (p : PassView) (journal seen share : ℕ) (receipts es : List Entry) → IsPass n p
+    → seen ≡ seen_after p.seen journal (length es) → share ≡ p.share + length es → receipts ≡ p.receipts ++ es
     → IsPass n (record p { seen = seen; share = share; receipts = receipts })
 pass_after n p journal seen share receipts es ok seen_is share_is receipts_are =
     subst (IsPass n) (λ i. record p { seen = sym seen_is i; share = sym share_is i; receipts = sym receipts_are i }) (pass_grown n p journal es ok)
@@ -46,7 +48,8 @@ pass_read n p r ok later =
     }
 
 -- a reading's front is at most those of the readings after it
-pub fronts_rise : (rs : List Reading) (i k : ℕ) (d e : Reading) → AreInOrder rs → i ≤ k → k < length rs → (get_or rs i d).front ≤ (get_or rs k e).front
+pub fronts_rise : (rs : List Reading) (i k : ℕ) (d e : Reading) → AreInOrder rs → i ≤ k → k < length rs
+    → (get_or rs i d).front ≤ (get_or rs k e).front
 fronts_rise [] i k d e ordered le below = absurd (omega arith)
 fronts_rise (r ∷ rs) zero zero d e ordered le below = omega arith
 fronts_rise (r ∷ rs) zero (suc k) d e ordered le below = All-from_recursion (λ (s : Reading). r.front ≤ s.front) rs ordered.0 k e (omega arith)

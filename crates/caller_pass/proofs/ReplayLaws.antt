@@ -9,7 +9,8 @@ use Rattle.caller_pass.specs.declared.reading.Reading.{Reading}
 use Rattle.caller_pass.specs.Closings.{IsTrueReading, IsFalseAt}
 
 -- a reading whose versions the replay holds at its front
-pub true_at : (entries : List Entry) (rs : List Reading) (i : ℕ) (r d : Reading) (replay : Replayed) (key : List ℕ) → i < length rs → r ≡ get_or rs i r → replay ≡ record { entries = entries; front = r.front }
+pub true_at : (entries : List Entry) (rs : List Reading) (i : ℕ) (r d : Reading) (replay : Replayed) (key : List ℕ) → i < length rs
+    → r ≡ get_or rs i r → replay ≡ record { entries = entries; front = r.front }
     → r.front ≤ length entries → key ≡ r.key → held (take replay.front replay.entries) key ≡ r.versions → IsTrueReading entries (get_or rs i d)
 true_at entries rs i r d replay key below is now within same holds =
     let true_reading : IsTrueReading entries r = record {
@@ -19,8 +20,10 @@ true_at entries rs i r d replay key below is now within same holds =
     subst (IsTrueReading entries) (is ∙ get_or_default rs i r d below) true_reading
 
 -- a reading whose versions the replay does not hold at its front, where those before it are true
-pub false_at : (entries : List Entry) (rs : List Reading) (i : ℕ) (r : Reading) (replay : Replayed) (key : List ℕ) → i < length rs → r ≡ get_or rs i r → replay ≡ record { entries = entries; front = r.front } → key ≡ r.key
-    → ((d : Reading) (k : ℕ) → k < i → IsTrueReading entries (get_or rs k d)) → (¬ (held (take replay.front replay.entries) key ≡ r.versions)) → IsFalseAt entries rs i
+pub false_at : (entries : List Entry) (rs : List Reading) (i : ℕ) (r : Reading) (replay : Replayed) (key : List ℕ) → i < length rs → r ≡ get_or rs i r
+    → replay ≡ record { entries = entries; front = r.front } → key ≡ r.key
+    → ((d : Reading) (k : ℕ) → k < i → IsTrueReading entries (get_or rs k d)) → (¬ (held (take replay.front replay.entries) key ≡ r.versions))
+    → IsFalseAt entries rs i
 false_at entries rs i r replay key below is now same before differ = record {
   before = λ k d within.
       let lt : k < i = omega (arith, length-take-le i rs (omega arith)) in

@@ -5,7 +5,7 @@ use Rattle.key_ring.specs.Hashes.{key_hash}
 use Rattle.range_journal.specs.declared.journal.Entry.{Entry}
 use Rattle.caller_pass.specs.declared.receipt_index.ByKey.{ByKey}
 
--- the hash of the key of the entry at a place, if there is one
+-- the hash of the key of the entry at a place, if any
 abbrev pub hash_at : List Entry → ℕ → Option ℕ
 hash_at es place = option_map (λ e. key_hash e.key) (slice_get es place)
 
@@ -14,7 +14,7 @@ abbrev pub is_entry_of : Option Entry → ℕ → Bool
 is_entry_of None hash = false
 is_entry_of (Some e) hash = nat_eq (key_hash e.key) hash
 
--- the last of the first n entries whose key has this hash: one more than its place, or 0 if there is no such entry
+-- the last of the first n entries whose key has this hash: one more than its place, or 0 if none has
 abbrev pub last_of : List Entry → ℕ → ℕ → ℕ
 last_of es hash zero = 0
 last_of es hash (suc n) = if is_entry_of (slice_get es n) hash then suc n else last_of es hash n
@@ -23,8 +23,8 @@ last_of es hash (suc n) = if is_entry_of (slice_get es n) hash then suc n else l
 abbrev pub found_in : ByKey → ℕ → ℕ
 found_in index hash = unwrap_or (get nat_eq index.last hash) 0
 
--- Of the first entries, length earlier of them, an index has the last one of each hash, and for each of them the one
--- before it that is of its hash. It has the hashes of these, and maybe of more of the entries, in order.
+-- For the first entries, length earlier of them, an index has the last one of each hash, and for each entry the
+-- previous one with the same hash. It has the hashes of these, and maybe of more of the entries, in order.
 pub record IsIndex (es : List Entry) (index : ByKey) : Type 0 where
   pub last : (hash : ℕ) → found_in index hash ≡ last_of es hash (length index.earlier.items)
   pub earlier : (i : ℕ) (e : Entry) → i < length index.earlier.items → slice_get es i ≡ Some e

@@ -31,8 +31,8 @@ pub record Locked : Type 0 where
   pub state : State
   pub book : BookView
 
--- The facts that hold whenever the lock is free: the state is right, the book's count is the journal's length, and each
--- entry is of a seat.
+-- The facts that hold whenever the lock is free: the state is valid, the book's count is the journal's length, and each
+-- entry belongs to a seat.
 pub record IsLocked (seats : ℕ) (l : Locked) : Type 0 where
   pub right : IsRight l.state
   pub counted : l.book.number ≡ length l.state.store.entries
@@ -71,7 +71,7 @@ accept_in l p source key v = do
   reply ← accept l.state p.seat source key v
   gives reply.0 (after_sent l p reply.0 reply.1)
 
--- an entry is of a key, and the versions do not cover its version
+-- an entry has that key, and the versions do not cover its version
 unfoldable pub is_missing : Entry → List ℕ → List Version → Bool
 is_missing e key versions = bytes_eq e.key key && not (covered e.version versions)
 

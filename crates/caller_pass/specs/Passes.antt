@@ -13,7 +13,7 @@ pub record PassView : Type 0 where
   pub receipts : List Entry
   pub readings : List Reading
 
--- each reading is of a journal that is at most as long as those of the readings after it
+-- no reading saw a shorter journal than an earlier one
 abbrev pub AreInOrder : List Reading → Type 0
 AreInOrder [] = Unit {0}
 AreInOrder (r ∷ rs) = AllByRecursion (λ (s : Reading). r.front ≤ s.front) rs × AreInOrder rs
@@ -26,7 +26,7 @@ pub record IsPass (seats : ℕ) (p : PassView) : Type 0 where
   pub in_order : AreInOrder p.readings
   pub seen : AllByRecursion (λ (r : Reading). r.front ≤ p.seen) p.readings
 
--- the number of entries that the book has counted, the number of seats, and the passes that were handed back
+-- the number of entries that the book has counted, the number of seats, and the returned passes
 pub record BookView : Type 0 where
   pub number : ℕ
   pub seats : ℕ
@@ -49,7 +49,7 @@ new_book seats = record { number = 0; seats = seats; passes = [] }
 abbrev pub counted : BookView → ℕ → BookView
 counted b n = record b { number = b.number + n }
 
--- the book with a pass that was handed back
+-- the book with one more returned pass
 abbrev pub absorbed : BookView → PassView → BookView
 absorbed b p = record b { passes = b.passes ++ p ∷ [] }
 

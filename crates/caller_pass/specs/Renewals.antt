@@ -24,7 +24,7 @@ carried_passes carrier entries (suc n) = carried_passes carrier entries n ++ car
 abbrev pub renewed_in : Locked → ℕ → ℕ → Locked
 renewed_in l seat limit = record { state = renewed_by l.state seat limit; book = record { number = length (renewed_by l.state seat limit).store.entries; seats = l.book.seats; passes = [] } }
 
--- a pass that was handed back, as it was before: its share was the number of its receipts
+-- a returned pass, with its share, which is the number of its receipts
 abbrev pub pass_of : ReturnedPass → PassView
 pass_of p = record { seat = p.seat; seen = p.seen; share = vec_len p.receipts; receipts = p.receipts.items; readings = p.readings.items }
 

@@ -17,8 +17,8 @@ use std::mem::replace;
 use std::sync::ledger::{self, Blank, Ledger, Share};
 use vclock::Refusal;
 
-/// The count of a range's entries, with the passes that were handed back. Its ledger ties it to the passes that were
-/// made with it, so a pass of another range doesn't compile in its place.
+/// The count of a range's entries, and the passes returned to it. Its ledger ties it to the passes that were made with
+/// it, so a pass of another range doesn't compile in its place.
 ///
 /// ```
 /// let (book, mut passes) = open_passes::<L>(blank, alloc, 2)?;
@@ -37,7 +37,7 @@ pub struct Book<L: Ledger> {
     share: Share<L>,
 }
 
-/// A pass that was handed back, without its share, so it is no `Pass` any more.
+/// A pass that was returned, without its share, so it can't be used as a `Pass` any more.
 #[derive(Drop)]
 pub struct ReturnedPass {
     /// The number of the caller, from 0.
@@ -111,7 +111,7 @@ pub fn open_passes<L: Ledger>(
     Ok((book, passes))
 }
 
-/// A pass that a book had no room for, handed back.
+/// A pass that a book couldn't take back.
 #[derive(Drop)]
 pub struct Unabsorbed<L: Ledger> {
     /// The pass.
@@ -127,8 +127,8 @@ impl<L: Ledger> Book<L> {
         self.seats
     }
 
-    /// Counts new entries of a caller, in the caller's share, too. The caller has then seen the journal with them, if
-    /// there are any.
+    /// Counts new entries of a caller, also in the caller's share. If there are any, the caller has seen the journal up
+    /// to them.
     pub(crate) fn count(
         &mut self,
         share: &mut Share<L>,
@@ -148,7 +148,7 @@ impl<L: Ledger> Book<L> {
         }
     }
 
-    /// Takes a pass back. Refused: NoMemory, and then returns the pass.
+    /// Takes a pass back. Refused: NoMemory, with the pass.
     pub fn absorb(&mut self, pass: Pass<L>) -> Result<(), Unabsorbed<L>>
         ensures ok { OnOk result (self.new ≡ absorbed self.old pass) }
         ensures err { IfErr result (λ refused. (refused.pass ≡ pass) × (self.new ≡ self.old)) }
@@ -184,8 +184,8 @@ impl<L: Ledger> Book<L> {
     }
 
     /// Takes the book and the passes of all seats apart, and makes a book and passes of the same ledger. The pass of
-    /// `seat` has the receipts, and has seen them; the others have none. `entries` is the count so far. Returns the
-    /// book, its passes, and the passes that were taken, in order. Doesn't allocate.
+    /// `seat` gets the receipts, and has seen them; the other passes are empty. `entries` is the count so far. Returns
+    /// the book, its passes, and the passes that were taken, in order. Doesn't allocate.
     pub(crate) fn renew(
         self,
         alloc: Global,
@@ -225,7 +225,7 @@ impl<L: Ledger> Book<L> {
     }
 }
 
-/// Room for the passes of a renewal: for the new ones, and for those that are taken back.
+/// Reserved lists for a renewal: for the new passes, and for the passes that are taken back.
 #[derive(Drop)]
 pub(crate) struct Room<L: Ledger> {
     pub(crate) passes: Vec<Pass<L>>,
@@ -233,7 +233,7 @@ pub(crate) struct Room<L: Ledger> {
 }
 
 impl<L: Ledger> Room<L> {
-    /// Makes room for new passes, and for those that are taken back. Refused: NoMemory.
+    /// Reserves capacity for the new passes, and for those that are taken back. Refused: NoMemory.
     pub(crate) fn new(alloc: Global, seats: u16, passes: usize) -> Result<Room<L>, Refusal>
         ensures { Answers result None (λ room. (room.passes.items ≡ []) × (room.kept.items ≡ [])
             × (seats ≤ vec_capacity room.passes) × (passes ≤ vec_capacity room.kept)) }
@@ -244,7 +244,7 @@ impl<L: Ledger> Room<L> {
     }
 }
 
-/// Takes passes back in order, into a list with room for them, and merges their shares.
+/// Takes passes back in order, into a list with enough capacity, and merges their shares.
 fn gather<L: Ledger>(
     share: &mut Share<L>,
     mut passes: Vec<Pass<L>>,
@@ -256,7 +256,7 @@ fn gather<L: Ledger>(
     ensures parts { share.new.parts ≡ share.old.parts + length passes.items }
     ensures few { share.new.parts ≤ L.parts }
 {
-    // Called for its clause alone: the share has at most all parts.
+    // Called only for its clause: the share has at most all parts.
     let none = share.empty();
     share.merge(none);
     passes.reverse();
@@ -281,8 +281,8 @@ fn gather<L: Ledger>(
     kept
 }
 
-/// Makes a pass for each seat from a share that has one part a seat, into a list with room for them. The pass of the
-/// carrier has the receipts.
+/// Makes a pass for each seat from a share that has one part per seat, into a list with enough capacity. The pass of
+/// the carrier gets the receipts.
 fn deal<L: Ledger>(
     alloc: Global,
     count: &mut ledger::Book<L>,
@@ -314,7 +314,7 @@ fn deal<L: Ledger>(
     passes
 }
 
-/// Makes the pass of a seat from one part of a share. It has receipts, and has seen them.
+/// Makes the pass of a seat from one part of a share, with these receipts, which it has seen.
 fn make_pass<L: Ledger>(
     alloc: Global,
     count: &mut ledger::Book<L>,

@@ -14,8 +14,8 @@ use std::alloc::Global;
 use std::sync::ledger::Ledger;
 use vclock::{PassPart, Refusal};
 
-/// A range that was closed: each pass was handed in and settled, which means that its receipts are the entries of its
-/// seat, and its readings agree with the journal.
+/// A closed range. Each pass was returned and settled: its receipts are the entries of its seat, and its readings agree
+/// with the journal.
 ///
 /// ```
 /// let closed = range.close(alloc, passes).ok().ok_or("not closed")?;

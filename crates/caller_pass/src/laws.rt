@@ -32,8 +32,8 @@ pub fn settled_passes_have_each_entry()
         → (entry : Entry) → Contains range.state.store.entries entry → Any (λ p. Contains p.receipts entry) passes }
 {}
 
-/// Through a renewal, too, a caller reads its own writes, and its readings don't go back: for each pass that was settled,
-/// the versions that the renewed range holds cover each receipt, and each version of each reading.
+/// Through a renewal, too, a caller reads its own writes, and its readings don't go back: for each pass that was
+/// settled, the versions that the renewed range holds cover each receipt, and each version of each reading.
 pub fn renewed_ranges_cover_settled_passes()
     ensures receipts { (s : State) (seat limit : ℕ) (pass : PassView) → IsSettled s.store.entries pass
         → All (λ e. IsTrue (covered e.version (held (renewed_by s seat limit).store.entries e.key))) pass.receipts }

@@ -72,7 +72,7 @@ impl<L: Ledger> LockedRange<L> {
         requires none { book.number ≡ 0 }
         ensures { result ≡ record { state = state; book = book } }
     {
-        // Called for its clause alone: the state is right.
+        // Called only for its clause: the state is valid.
         let _right = state.journal();
         LockedRange { state, book }
     }
@@ -86,7 +86,7 @@ impl<L: Ledger> LockedRange<L> {
         self.state.store()
     }
 
-    /// Puts a value at a node, as `RangeState::put` does for the seat of the pass, and adds the receipt to the pass.
+    /// Puts a value at a node for the seat of the pass (see `RangeState::put`), and adds the receipt to the pass.
     ///
     /// Refused as `RangeState::put` is. On error range and pass are unchanged.
     pub fn put(
@@ -110,8 +110,8 @@ impl<L: Ledger> LockedRange<L> {
         self.put_hashed(alloc, test, pass, at, &key, context, kind, value)
     }
 
-    /// Puts a value at a node, as `RangeState::put_read` does for the seat of the pass, and adds the receipt to the
-    /// pass: only if its client has read all that the node put.
+    /// Puts a value at a node for the seat of the pass, only if its client has read all that the node put (see
+    /// `RangeState::put_read`), and adds the receipt to the pass.
     ///
     /// Refused as `RangeState::put_read` is. On error range and pass are unchanged.
     pub fn put_read(
@@ -135,8 +135,8 @@ impl<L: Ledger> LockedRange<L> {
         self.put_hashed(alloc, test, pass, at, &key, context, kind, value)
     }
 
-    /// Puts a value as [`LockedRange::put`] does, or as [`LockedRange::put_read`] does, by the test of its context, for
-    /// a key that was hashed before the lock was taken.
+    /// Puts a value like [`LockedRange::put`] or [`LockedRange::put_read`], by the test of its context, for a key that
+    /// was hashed before the lock was taken.
     pub fn put_hashed(
         &mut self,
         alloc: Global,
@@ -163,8 +163,8 @@ impl<L: Ledger> LockedRange<L> {
         Ok(receipt)
     }
 
-    /// Accepts a version that another node sent, as `RangeState::accept` does for the seat of the pass, and adds the
-    /// receipt to the pass if the version wasn't known.
+    /// Accepts a version that another node sent, for the seat of the pass (see `RangeState::accept`), and adds the
+    /// receipt to the pass if the version is new.
     ///
     /// Refused as `RangeState::accept` is. On error range and pass are unchanged.
     pub fn accept(
@@ -182,7 +182,7 @@ impl<L: Ledger> LockedRange<L> {
         self.accept_hashed(alloc, pass, source, &HashedKey::new(key), version)
     }
 
-    /// Accepts a version as [`LockedRange::accept`] does, for a key that was hashed before the lock was taken.
+    /// Accepts a version like [`LockedRange::accept`], for a key that was hashed before the lock was taken.
     pub fn accept_hashed(
         &mut self,
         alloc: Global,
@@ -218,8 +218,8 @@ impl<L: Ledger> LockedRange<L> {
         self.take_reading(alloc, pass, &HashedKey::new(key))
     }
 
-    /// Reads a key as [`LockedRange::get`] does, for a key that was hashed before the lock was taken, and for a caller
-    /// who has to show that a refusal is that of a read of this range.
+    /// Reads a key like [`LockedRange::get`], for a key that was hashed before the lock was taken, and for a caller who
+    /// has to show that a refusal comes from a read of this range.
     pub fn read(
         &self,
         alloc: Global,
@@ -235,7 +235,7 @@ impl<L: Ledger> LockedRange<L> {
         }
     }
 
-    /// Reads a key as `get` does. The row is found once: its set judges the receipts of the pass, and is copied.
+    /// Reads a key like `get`. The row is found once: its set judges the receipts of the pass, and is copied.
     fn take_reading(
         &self,
         alloc: Global,
@@ -273,14 +273,14 @@ impl<L: Ledger> LockedRange<L> {
         Ok(versions)
     }
 
-    /// Returns a job for a node, as `RangeState::take_job` does. Refused: NoMemory.
+    /// Returns a job for a node; see `RangeState::take_job`. Refused: NoMemory.
     pub fn take_job(&self, alloc: Global, skip: u64) -> Result<Option<Job>, Refusal>
         ensures { Answers result None (GivesJob (tree_in self.now.state.store)) }
     {
         self.state.take_job(alloc, skip)
     }
 
-    /// Installs the digest of a text at a node, as `RangeState::install` does. Doesn't allocate. Refused: Stale.
+    /// Installs the digest of a text at a node; see `RangeState::install`. Doesn't allocate. Refused: Stale.
     pub fn install(&mut self, node: NodeAt, hashed: &Hashed) -> Result<(), Refusal>
         ensures { DoesAtOnce result self.old self.new
             (through (moved self.old) (install self.old.state node hashed.now)) }
@@ -290,7 +290,7 @@ impl<L: Ledger> LockedRange<L> {
         installed
     }
 
-    /// Makes a snapshot, as `RangeState::snapshot` does. Refused, in order: Dirty, NoMemory.
+    /// Makes a snapshot; see `RangeState::snapshot`. Refused, in order: Dirty, NoMemory.
     pub fn snapshot(&self, alloc: Global) -> Result<Arc<Snapshot, Global>, Refusal>
         ensures { Answers result (dirty_fault self.now.state.store)
             (λ snapshot. arc_value snapshot ≡ rows_now self.now.state.store) }
@@ -298,7 +298,7 @@ impl<L: Ledger> LockedRange<L> {
         self.state.snapshot(alloc)
     }
 
-    /// Opens a session with a partner's offer, as `RangeState::open_session` does, and returns its number. Refused as
+    /// Opens a session with a partner's offer, and returns its number; see `RangeState::open_session`. Refused as
     /// `RangeState::open_session` is. On error the range is unchanged.
     pub fn open_session(
         &mut self,
@@ -314,8 +314,8 @@ impl<L: Ledger> LockedRange<L> {
         id
     }
 
-    /// Keeps the rows now as the range's moment, and returns the one before, as `RangeState::hold_moment` does. Refused:
-    /// NoMemory. On error the range is unchanged.
+    /// Keeps the current rows as the range's moment, and returns the previous one; see `RangeState::hold_moment`.
+    /// Refused: NoMemory. On error the range is unchanged.
     pub fn hold_moment(&mut self, alloc: Global) -> Result<Option<Moment>, Refusal>
         ensures { Does result self.old self.new (gives self.old.state.moment (moved self.old (with_moment self.old.state))) }
     {
@@ -324,7 +324,7 @@ impl<L: Ledger> LockedRange<L> {
         held
     }
 
-    /// Lets go of the moment, and returns it, if there is one. Doesn't allocate.
+    /// Releases the moment, if any, and returns it. Doesn't allocate.
     pub fn take_moment(&mut self) -> Option<Moment>
         ensures moment { result ≡ self.old.state.moment }
         ensures range { self.new ≡ moved self.old (without_moment self.old.state) }
@@ -334,14 +334,14 @@ impl<L: Ledger> LockedRange<L> {
         moment
     }
 
-    /// Returns jobs of the moment's nodes, as `RangeState::take_moment_jobs` does. Refused: NoMemory.
+    /// Returns jobs of the moment's nodes; see `RangeState::take_moment_jobs`. Refused: NoMemory.
     pub fn take_moment_jobs(&self, alloc: Global, most: usize) -> Result<Vec<Job>, Refusal>
         ensures { Answers result None (λ jobs. AreMomentJobs self.now.state.moment most jobs.items) }
     {
         self.state.take_moment_jobs(alloc, most)
     }
 
-    /// Installs the digest of a text at a node of the moment, as `RangeState::install_moment` does. Doesn't allocate.
+    /// Installs the digest of a text at a node of the moment; see `RangeState::install_moment`. Doesn't allocate.
     /// Refused: Stale. On error the range is unchanged.
     pub fn install_moment(&mut self, node: NodeAt, hashed: &Hashed) -> Result<(), Refusal>
         ensures { DoesAtOnce result self.old self.new
@@ -352,7 +352,7 @@ impl<L: Ledger> LockedRange<L> {
         installed
     }
 
-    /// Makes a snapshot of the moment, as `RangeState::moment` does. Refused, in order: Dirty, NoMemory.
+    /// Makes a snapshot of the moment; see `RangeState::moment`. Refused, in order: Dirty, NoMemory.
     pub fn moment(&self, alloc: Global) -> Result<Arc<Snapshot, Global>, Refusal>
         ensures { Answers result (moment_fault self.now.state.moment)
             (λ snapshot. arc_value snapshot ≡ rows_at self.now.state.store (front_of self.now.state.moment)) }
@@ -360,8 +360,8 @@ impl<L: Ledger> LockedRange<L> {
         self.state.moment(alloc)
     }
 
-    /// Opens a session at the moment, as `RangeState::open_session_at_moment` does, and returns its number. Refused as
-    /// that is. On error the range is unchanged.
+    /// Opens a session at the moment, and returns its number. Refused as `RangeState::open_session_at_moment` is. On
+    /// error the range is unchanged.
     pub fn open_session_at_moment(
         &mut self,
         alloc: Global,
@@ -376,8 +376,8 @@ impl<L: Ledger> LockedRange<L> {
         id
     }
 
-    /// Takes a partner's text for a node of a session, as `RangeState::take_answer` does for the seat of the pass.
-    /// Moves the receipts into the pass, and returns their number.
+    /// Takes a partner's text for a node of a session, for the seat of the pass (see `RangeState::take_answer`). Moves
+    /// the receipts into the pass, and returns their number.
     ///
     /// Refused as `RangeState::take_answer` is. On error the pass is unchanged, and so is the range, except that
     /// NotCanonical makes the session fail.
@@ -401,8 +401,8 @@ impl<L: Ledger> LockedRange<L> {
         Ok(taken)
     }
 
-    /// Takes a partner's text as [`LockedRange::take_answer`] does, and returns the first outstanding node of the
-    /// session afterwards, too, as [`LockedRange::outstanding`] does. Refused as `take_answer` is.
+    /// Takes a partner's text like [`LockedRange::take_answer`], and also returns the first outstanding node of the
+    /// session afterwards, like [`LockedRange::outstanding`]. Refused as `take_answer` is.
     pub fn take_answer_next(
         &mut self,
         alloc: Global,
@@ -419,7 +419,7 @@ impl<L: Ledger> LockedRange<L> {
         Ok((taken, next))
     }
 
-    /// Loads rows of one leaf from their texts, as `RangeState::load_rows` does for the seat of the pass. Moves the
+    /// Loads rows of one leaf from their texts, for the seat of the pass (see `RangeState::load_rows`). Moves the
     /// receipts into the pass.
     ///
     /// Refused as `RangeState::load_rows` is. On error range and pass are unchanged.
@@ -436,7 +436,7 @@ impl<L: Ledger> LockedRange<L> {
         self.load_read(alloc, pass, &rows)
     }
 
-    /// Loads rows as [`LockedRange::load_rows`] does, that were read before the lock was taken, for this range's
+    /// Loads rows like [`LockedRange::load_rows`]. They were read before the lock was taken, for this range's
     /// configuration.
     pub fn load_read(
         &mut self,
@@ -455,7 +455,7 @@ impl<L: Ledger> LockedRange<L> {
         Ok(loaded)
     }
 
-    /// Cancels a session that is open, as `RangeState::cancel_session` does. Doesn't allocate. Refused: UnknownSession.
+    /// Cancels an open session; see `RangeState::cancel_session`. Doesn't allocate. Refused: UnknownSession.
     pub fn cancel_session(&mut self, id: u64) -> Result<(), Refusal>
         ensures { DoesAtOnce result self.old self.new
             (through (moved self.old) (cancel_session self.old.state id)) }
@@ -465,7 +465,7 @@ impl<L: Ledger> LockedRange<L> {
         ended
     }
 
-    /// Migrates the range to format 2, as `RangeState::migrate` does. The receipts and readings of passes stay true.
+    /// Migrates the range to format 2; see `RangeState::migrate`. The receipts and readings of passes stay true.
     /// Refused: NoMemory. On error the range is unchanged.
     pub fn migrate(&mut self, alloc: Global) -> Result<(), Refusal>
         ensures { Does result self.old self.new
@@ -476,14 +476,14 @@ impl<L: Ledger> LockedRange<L> {
         migrated
     }
 
-    /// Returns the counts of the range, as `RangeState::counts` does. Doesn't allocate.
+    /// Returns the counts of the range; see `RangeState::counts`. Doesn't allocate.
     pub fn counts(&self) -> RangeCounts
         ensures { result ≡ counts_of self.now.state }
     {
         self.state.counts()
     }
 
-    /// Returns the size of the range, as `RangeState::bytes` does. Doesn't allocate.
+    /// Returns the size of the range; see `RangeState::bytes`. Doesn't allocate.
     pub fn bytes(&self) -> RangeBytes
         ensures { result ≡ bytes_of self.now.state }
     {

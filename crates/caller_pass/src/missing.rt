@@ -8,9 +8,9 @@ use key_ring::HashedKey;
 use range_state::Receipt;
 use version_set::Held;
 
-/// Finds the number of the first receipt of a key whose version isn't covered by those that are held for the key, if
-/// any. It looks at the linked receipts whose keys have the hash of the key, from the last one back, and at those that
-/// aren't linked.
+/// Finds the number of the first receipt of a key whose version isn't covered by the versions held for the key, if any.
+/// Looks at the linked receipts whose keys have the hash of the key, from the last one back, and at those that aren't
+/// linked.
 pub(crate) fn find_missing(
     receipts: &[Receipt],
     by_key: &ByKey,
@@ -34,7 +34,7 @@ pub(crate) fn find_missing(
     found
 }
 
-/// Finds that number by a walk through all of the receipts.
+/// Finds that number by looking at all receipts.
 fn first_missing(receipts: &[Receipt], key: &[u8], held: &Held) -> Option<u64>
     ensures { result ≡ first_missing receipts.now key.now held.now }
 {
@@ -46,7 +46,7 @@ fn first_missing(receipts: &[Receipt], key: &[u8], held: &Held) -> Option<u64>
     None
 }
 
-/// Returns true if a receipt is of a key, and its version isn't covered by those that are held.
+/// Returns true if a receipt has that key, and its version isn't covered by the held versions.
 #[tactic(auto, unfolding(crate::specs::Locks::is_missing))]
 fn is_missing(receipt: &Receipt, key: &[u8], held: &Held) -> bool
     ensures { result ≡ is_missing receipt.now key.now held.now }

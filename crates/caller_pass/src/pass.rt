@@ -9,8 +9,8 @@ use std::marker::Model;
 use std::sync::ledger::{Ledger, Share};
 
 /// The record of one caller of a range: the entries that the caller made, and its readings. A thread that uses a range
-/// has its own pass, and hands it in when the range is closed. Only the range's calls add to it. It has one share of
-/// the book's count, which is the number of its receipts. An index finds its receipts of a key.
+/// has its own pass, and returns it when the range is closed. Only the range's calls add to it. It has one share of the
+/// book's count, which is the number of its receipts. An index finds its receipts of a key.
 ///
 /// ```
 /// let held = range.get(alloc, one, b"a")?;
@@ -84,9 +84,9 @@ impl<L: Ledger> Pass<L> {
         &self.readings
     }
 
-    /// Indexes the receipts that are new since the last call, so that the next read of a key looks at the receipts of
-    /// that key alone, and at those whose keys have an equal front. It hashes the keys that a partner sent; those of
-    /// puts and copies were hashed before. If memory runs out, it leaves the others to the reads.
+    /// Indexes the receipts that are new since the last call, so that the next read of a key looks only at the receipts
+    /// of that key and of keys with the same hash. It hashes the keys that a partner sent; the keys of puts and copies
+    /// were hashed before. If memory runs out, the remaining receipts stay unindexed, and reads look at each of them.
     pub fn index(&mut self)
         ensures { self.new ≡ self.old }
     {

@@ -2,7 +2,7 @@
 use vclock::Bytes;
 use version_set::VersionSet;
 
-/// The versions that a caller read for a key, and the length of the journal then.
+/// The versions that a caller read for a key, and the length of the journal at that time.
 #[derive(Debug, Drop)]
 pub struct Reading {
     /// The number of entries of the journal.

@@ -13,8 +13,8 @@ use std::collections::HashMap;
 /// receipts of a hash are a chain, from the last one back. A place in a chain is kept plus one, so that 0 means no
 /// receipt.
 ///
-/// An index only helps a read: a receipt that it doesn't link is looked at by each read. So it takes no memory for a
-/// key, and doesn't refuse.
+/// An index only makes a read faster: each read looks at the receipts that it doesn't link. Therefore it takes no
+/// memory for a key, and doesn't refuse.
 pub(crate) struct ByKey {
     /// By the hash of a key: the last receipt whose key has that hash.
     last: HashMap<u64, usize>,
@@ -25,7 +25,7 @@ pub(crate) struct ByKey {
 }
 
 impl ByKey {
-    /// Makes the index of no receipts, so that none is linked. Doesn't allocate.
+    /// Makes an index that links no receipts. Doesn't allocate.
     pub(crate) fn new(alloc: Global) -> ByKey
         ensures { (receipts : List Entry) → IsIndex receipts result }
     {
@@ -58,7 +58,8 @@ impl ByKey {
         self.earlier[place]
     }
 
-    /// Keeps the hash of the last receipt's key, if it has those of the receipts before it, and has room for one more.
+    /// Keeps the hash of the last receipt's key, if it has the hashes of all receipts before it, and has capacity for
+    /// one more.
     pub(crate) fn note(&mut self, receipts: &[Receipt], hash: u64)
         requires index { IsIndex receipts.now self.old }
         requires last { hash_at receipts.now (length receipts.now - 1) ≡ Some hash }
@@ -69,7 +70,7 @@ impl ByKey {
         }
     }
 
-    /// Links the receipts that aren't linked yet, or the first few of them if memory runs out. It hashes the key of a
+    /// Links the receipts that aren't linked yet, or the first few of them if memory runs out. Hashes the key of a
     /// receipt whose hash it doesn't have.
     pub(crate) fn index(&mut self, receipts: &[Receipt])
         requires { IsIndex receipts.now self.old }
@@ -97,7 +98,7 @@ impl ByKey {
         Ok(())
     }
 
-    /// Has the hash of the first receipt that isn't linked yet, by hashing its key if need be.
+    /// Ensures that the hash of the first unlinked receipt is known, and hashes its key if necessary.
     fn know_next(&mut self, receipts: &[Receipt]) -> Result<(), AllocError>
         requires index { IsIndex receipts.now self.old }
         requires more { length self.old.earlier.items < length receipts.now }

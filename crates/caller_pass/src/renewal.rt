@@ -16,14 +16,14 @@ use std::alloc::Global;
 use std::sync::ledger::Ledger;
 use vclock::Refusal;
 
-/// A range that was closed and opened again, with its new passes, and with the passes that were handed in.
+/// A range that was closed and opened again, with its new passes and the returned ones.
 #[derive(Drop)]
 pub struct Renewed<L: Ledger> {
     /// The new range.
     pub range: LockedRange<L>,
     /// Its passes, in the order of their seats.
     pub passes: Vec<Pass<L>>,
-    /// The passes that were handed in, in the order in which they were.
+    /// The returned passes, in the order in which they were given.
     pub kept: Vec<ReturnedPass>,
 }
 
@@ -36,9 +36,9 @@ struct Preparation<L: Ledger> {
 }
 
 impl<L: Ledger> LockedRange<L> {
-    /// Closes the range as `close` does, and opens it again as a new one that begins with the versions held, as
-    /// `RangeState::renewed` does, with new passes. The pass of `seat` has the carried entries as receipts, and has
-    /// seen them; the others have none.
+    /// Closes the range like `close`, and opens a new one that begins with the versions held (see
+    /// `RangeState::renewed`), with new passes. The pass of `seat` has the carried entries as receipts, and has seen
+    /// them; the other passes are empty.
     ///
     /// Refused, in order: Stranger (a seat has no pass, or the range has no such seat), BadRing (the limit),
     /// JournalFull, Unsettled, NoMemory, which may replace Unsettled. On error range and passes are returned.
@@ -99,7 +99,7 @@ impl<L: Ledger> LockedRange<L> {
         } = prepared;
         let entries = old.journal().len();
         let (book, passes, kept) = book.renew(alloc, entries, passes, room, seat, receipts);
-        // Called for its clause alone: the state is right.
+        // Called only for its clause: the state is valid.
         let _right = state.journal();
         let range = LockedRange { state, book };
         Renewed {
@@ -110,7 +110,7 @@ impl<L: Ledger> LockedRange<L> {
     }
 }
 
-/// Makes the parts of a renewed range, once the limit was tested and each pass agrees with the journal.
+/// Makes the parts of a renewed range, after testing the limit and comparing each pass with the journal.
 fn prepare<L: Ledger>(
     alloc: Global,
     state: &RangeState,

@@ -61,7 +61,7 @@ pub(crate) fn update<L: Ledger, R: Wait>(
 }
 
 /// Puts a value for a key without a read. Returns the number of clocks that the key holds if the put is refused for
-/// them, and none if the value was put. Refused as [`put`] is, but not as StaleContext.
+/// them, or `None` if the value was put. Refused as [`put`] is, but not as StaleContext.
 pub(crate) fn put_unread<L: Ledger, R: Wait>(
     rt: &R,
     alloc: Global,

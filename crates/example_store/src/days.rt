@@ -20,7 +20,8 @@ use std::sync::ledger::{Blank, Ledger};
 use std::thread::Threads;
 use vclock::Refusal;
 
-/// The place of a byte of the root's text in its answer: after the 16 bytes of the head and the first byte of the text.
+/// The offset of a byte of the root's text in its answer: after the 16 bytes of the head and the first byte of the
+/// text.
 const BYTE_OF_THE_TEXT: usize = 17;
 
 /// The number of the node under which a lost replica returns: one that was never used.
@@ -100,7 +101,7 @@ where
         Ok(())
     }
 
-    /// Puts each cart, and then tries to put one without a read.
+    /// Puts each cart, then tries to put one without a read.
     fn morning<R: Wait + Print>(&mut self, rt: &R) -> Result<(), Fault> {
         self.put_carts(rt, b"empty", Health::Up)?;
         tell_count(rt, "morning", self.keys.carts.len(), "carts put and copied")?;
@@ -128,7 +129,7 @@ where
         Ok(())
     }
 
-    /// Puts at both nodes while no message reaches the other one.
+    /// Puts at both nodes while no message reaches the other node.
     fn partition<R: Threads + Wait + Print + Sync>(&mut self, rt: &R) -> Result<(), Fault> {
         let (range, pass) = (&self.first.range, &mut self.first.client);
         put_beside_rehash(rt, self.alloc, &self.slots, range, pass, &self.keys.orders)?;
@@ -234,8 +235,8 @@ where
         self.end_day(rt)
     }
 
-    /// Saves the rows of the first replica, and loads them as a process does that starts again: into a new replica, at
-    /// a node number that was never used.
+    /// Saves the rows of the first replica, and loads them like a restarted process: into a new replica, at a node
+    /// number that was never used.
     fn third_day<D: Ledger, R: Wait + Print>(&self, rt: &R, blank: Blank) -> Result<(), Fault>
         requires ledger { (blank.name ≡ D.name) × (blank.parts ≡ D.parts) × (blank.parts ≡ 3) }
     {
@@ -277,7 +278,7 @@ where
     }
 }
 
-/// Prints how many things were done at a time of the days.
+/// Prints the number of things done at a time of the days.
 fn tell_count<R: Print>(rt: &R, time: &str, count: usize, things: &str) -> io::Result<()> {
     println!(rt; "  {time}: {count} {things}")
 }

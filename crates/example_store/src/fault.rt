@@ -4,7 +4,7 @@ use std::io;
 use thiserror::Error;
 use vclock::Refusal;
 
-/// The reason why the program could not do its work. Its text goes to standard error.
+/// The reason why the program couldn't do its work. Its text goes to standard error.
 #[derive(Debug, Drop, Error)]
 pub(crate) enum Fault {
     /// A call of the libraries was refused, or memory ran out.

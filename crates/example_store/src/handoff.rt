@@ -1,4 +1,4 @@
-//! The way of a version to the other replica.
+//! The path of a version to the other replica.
 use crate::replica::Replica;
 use range_journal::Source;
 use ring_node::{DeliverReport, SharedController, deliver};

@@ -9,7 +9,7 @@ use std::thread::Threads;
 use vclock::Refusal;
 
 /// Syncs a replica with another one over a channel, while a thread serves the other one's offers. Refused as
-/// [`Replica::sync`] is; LinkLost also if the thread can't be made.
+/// [`Replica::sync`] is; LinkLost also if the thread can't be spawned.
 pub(crate) fn sync_over_channel<A, B, C, R>(
     rt: &R,
     alloc: Global,

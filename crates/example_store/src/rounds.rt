@@ -13,7 +13,7 @@ use vclock::Refusal;
 use walk_messages::Offer;
 
 /// The maximum number of turns of a rehash: more than the number of nodes of a tree, which is 273, or 4,369 in format
-/// 2. The others are for nodes that a put makes dirty meanwhile.
+/// 2. The other turns are for nodes that a put makes dirty meanwhile.
 const REHASH_TURNS: u64 = 5_000;
 
 /// The maximum number of turns of a sync: more than two for each node of a tree.
@@ -38,7 +38,7 @@ pub(crate) fn rehash<L: Ledger, C: Ledger, R: Wait>(
 }
 
 /// Puts keys while two workers hash the range's tree. Refused as the puts and the workers are; NoMemory also if a
-/// thread can't be made.
+/// thread can't be spawned.
 pub(crate) fn put_beside_rehash<L, C, R>(
     rt: &R,
     alloc: Global,
@@ -89,7 +89,7 @@ impl<L: Ledger> Replica<L> {
         self.offers.publish(rt, snapshot)
     }
 
-    /// Hashes the dirty nodes, and takes over a link the versions that the partner has and this replica lacks. Refused:
+    /// Hashes the dirty nodes, and takes the partner's versions that this replica is missing over a link. Refused:
     /// NoSlot, or as [`SharedRange::sync_worker`] is.
     pub(crate) fn sync<C: Ledger, K: Link, R: Wait>(
         &mut self,

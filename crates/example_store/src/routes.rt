@@ -5,10 +5,10 @@ use key_ring::Ring;
 use std::alloc::Global;
 use vclock::Refusal;
 
-/// The number of carts in both ranges together.
+/// The total number of carts in both ranges.
 const CARTS: u64 = 6;
 
-/// The number of orders in both ranges together.
+/// The total number of orders in both ranges.
 const ORDERS: u64 = 100;
 
 /// The two nodes that keep a range, in the order of its preference list.
@@ -58,7 +58,7 @@ pub(crate) struct Keys {
 }
 
 impl Keys {
-    /// Returns the keys in a range among those of all carts and orders. Refused: NoMemory.
+    /// Returns the keys of carts and orders that are in a range. Refused: NoMemory.
     pub(crate) fn of(alloc: Global, ring: &Ring, range: u16) -> Result<Keys, Refusal> {
         let carts = keys_in(alloc, ring, range, "cart", CARTS)?;
         let orders = keys_in(alloc, ring, range, "order", ORDERS)?;

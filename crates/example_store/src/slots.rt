@@ -29,7 +29,7 @@ pub(crate) fn open_slots<C: Ledger>(
 }
 
 /// Reports the latency of a foreground call, in microseconds, at a moment in milliseconds, and returns the number of
-/// slots allowed then. Refused: ClockBack.
+/// slots allowed afterwards. Refused: ClockBack.
 pub(crate) fn report_latency<C: Ledger, R: Wait>(
     rt: &R,
     slots: &SharedController<C>,

@@ -78,7 +78,7 @@ impl<A: Ledger, B: Ledger, C: Ledger> Store<A, B, C> {
         })
     }
 
-    /// Renews both replicas: each goes on with the versions that it holds.
+    /// Renews both replicas: each continues with the versions that it holds.
     pub(crate) fn renew<R: Wait + Print>(self, rt: &R) -> Result<Store<A, B, C>, Fault> {
         let before = self.first.range.counts(rt).entries;
         let store = self.renew_replicas()?;
@@ -87,7 +87,7 @@ impl<A: Ledger, B: Ledger, C: Ledger> Store<A, B, C> {
         Ok(store)
     }
 
-    /// Renews the first replica, and then the second one. Refused as [`Replica::renew`] is.
+    /// Renews the first replica, then the second one. Refused as [`Replica::renew`] is.
     fn renew_replicas(self) -> Result<Store<A, B, C>, Refusal> {
         let Store {
             alloc,
@@ -141,7 +141,7 @@ impl<A: Ledger, B: Ledger, C: Ledger> Drop for Store<A, B, C> {
     }
 }
 
-/// Returns the config of both replicas of a range. Refused: BadRing (the ring has no such range).
+/// Returns the config of both replicas of a range. Refused: BadRing (the range isn't in the ring).
 fn config_of(ring: &Ring, range: u16) -> Result<RangeConfig, Refusal> {
     let (bits, number) = (u64::from(ring.bits()), u64::from(range));
     RangeConfig::new(FORMAT, bits, number, JOURNAL_LIMIT).ok_or(Refusal::BadRing)

@@ -26,7 +26,8 @@ goes x going =
     record { bad = ltb-false x.bounds.bad x.tally.bad second.1; lost = ltb-false x.bounds.lost x.tally.lost first.1 }
 
 -- an ask was sent
-pub fair_ask : (x : Course) (n : Node) (a : Standing) (bytes : ℕ) → IsFair x → Goes x → x.stop ≡ None → standing_of x.standings n ≡ Some a → may_ask (Some a) ≡ true → IsFair (after_ask x (Some (n, bytes)))
+pub fair_ask : (x : Course) (n : Node) (a : Standing) (bytes : ℕ) → IsFair x → Goes x → x.stop ≡ None → standing_of x.standings n ≡ Some a
+    → may_ask (Some a) ≡ true → IsFair (after_ask x (Some (n, bytes)))
 fair_ask x n Unasked bytes fair going stop at may =
     let m : Moved x.standings (place_of n) Unasked (OnWay bytes) = moved x.standings (place_of n) Unasked (OnWay bytes) at in
     record {
@@ -56,7 +57,8 @@ fair_ask x n Left bytes fair going stop at may = absurd (cc)
 fair_ask x n Settled bytes fair going stop at may = absurd (cc)
 
 -- the same, whatever its standing was
-pub fair_asked : (x : Course) (n : Node) (bytes : ℕ) → IsFair x → Goes x → x.stop ≡ None → may_ask (standing_of x.standings n) ≡ true → IsFair (after_ask x (Some (n, bytes)))
+pub fair_asked : (x : Course) (n : Node) (bytes : ℕ) → IsFair x → Goes x → x.stop ≡ None → may_ask (standing_of x.standings n) ≡ true
+    → IsFair (after_ask x (Some (n, bytes)))
 fair_asked x n bytes fair going stop may = by (standing_of x.standings n) refl may
   where
     by : (o : Option Standing) → standing_of x.standings n ≡ o → may_ask o ≡ true → IsFair (after_ask x (Some (n, bytes)))
@@ -76,10 +78,12 @@ pub left : Ends Left
 left = record { asked = refl; lost = refl; way = refl }
 
 -- the answer for a node was taken, or its leaf was left
-pub fair_end : (x : Course) (n : Node) (a b : Standing) → IsFair x → standing_of x.standings n ≡ Some a → may_take (Some a) ≡ true → Ends b → IsFair (at_node x n b)
+pub fair_end : (x : Course) (n : Node) (a b : Standing) → IsFair x → standing_of x.standings n ≡ Some a → may_take (Some a) ≡ true → Ends b
+    → IsFair (at_node x n b)
 fair_end x n (OnWay bytes) b fair at may ends =
     let m : Moved x.standings (place_of n) (OnWay bytes) b = moved x.standings (place_of n) (OnWay bytes) b at in
-    let asked : one (is_asked b) ≡ 1 = ap one ends.asked in let lost : one (is_lost b) ≡ 0 = ap one ends.lost in let way : one (is_on_way b) ≡ 0 = ap one ends.way in
+    let asked : one (is_asked b) ≡ 1 = ap one ends.asked in let lost : one (is_lost b) ≡ 0 = ap one ends.lost in
+    let way : one (is_on_way b) ≡ 0 = ap one ends.way in
     record {
       nodes = omega (arith, m.len, fair.nodes);
       again = omega (arith, m.asked, m.lost, fair.again, asked, lost);
@@ -92,7 +96,8 @@ fair_end x n (OnWay bytes) b fair at may ends =
     }
 fair_end x n Lost b fair at may ends =
     let m : Moved x.standings (place_of n) Lost b = moved x.standings (place_of n) Lost b at in
-    let asked : one (is_asked b) ≡ 1 = ap one ends.asked in let lost : one (is_lost b) ≡ 0 = ap one ends.lost in let way : one (is_on_way b) ≡ 0 = ap one ends.way in
+    let asked : one (is_asked b) ≡ 1 = ap one ends.asked in let lost : one (is_lost b) ≡ 0 = ap one ends.lost in
+    let way : one (is_on_way b) ≡ 0 = ap one ends.way in
     record {
       nodes = omega (arith, m.len, fair.nodes);
       again = omega (arith, m.asked, m.lost, fair.again, asked, lost);
@@ -117,11 +122,29 @@ fair_ended x n b fair may ends = by (standing_of x.standings n) refl may
 
 -- a session has failed
 pub fair_failed : (x : Course) (e : Option End) → IsFair x → IsFair (record x { end = e })
-fair_failed x e fair = record { nodes = fair.nodes; again = fair.again; most = fair.most; bad = fair.bad; lost = fair.lost; refused = fair.refused; sent = fair.sent; going = fair.going }
+fair_failed x e fair = record {
+  nodes = fair.nodes;
+  again = fair.again;
+  most = fair.most;
+  bad = fair.bad;
+  lost = fair.lost;
+  refused = fair.refused;
+  sent = fair.sent;
+  going = fair.going;
+}
 
 -- one more bad answer
 pub fair_bad : (x : Course) → IsFair x → Goes x → IsFair (with_bad x)
-fair_bad x fair going = record { nodes = fair.nodes; again = omega (arith, fair.again); most = fair.most; bad = omega (arith, going.bad); lost = fair.lost; refused = fair.refused; sent = fair.sent; going = fair.going }
+fair_bad x fair going = record {
+  nodes = fair.nodes;
+  again = omega (arith, fair.again);
+  most = fair.most;
+  bad = omega (arith, going.bad);
+  lost = fair.lost;
+  refused = fair.refused;
+  sent = fair.sent;
+  going = fair.going;
+}
 
 -- an answer of another digest
 pub fair_wrong : (x : Course) (n : Node) → IsFair x → Goes x → IsFair (after_wrong x n)
@@ -177,7 +200,16 @@ retractable x n fair sent =
 -- asks are sent again
 pub fair_on : (x : Course) → IsFair x → Goes x → IsFair (gone_on x)
 fair_on x fair going =
-    record { nodes = fair.nodes; again = omega (arith, fair.again); most = fair.most; bad = fair.bad; lost = omega (arith, going.lost, fair.refused); refused = omega (arith, fair.refused); sent = fair.sent; going = λ _. refl }
+    record {
+      nodes = fair.nodes;
+      again = omega (arith, fair.again);
+      most = fair.most;
+      bad = fair.bad;
+      lost = omega (arith, going.lost, fair.refused);
+      refused = omega (arith, fair.refused);
+      sent = fair.sent;
+      going = λ _. refl;
+    }
 
 stopped : (s : Option Stop) (cause : Stop) → stop_by s cause ≡ None → ⊥
 stopped None cause e = absurd (cc)
@@ -199,7 +231,8 @@ fair_refused x n cause fair =
     }
 
 -- a text was taken
-pub fair_taken : (x : Course) (n : Node) (leaf : Bool) (len : ℕ) (taken : AnswerTaken) → IsFair x → may_take (standing_of x.standings n) ≡ true → IsFair (after_taken x n leaf len taken)
+pub fair_taken : (x : Course) (n : Node) (leaf : Bool) (len : ℕ) (taken : AnswerTaken) → IsFair x → may_take (standing_of x.standings n) ≡ true
+    → IsFair (after_taken x n leaf len taken)
 fair_taken x n leaf len taken fair may =
     let f = fair_ended x n Settled fair may settled in
     record { nodes = f.nodes; again = f.again; most = f.most; bad = f.bad; lost = f.lost; refused = f.refused; sent = f.sent; going = f.going }

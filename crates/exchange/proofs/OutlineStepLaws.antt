@@ -26,7 +26,8 @@ nevers_all (suc n) = let rest = nevers_all n in omega (arith, rest)
 
 ends : (xs : List Outlining) (i : ℕ) → nevers (slice_set xs i Ended) ≤ nevers xs
 ends [] i = omega arith
-ends (x ∷ xs) zero = elim x as (λ y. weight Ended + nevers xs ≤ weight y + nevers xs) [ Never ↦ omega arith | Sent ↦ omega arith | Ended ↦ omega arith ]
+ends (x ∷ xs) zero = elim x as
+    (λ y. weight Ended + nevers xs ≤ weight y + nevers xs) [ Never ↦ omega arith | Sent ↦ omega arith | Ended ↦ omega arith ]
 ends (x ∷ xs) (suc i) = omega (arith, ends xs i)
 
 sends : (xs : List Outlining) (i : ℕ) → is_never (slice_get xs i) ≡ true → nevers (slice_set xs i Sent) + 1 ≤ nevers xs
@@ -38,7 +39,12 @@ sends (x ∷ xs) (suc i) is = omega (arith, sends xs i is)
 
 sent_few : (o : Outlines) (steps : List OutlineStep) → MayOutlineAll o steps → sent_in steps ≤ nevers o.nodes
 sent_few o [] may = omega arith
-sent_few o (Sends n ∷ steps) may = omega (arith, sent_few (outlines_after o (Sends n)) steps may.1, sends o.nodes (place_of n) (and_parts (nat_lt o.misses 3) (is_never (slice_get o.nodes (place_of n))) may.0).1)
+sent_few o (Sends n ∷ steps) may =
+    omega (
+      arith,
+      sent_few (outlines_after o (Sends n)) steps may.1,
+      sends o.nodes (place_of n) (and_parts (nat_lt o.misses 3) (is_never (slice_get o.nodes (place_of n))) may.0).1,
+    )
 sent_few o (Misses n ∷ steps) may = omega (arith, sent_few (outlines_after o (Misses n)) steps may.1, ends o.nodes (place_of n))
 sent_few o (Brings n ∷ steps) may = omega (arith, sent_few (outlines_after o (Brings n)) steps may.1, ends o.nodes (place_of n))
 

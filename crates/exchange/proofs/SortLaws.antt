@@ -21,7 +21,9 @@ use Rattle.exchange.specs.Exchanges.{on, going_in, concluded, TakesText, TakesFo
 
 -- an answer of another offer
 pub sorts_other : (x : Course) (a : Answer) → nat_eq a.offer x.offer.offer ≡ false → IsVerdictBy (sorted x (Some a)) verdicts.Late x
-sorts_other x a other = subst (λ (b : Bool). IsVerdictBy (if b then sorted_at x a (standing_of x.standings a.node) else (Err verdicts.Late, x)) verdicts.Late x) (sym other) (refl, refl)
+sorts_other x a other = subst
+    (λ (b : Bool). IsVerdictBy (if b then sorted_at x a (standing_of x.standings a.node) else (Err verdicts.Late, x)) verdicts.Late x) (sym other)
+    (refl, refl)
 
 -- an answer of the offer, by the standing of its node
 module _ (x : Course) (a : Answer) (o : Option Standing) (ours : nat_eq a.offer x.offer.offer ≡ true) (at : standing_of x.standings a.node ≡ o) where
@@ -42,7 +44,8 @@ due_when x a (Some standings.Settled) may = absurd (cc)
 due_when x a (Some standings.Unasked) may = absurd (cc)
 due_when x a None may = absurd (cc)
 
-pub late_when : (x : Course) (a : Answer) (o : Option Standing) → may_take o ≡ false → was_asked o ≡ true → IsVerdictBy (sorted_at x a o) verdicts.Late x
+pub late_when : (x : Course) (a : Answer) (o : Option Standing) → may_take o ≡ false → was_asked o ≡ true
+    → IsVerdictBy (sorted_at x a o) verdicts.Late x
 late_when x a (Some (standings.OnWay bytes)) may asked = absurd (cc)
 late_when x a (Some standings.Lost) may asked = absurd (cc)
 late_when x a (Some standings.Left) may asked = (refl, refl)
@@ -50,7 +53,8 @@ late_when x a (Some standings.Settled) may asked = (refl, refl)
 late_when x a (Some standings.Unasked) may asked = absurd (cc)
 late_when x a None may asked = absurd (cc)
 
-pub bad_when : (x : Course) (a : Answer) (o : Option Standing) → was_asked o ≡ false → IsVerdictBy (sorted_at x a o) (verdicts.Bad refusals.NotAsked) (with_bad x)
+pub bad_when : (x : Course) (a : Answer) (o : Option Standing) → was_asked o ≡ false
+    → IsVerdictBy (sorted_at x a o) (verdicts.Bad refusals.NotAsked) (with_bad x)
 bad_when x a (Some (standings.OnWay bytes)) asked = absurd (cc)
 bad_when x a (Some standings.Lost) asked = absurd (cc)
 bad_when x a (Some standings.Left) asked = absurd (cc)
@@ -59,33 +63,59 @@ bad_when x a (Some standings.Unasked) asked = (refl, refl)
 bad_when x a None asked = (refl, refl)
 
 -- what is due may be taken, and nothing has changed
-due_may : (x y : Course) (a : Answer) (o : Option Standing) (parts : Node × List ℕ) → standing_of x.standings a.node ≡ o → IsDueBy (sorted_at x a o) parts y → (may_take (standing_of y.standings parts.0) ≡ true) × (y ≡ x)
-due_may x y a (Some (standings.OnWay bytes)) parts at is = (subst (λ (z : Course). may_take (standing_of z.standings parts.0) ≡ true) (sym is.1) (ap (λ (n : Node). may_take (standing_of x.standings n)) (ap (λ (q : Node × List ℕ). q.0) is.0) ∙ ap may_take at), is.1)
-due_may x y a (Some standings.Lost) parts at is = (subst (λ (z : Course). may_take (standing_of z.standings parts.0) ≡ true) (sym is.1) (ap (λ (n : Node). may_take (standing_of x.standings n)) (ap (λ (q : Node × List ℕ). q.0) is.0) ∙ ap may_take at), is.1)
+due_may : (x y : Course) (a : Answer) (o : Option Standing) (parts : Node × List ℕ) → standing_of x.standings a.node ≡ o
+    → IsDueBy (sorted_at x a o) parts y → (may_take (standing_of y.standings parts.0) ≡ true) × (y ≡ x)
+due_may x y a (Some (standings.OnWay bytes)) parts at is = (
+  subst (λ (z : Course). may_take (standing_of z.standings parts.0) ≡ true) (sym is.1)
+      (ap (λ (n : Node). may_take (standing_of x.standings n)) (ap (λ (q : Node × List ℕ). q.0) is.0) ∙ ap may_take at),
+  is.1,
+)
+due_may x y a (Some standings.Lost) parts at is = (
+  subst (λ (z : Course). may_take (standing_of z.standings parts.0) ≡ true) (sym is.1)
+      (ap (λ (n : Node). may_take (standing_of x.standings n)) (ap (λ (q : Node × List ℕ). q.0) is.0) ∙ ap may_take at),
+  is.1,
+)
 due_may x y a (Some standings.Left) parts at is = absurd is
 due_may x y a (Some standings.Settled) parts at is = absurd is
 due_may x y a (Some standings.Unasked) parts at is = absurd is
 due_may x y a None parts at is = absurd is
 
-ours_may : (x y : Course) (a : Answer) (parts : Node × List ℕ) (b : Bool) → IsDueBy (if b then sorted_at x a (standing_of x.standings a.node) else (Err verdicts.Late, x)) parts y → (may_take (standing_of y.standings parts.0) ≡ true) × (y ≡ x)
+ours_may : (x y : Course) (a : Answer) (parts : Node × List ℕ) (b : Bool)
+    → IsDueBy (if b then sorted_at x a (standing_of x.standings a.node) else (Err verdicts.Late, x)) parts y
+    → (may_take (standing_of y.standings parts.0) ≡ true) × (y ≡ x)
 ours_may x y a parts true is = due_may x y a (standing_of x.standings a.node) parts refl is
 ours_may x y a parts false is = absurd is
 
-pub sorted_may : (x y : Course) (read : Option Answer) (parts : Node × List ℕ) → IsDueBy (sorted x read) parts y → (may_take (standing_of y.standings parts.0) ≡ true) × (y ≡ x)
+pub sorted_may : (x y : Course) (read : Option Answer) (parts : Node × List ℕ) → IsDueBy (sorted x read) parts y
+    → (may_take (standing_of y.standings parts.0) ≡ true) × (y ≡ x)
 sorted_may x y None parts is = absurd is
 sorted_may x y (Some a) parts is = ours_may x y a parts (nat_eq a.offer x.offer.offer) is
 
 -- an answer that is due is taken
-takes_sorted : (x z : Exchange) (s t : State) (seat : ℕ) (r : Record) (p : Sorted × Course) (parts : Node × List ℕ) (y : Course) (leaf : Bool) (said : Result AnswerTaken Refusal) (v : Verdict) → IsDueBy p parts y → TakesText s seat x.session (record { node = parts.0; text = parts.1 }) said t → leaf ≡ is_leaf r.session.own parts.0 → v ≡ (concluded (on x y) parts.0 leaf (length parts.1) said).0 → z ≡ (concluded (on x y) parts.0 leaf (length parts.1) said).1 → TakesSorted x s seat r p v z t
+takes_sorted : (x z : Exchange) (s t : State) (seat : ℕ) (r : Record) (p : Sorted × Course) (parts : Node × List ℕ) (y : Course) (leaf : Bool)
+    (said : Result AnswerTaken Refusal) (v : Verdict) → IsDueBy p parts y
+    → TakesText s seat x.session (record { node = parts.0; text = parts.1 }) said t → leaf ≡ is_leaf r.session.own parts.0
+    → v ≡ (concluded (on x y) parts.0 leaf (length parts.1) said).0 → z ≡ (concluded (on x y) parts.0 leaf (length parts.1) said).1
+    → TakesSorted x s seat r p v z t
 takes_sorted x z s t seat r (Ok a, c) parts y leaf said v due takes leaf_is verdict exchange = record {
   said = said;
   takes = subst (λ (q : Node × List ℕ). TakesText s seat x.session (record { node = q.0; text = q.1 }) said t) due.0 takes;
-  verdict = verdict ∙ (ap (λ l. (concluded (on x y) parts.0 l (length parts.1) said).0) leaf_is ∙ (λ i. (concluded (on x (due.1 i)) (due.0 i).0 (is_leaf r.session.own (due.0 i).0) (length (due.0 i).1) said).0));
-  exchange = exchange ∙ (ap (λ l. (concluded (on x y) parts.0 l (length parts.1) said).1) leaf_is ∙ (λ i. (concluded (on x (due.1 i)) (due.0 i).0 (is_leaf r.session.own (due.0 i).0) (length (due.0 i).1) said).1));
+  verdict = verdict ∙ (ap (λ l. (concluded (on x y) parts.0 l (length parts.1) said).0) leaf_is
+      ∙ (λ i. (concluded (on x (due.1 i)) (due.0 i).0 (is_leaf r.session.own (due.0 i).0) (length (due.0 i).1) said).0));
+  exchange = exchange ∙ (ap (λ l. (concluded (on x y) parts.0 l (length parts.1) said).1) leaf_is
+      ∙ (λ i. (concluded (on x (due.1 i)) (due.0 i).0 (is_leaf r.session.own (due.0 i).0) (length (due.0 i).1) said).1));
 }
 takes_sorted x z s t seat r (Err w, c) parts y leaf said v due takes leaf_is verdict exchange = absurd due
 
-pub takes_due : (x z : Exchange) (s t : State) (seat : ℕ) (bytes : List ℕ) (r : Record) (read : Option Answer) (parts : Node × List ℕ) (y : Course) (leaf : Bool) (said : Result AnswerTaken Refusal) (v : Verdict) → going_in x s ≡ Some r → IsRead bytes read → IsDueBy (sorted x.course read) parts y → TakesText s seat x.session (record { node = parts.0; text = parts.1 }) said t → leaf ≡ is_leaf r.session.own parts.0 → v ≡ (concluded (on x y) parts.0 leaf (length parts.1) said).0 → z ≡ (concluded (on x y) parts.0 leaf (length parts.1) said).1 → TakesFor x s seat bytes (going_in x s) v z t
+pub takes_due : (x z : Exchange) (s t : State) (seat : ℕ) (bytes : List ℕ) (r : Record) (read : Option Answer) (parts : Node × List ℕ) (y : Course)
+    (leaf : Bool) (said : Result AnswerTaken Refusal) (v : Verdict) → going_in x s ≡ Some r → IsRead bytes read
+    → IsDueBy (sorted x.course read) parts y → TakesText s seat x.session (record { node = parts.0; text = parts.1 }) said t
+    → leaf ≡ is_leaf r.session.own parts.0 → v ≡ (concluded (on x y) parts.0 leaf (length parts.1) said).0
+    → z ≡ (concluded (on x y) parts.0 leaf (length parts.1) said).1 → TakesFor x s seat bytes (going_in x s) v z t
 takes_due x z s t seat bytes r read parts y leaf said v going is due takes leaf_is verdict exchange =
     subst (λ (o : Option Record). TakesFor x s seat bytes o v z t) (sym going)
-    (record { read = read; is = is; taken = takes_sorted x z s t seat r (sorted x.course read) parts y leaf said v due takes leaf_is verdict exchange })
+    (record {
+      read = read;
+      is = is;
+      taken = takes_sorted x z s t seat r (sorted x.course read) parts y leaf said v due takes leaf_is verdict exchange;
+    })

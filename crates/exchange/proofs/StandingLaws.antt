@@ -8,7 +8,8 @@ use Rattle.std.proofs.lemmas.Option.{same_Some, slice_get_within, get_or_from_sl
 use Rattle.exchange.specs.declared.standing.Standing.{Standing}
 use Rattle.exchange.specs.declared.standing.Standing.TheVariants.{Unasked, OnWay, Lost, Left, Settled}
 use Rattle.tree_nodes.specs.Nodes.{Node, place_of}
-use Rattle.exchange.specs.Standings.{is_on_way, is_asked, is_lost, is_sent, sent_bytes, may_ask, may_take, way_bytes, ways, ways_bytes, standing_of, with_standing, lost_in, first_askable}
+use Rattle.exchange.specs.Standings.{is_on_way, is_asked, is_lost, is_sent, sent_bytes, may_ask, may_take, way_bytes, ways, ways_bytes, standing_of}
+use Rattle.exchange.specs.Standings.{with_standing, lost_in, first_askable}
 
 abbrev pub one : Bool → ℕ
 one b = cond {A = ℕ} b 1 0
@@ -35,9 +36,12 @@ moved xs i a b there =
     record {
       within = lt;
       len = length-set xs i b;
-      way = ap (λ (s : Standing). count_by is_on_way (set xs i b) + one (is_on_way s)) (sym at) ∙ sum_by-set {X = Standing} (λ s. one (is_on_way s)) xs i b a lt;
-      asked = ap (λ (s : Standing). count_by is_asked (set xs i b) + one (is_asked s)) (sym at) ∙ sum_by-set {X = Standing} (λ s. one (is_asked s)) xs i b a lt;
-      lost = ap (λ (s : Standing). count_by is_lost (set xs i b) + one (is_lost s)) (sym at) ∙ sum_by-set {X = Standing} (λ s. one (is_lost s)) xs i b a lt;
+      way = ap (λ (s : Standing). count_by is_on_way (set xs i b) + one (is_on_way s)) (sym at)
+          ∙ sum_by-set {X = Standing} (λ s. one (is_on_way s)) xs i b a lt;
+      asked = ap (λ (s : Standing). count_by is_asked (set xs i b) + one (is_asked s)) (sym at)
+          ∙ sum_by-set {X = Standing} (λ s. one (is_asked s)) xs i b a lt;
+      lost = ap (λ (s : Standing). count_by is_lost (set xs i b) + one (is_lost s)) (sym at)
+          ∙ sum_by-set {X = Standing} (λ s. one (is_lost s)) xs i b a lt;
       bytes = ap (λ (s : Standing). sum_by way_bytes (set xs i b) + way_bytes s) (sym at) ∙ sum_by-set {X = Standing} way_bytes xs i b a lt;
       most = count_by-le-length {X = Standing} is_asked (set xs i b);
       ways_most = count_by-le-length {X = Standing} is_on_way (set xs i b);
@@ -53,7 +57,8 @@ no_more Settled count bytes none e = omega (arith, none (omega (arith, e)))
 -- if no ask is on its way, no answer is
 pub no_bytes : (xs : List Standing) → ways xs ≡ 0 → ways_bytes xs ≡ 0
 no_bytes [] none = refl
-no_bytes (s ∷ xs) none = sum_by-cons {X = Standing} way_bytes s xs ∙ no_more s (count_by is_on_way xs) (ways_bytes xs) (no_bytes xs) (sym (sum_by-cons {X = Standing} (λ x. one (is_on_way x)) s xs) ∙ none)
+no_bytes (s ∷ xs) none = sum_by-cons {X = Standing} way_bytes s xs
+    ∙ no_more s (count_by is_on_way xs) (ways_bytes xs) (no_bytes xs) (sym (sum_by-cons {X = Standing} (λ x. one (is_on_way x)) s xs) ∙ none)
 
 -- the counts when the ask for a node is lost, if it is on its way
 pub record Losing (xs : List Standing) (n : Node) : Type 0 where
@@ -77,7 +82,8 @@ losing_one xs n bytes at =
     let m = moved xs (place_of n) (OnWay bytes) Lost at in
     record { len = m.len; asked = omega (arith, m.asked); lost = omega (arith, m.lost); way = omega (arith, m.way) }
 
-losing_by : (xs : List Standing) (n : Node) (o : Option Standing) → standing_of xs n ≡ o → LosingTo xs (if is_sent o then with_standing xs n Lost else xs) (is_sent o)
+losing_by : (xs : List Standing) (n : Node) (o : Option Standing) → standing_of xs n ≡ o
+    → LosingTo xs (if is_sent o then with_standing xs n Lost else xs) (is_sent o)
 losing_by xs n (Some (OnWay bytes)) at = losing_one xs n bytes at
 losing_by xs n (Some Unasked) at = losing_same xs
 losing_by xs n (Some Lost) at = losing_same xs
@@ -97,8 +103,10 @@ pub record Sending (xs : List Standing) (n : Node) (bytes : ℕ) : Type 0 where
   pub bytes_are : ways_bytes (with_standing xs n (OnWay bytes)) ≡ ways_bytes xs + bytes
 
 sending_by : (xs : List Standing) (n : Node) (bytes : ℕ) (o : Option Standing) → standing_of xs n ≡ o → may_ask o ≡ true → Sending xs n bytes
-sending_by xs n bytes (Some Unasked) at may = let m = moved xs (place_of n) Unasked (OnWay bytes) at in record { within = m.within; way = omega (arith, m.way); bytes_are = omega (arith, m.bytes) }
-sending_by xs n bytes (Some Lost) at may = let m = moved xs (place_of n) Lost (OnWay bytes) at in record { within = m.within; way = omega (arith, m.way); bytes_are = omega (arith, m.bytes) }
+sending_by xs n bytes (Some Unasked) at may = let m = moved xs (place_of n) Unasked (OnWay bytes) at in
+    record { within = m.within; way = omega (arith, m.way); bytes_are = omega (arith, m.bytes) }
+sending_by xs n bytes (Some Lost) at may = let m = moved xs (place_of n) Lost (OnWay bytes) at in
+    record { within = m.within; way = omega (arith, m.way); bytes_are = omega (arith, m.bytes) }
 sending_by xs n bytes (Some (OnWay b)) at may = absurd (cc)
 sending_by xs n bytes (Some Left) at may = absurd (cc)
 sending_by xs n bytes (Some Settled) at may = absurd (cc)
@@ -120,15 +128,19 @@ none_on_way Lost e = refl
 none_on_way Left e = refl
 none_on_way Settled e = refl
 
-ending_by : (xs : List Standing) (n : Node) (b : Standing) (o : Option Standing) → standing_of xs n ≡ o → may_take o ≡ true → is_on_way b ≡ false → Ending xs n b o
-ending_by xs n b (Some (OnWay bytes)) at may quiet = let m = moved xs (place_of n) (OnWay bytes) b at in let way : one (is_on_way b) ≡ 0 = ap one quiet in record { within = m.within; way = omega (arith, m.way, way); bytes_are = omega (arith, m.bytes, none_on_way b quiet) }
-ending_by xs n b (Some Lost) at may quiet = let m = moved xs (place_of n) Lost b at in let way : one (is_on_way b) ≡ 0 = ap one quiet in record { within = m.within; way = omega (arith, m.way, way); bytes_are = omega (arith, m.bytes, none_on_way b quiet) }
+ending_by : (xs : List Standing) (n : Node) (b : Standing) (o : Option Standing) → standing_of xs n ≡ o → may_take o ≡ true → is_on_way b ≡ false
+    → Ending xs n b o
+ending_by xs n b (Some (OnWay bytes)) at may quiet = let m = moved xs (place_of n) (OnWay bytes) b at in let way : one (is_on_way b) ≡ 0 =
+    ap one quiet in record { within = m.within; way = omega (arith, m.way, way); bytes_are = omega (arith, m.bytes, none_on_way b quiet) }
+ending_by xs n b (Some Lost) at may quiet = let m = moved xs (place_of n) Lost b at in let way : one (is_on_way b) ≡ 0 = ap one quiet in
+    record { within = m.within; way = omega (arith, m.way, way); bytes_are = omega (arith, m.bytes, none_on_way b quiet) }
 ending_by xs n b (Some Unasked) at may quiet = absurd (cc)
 ending_by xs n b (Some Left) at may quiet = absurd (cc)
 ending_by xs n b (Some Settled) at may quiet = absurd (cc)
 ending_by xs n b None at may quiet = absurd (cc)
 
-pub ending : (xs : List Standing) (n : Node) (b : Standing) → may_take (standing_of xs n) ≡ true → is_on_way b ≡ false → Ending xs n b (standing_of xs n)
+pub ending : (xs : List Standing) (n : Node) (b : Standing) → may_take (standing_of xs n) ≡ true → is_on_way b ≡ false
+    → Ending xs n b (standing_of xs n)
 ending xs n b may quiet = ending_by xs n b (standing_of xs n) refl may quiet
 
 -- the first node that may be asked may be asked
@@ -136,6 +148,8 @@ pub first_may : (xs : List Standing) (nodes : List Node) (n : Node) → first_as
 first_may xs [] n e = absurd (cc)
 first_may xs (m ∷ nodes) n e = first_by xs m nodes n (may_ask (standing_of xs m)) refl (first_may xs nodes n) e
   where
-    first_by : (xs : List Standing) (m : Node) (nodes : List Node) (n : Node) (b : Bool) → may_ask (standing_of xs m) ≡ b → (first_askable xs nodes ≡ Some n → may_ask (standing_of xs n) ≡ true) → (if b then Some m else first_askable xs nodes) ≡ Some n → may_ask (standing_of xs n) ≡ true
+    first_by : (xs : List Standing) (m : Node) (nodes : List Node) (n : Node) (b : Bool) → may_ask (standing_of xs m) ≡ b
+        → (first_askable xs nodes ≡ Some n → may_ask (standing_of xs n) ≡ true) → (if b then Some m else first_askable xs nodes) ≡ Some n
+        → may_ask (standing_of xs n) ≡ true
     first_by xs m nodes n true may rest e = subst (λ (k : Node). may_ask (standing_of xs k) ≡ true) (same_Some m n e) may
     first_by xs m nodes n false may rest e = rest e

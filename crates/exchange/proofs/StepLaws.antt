@@ -28,7 +28,8 @@ use Rattle.exchange.specs.Asks.{next_in, fitting, has_room, estimate, is_leaf, a
 use Rattle.exchange.specs.Answers.{sorted, sorted_at, with_bad, judged}
 use Rattle.exchange.specs.Steps.{Step, Asks, Loses, Retracts, GoesOn, Closes, Sorts, Judges, after, May, MayAll, after_all, at_start}
 use Rattle.exchange.proofs.StandingLaws.{one, losing, first_may}
-use Rattle.exchange.proofs.FairLaws.{goes, fair_asked, fair_ended, fair_failed, fair_bad, fair_wrong, fair_lost, fair_retracted, fair_on, fair_refused, fair_taken, settled, left}
+use Rattle.exchange.proofs.FairLaws.{goes, fair_asked, fair_ended, fair_failed, fair_bad, fair_wrong, fair_lost, fair_retracted, fair_on}
+use Rattle.exchange.proofs.FairLaws.{fair_refused, fair_taken, settled, left}
 
 -- the node of the next ask may be asked, and asks go on
 pub record IsNext (x : Course) (n : Node) : Type 0 where
@@ -55,17 +56,23 @@ no_stop (Some cause) e = absurd (cc)
 pub next_is : (x : Course) (w : Walk) (p : Node × ℕ) → next_in x w ≡ Some p → IsNext x p.0
 next_is x w p e = by (is_some x.stop || is_over x) refl e
   where
-    by : (b : Bool) → (is_some x.stop || is_over x) ≡ b → (if b then None else fitting x w.own (first_askable x.standings w.outstanding)) ≡ Some p → IsNext x p.0
+    by : (b : Bool) → (is_some x.stop || is_over x) ≡ b → (if b then None else fitting x w.own (first_askable x.standings w.outstanding)) ≡ Some p
+        → IsNext x p.0
     by true is none = absurd (cc)
     by false is some =
         let parts = or_parts (is_some x.stop) (is_over x) is in
-        record { may = first_may x.standings w.outstanding p.0 (fitting_is x w.own (first_askable x.standings w.outstanding) p some); stop = no_stop x.stop parts.0; over = parts.1 }
+        record {
+          may = first_may x.standings w.outstanding p.0 (fitting_is x w.own (first_askable x.standings w.outstanding) p some);
+          stop = no_stop x.stop parts.0;
+          over = parts.1;
+        }
 
 -- it is the first of the outstanding nodes that may be asked
 pub next_first : (x : Course) (w : Walk) (p : Node × ℕ) → next_in x w ≡ Some p → first_askable x.standings w.outstanding ≡ Some p.0
 next_first x w p e = by (is_some x.stop || is_over x) e
   where
-    by : (b : Bool) → (if b then None else fitting x w.own (first_askable x.standings w.outstanding)) ≡ Some p → first_askable x.standings w.outstanding ≡ Some p.0
+    by : (b : Bool) → (if b then None else fitting x w.own (first_askable x.standings w.outstanding)) ≡ Some p
+        → first_askable x.standings w.outstanding ≡ Some p.0
     by true none = absurd (cc)
     by false some = fitting_is x w.own (first_askable x.standings w.outstanding) p some
 
@@ -83,7 +90,12 @@ follow_ask x w fair = by (next_in x w) refl
   where
     by : (o : Option (Node × ℕ)) → next_in x w ≡ o → Follows x (after_ask x o)
     by None e = same x fair
-    by (Some p) e = let n = next_is x w p e in record { fair = fair_asked x p.0 p.1 fair (goes x n.over) n.stop n.may; bounds = refl; nodes = length-set x.standings (place_of p.0) (standings.OnWay p.1) }
+    by (Some p) e = let n = next_is x w p e in
+        record {
+          fair = fair_asked x p.0 p.1 fair (goes x n.over) n.stop n.may;
+          bounds = refl;
+          nodes = length-set x.standings (place_of p.0) (standings.OnWay p.1);
+        }
 
 follow_loss : (x : Course) (n : Node) → IsFair x → Follows x (after_loss x n)
 follow_loss x n fair = by (is_over x) refl (is_sent (standing_of x.standings n))
@@ -119,14 +131,22 @@ follow_sorted x (Some a) fair over = by (nat_eq a.offer x.offer.offer)
     by true = follow_sorted_at x a (standing_of x.standings a.node) fair over
     by false = same x fair
 
-follow_judged : (x : Course) (n : Node) (leaf : Bool) (len : ℕ) (said : Result AnswerTaken Refusal) → IsFair x → is_over x ≡ false → may_take (standing_of x.standings n) ≡ true → Follows x (judged x n leaf len said).1
-follow_judged x n leaf len (Ok taken) fair over may = record { fair = fair_taken x n leaf len taken fair may; bounds = refl; nodes = length-set x.standings (place_of n) standings.Settled }
-follow_judged x n leaf len (Err refusals.Crowded) fair over may = record { fair = fair_ended x n standings.Left fair may left; bounds = refl; nodes = length-set x.standings (place_of n) standings.Left }
-follow_judged x n leaf len (Err refusals.NotAsked) fair over may = record { fair = fair_ended x n standings.Settled fair may settled; bounds = refl; nodes = length-set x.standings (place_of n) standings.Settled }
-follow_judged x n leaf len (Err refusals.WrongDigest) fair over may = record { fair = fair_wrong x n fair (goes x over); bounds = refl; nodes = (losing x.standings n).len }
-follow_judged x n leaf len (Err refusals.NotCanonical) fair over may = record { fair = fair_failed x (Some ends.Failed) fair; bounds = refl; nodes = refl }
-follow_judged x n leaf len (Err refusals.JournalFull) fair over may = record { fair = fair_refused x n stops.JournalFull fair; bounds = refl; nodes = (losing x.standings n).len }
-follow_judged x n leaf len (Err refusals.NoMemory) fair over may = record { fair = fair_refused x n stops.NoMemory fair; bounds = refl; nodes = (losing x.standings n).len }
+follow_judged : (x : Course) (n : Node) (leaf : Bool) (len : ℕ) (said : Result AnswerTaken Refusal) → IsFair x → is_over x ≡ false
+    → may_take (standing_of x.standings n) ≡ true → Follows x (judged x n leaf len said).1
+follow_judged x n leaf len (Ok taken) fair over may =
+    record { fair = fair_taken x n leaf len taken fair may; bounds = refl; nodes = length-set x.standings (place_of n) standings.Settled }
+follow_judged x n leaf len (Err refusals.Crowded) fair over may =
+    record { fair = fair_ended x n standings.Left fair may left; bounds = refl; nodes = length-set x.standings (place_of n) standings.Left }
+follow_judged x n leaf len (Err refusals.NotAsked) fair over may =
+    record { fair = fair_ended x n standings.Settled fair may settled; bounds = refl; nodes = length-set x.standings (place_of n) standings.Settled }
+follow_judged x n leaf len (Err refusals.WrongDigest) fair over may =
+    record { fair = fair_wrong x n fair (goes x over); bounds = refl; nodes = (losing x.standings n).len }
+follow_judged x n leaf len (Err refusals.NotCanonical) fair over may =
+    record { fair = fair_failed x (Some ends.Failed) fair; bounds = refl; nodes = refl }
+follow_judged x n leaf len (Err refusals.JournalFull) fair over may =
+    record { fair = fair_refused x n stops.JournalFull fair; bounds = refl; nodes = (losing x.standings n).len }
+follow_judged x n leaf len (Err refusals.NoMemory) fair over may =
+    record { fair = fair_refused x n stops.NoMemory fair; bounds = refl; nodes = (losing x.standings n).len }
 follow_judged x n leaf len (Err e) fair over may = same x fair
 
 pub follow : (x : Course) (step : Step) → IsFair x → May x step → Follows x (after x step)
@@ -148,7 +168,8 @@ follow_all x (step ∷ steps) fair may =
 
 pub none_counted : (p : Standing → Bool) (n : ℕ) → p standings.Unasked ≡ false → count_by p (replicate n standings.Unasked) ≡ 0
 none_counted p zero e = refl
-none_counted p (suc n) e = sum_by-cons {X = Standing} (λ s. one (p s)) standings.Unasked (replicate n standings.Unasked) ∙ omega (arith, none_counted p n e, ap one e)
+none_counted p (suc n) e = sum_by-cons {X = Standing} (λ s. one (p s)) standings.Unasked (replicate n standings.Unasked)
+    ∙ omega (arith, none_counted p n e, ap one e)
 
 few_nodes : (f : Format) → node_count f ≤ 4369
 few_nodes One = omega arith
@@ -156,7 +177,9 @@ few_nodes Two = omega arith
 
 pub at_start_fair : (offer : Offer) (bounds : Bounds) (f : Format) → IsFair (at_start offer bounds f)
 at_start_fair offer bounds f =
-    let lost : count_by is_lost (unasked f) ≡ 0 = none_counted is_lost (node_count f) refl in let way : count_by is_on_way (unasked f) ≡ 0 = none_counted is_on_way (node_count f) refl in let len : length (unasked f) ≡ node_count f = length-replicate (node_count f) standings.Unasked in
+    let lost : count_by is_lost (unasked f) ≡ 0 = none_counted is_lost (node_count f) refl in
+    let way : count_by is_on_way (unasked f) ≡ 0 = none_counted is_on_way (node_count f) refl in
+    let len : length (unasked f) ≡ node_count f = length-replicate (node_count f) standings.Unasked in
     record {
       nodes = omega (arith, len, few_nodes f);
       again = omega (arith, lost);
@@ -168,9 +191,11 @@ at_start_fair offer bounds f =
       going = λ _. refl;
     }
 
-pub asks_bounded : (offer : Offer) (bounds : Bounds) (f : Format) (steps : List Step) → MayAll (at_start offer bounds f) steps → (after_all (at_start offer bounds f) steps).tally.asks ≤ node_count f + bounds.bad + bounds.lost
+pub asks_bounded : (offer : Offer) (bounds : Bounds) (f : Format) (steps : List Step) → MayAll (at_start offer bounds f) steps
+    → (after_all (at_start offer bounds f) steps).tally.asks ≤ node_count f + bounds.bad + bounds.lost
 asks_bounded offer bounds f steps may =
-    let y : Course = after_all (at_start offer bounds f) steps in let r = follow_all (at_start offer bounds f) steps (at_start_fair offer bounds f) may in
+    let y : Course = after_all (at_start offer bounds f) steps in
+    let r = follow_all (at_start offer bounds f) steps (at_start_fair offer bounds f) may in
     let len : length (unasked f) ≡ node_count f = length-replicate (node_count f) standings.Unasked in
     omega (arith, r.fair.most, r.nodes, len, ap (λ (b : Bounds). b.bad) r.bounds, ap (λ (b : Bounds). b.lost) r.bounds)
 

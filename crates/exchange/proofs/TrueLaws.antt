@@ -39,7 +39,8 @@ abbrev fresh_in : List Standing → List Node → ℕ
 fresh_in xs nodes = count_by (λ n. is_fresh (standing_of xs n)) nodes
 
 -- when a standing becomes one of an asked node, no other node becomes fresh
-fewer : (xs : List Standing) (i j : ℕ) (b : Standing) → is_asked b ≡ true → one (is_fresh (slice_get (set xs i b) j)) ≤ one (is_fresh (slice_get xs j))
+fewer : (xs : List Standing) (i j : ℕ) (b : Standing) → is_asked b ≡ true
+    → one (is_fresh (slice_get (set xs i b) j)) ≤ one (is_fresh (slice_get xs j))
 fewer [] i j b e = omega arith
 fewer (x ∷ xs) zero zero b e = omega (arith, ap (λ t. one (not t)) e)
 fewer (x ∷ xs) zero (suc j) b e = omega arith
@@ -47,16 +48,20 @@ fewer (x ∷ xs) (suc i) zero b e = omega arith
 fewer (x ∷ xs) (suc i) (suc j) b e = fewer xs i j b e
 
 fewer_in : (xs : List Standing) (i : ℕ) (b : Standing) (nodes : List Node) → is_asked b ≡ true → fresh_in (set xs i b) nodes ≤ fresh_in xs nodes
-fewer_in xs i b nodes e = sum_by-le-sum_by {X = Node} (λ n. one (is_fresh (standing_of (set xs i b) n))) (λ n. one (is_fresh (standing_of xs n))) nodes (λ n. fewer xs i (place_of n) b e)
+fewer_in xs i b nodes e =
+    sum_by-le-sum_by {X = Node} (λ n. one (is_fresh (standing_of (set xs i b) n))) (λ n. one (is_fresh (standing_of xs n))) nodes
+    (λ n. fewer xs i (place_of n) b e)
 
 -- the standing that was set is the one of its node
-set_asked : (xs : List Standing) (i : ℕ) (a b : Standing) → slice_get xs i ≡ Some a → is_asked b ≡ true → one (is_fresh (slice_get (set xs i b) i)) ≡ 0
+set_asked : (xs : List Standing) (i : ℕ) (a b : Standing) → slice_get xs i ≡ Some a → is_asked b ≡ true
+    → one (is_fresh (slice_get (set xs i b) i)) ≡ 0
 set_asked [] i a b at e = absurd (cc)
 set_asked (x ∷ xs) zero a b at e = ap (λ t. one (not t)) e
 set_asked (x ∷ xs) (suc i) a b at e = set_asked xs i a b at e
 
 -- if a node of the list was fresh and is asked, there is one less
-one_less : (xs : List Standing) (n : Node) (b : Standing) (nodes : List Node) → is_asked b ≡ true → standing_of xs n ≡ Some standings.Unasked → 1 ≤ times n nodes → fresh_in (with_standing xs n b) nodes + 1 ≤ fresh_in xs nodes
+one_less : (xs : List Standing) (n : Node) (b : Standing) (nodes : List Node) → is_asked b ≡ true → standing_of xs n ≡ Some standings.Unasked
+    → 1 ≤ times n nodes → fresh_in (with_standing xs n b) nodes + 1 ≤ fresh_in xs nodes
 one_less xs n b [] e at has = absurd (omega (arith, has))
 one_less xs n b (m ∷ nodes) e at has =
     let new = sum_by-cons {X = Node} (λ k. one (is_fresh (standing_of (with_standing xs n b) k))) m nodes in
@@ -64,12 +69,17 @@ one_less xs n b (m ∷ nodes) e at has =
     let less = by (is_same_node n m) refl has (one_less xs n b nodes e at) in
     omega (arith, new, old, less)
   where
-    by : (t : Bool) → is_same_node n m ≡ t → 1 ≤ (if t then 1 else 0) + times n nodes → (1 ≤ times n nodes → fresh_in (with_standing xs n b) nodes + 1 ≤ fresh_in xs nodes) → one (is_fresh (standing_of (with_standing xs n b) m)) + fresh_in (with_standing xs n b) nodes + 1 ≤ one (is_fresh (standing_of xs m)) + fresh_in xs nodes
+    by : (t : Bool) → is_same_node n m ≡ t → 1 ≤ (if t then 1 else 0) + times n nodes
+        → (1 ≤ times n nodes → fresh_in (with_standing xs n b) nodes + 1 ≤ fresh_in xs nodes)
+        → one (is_fresh (standing_of (with_standing xs n b) m)) + fresh_in (with_standing xs n b) nodes + 1 ≤ one
+        (is_fresh (standing_of xs m)) + fresh_in xs nodes
     by true same h rest =
         let was : one (is_fresh (standing_of xs n)) ≡ 1 = ap (λ o. one (is_fresh o)) at in
         let now = set_asked xs (place_of n) standings.Unasked b at e in
-        let here : one (is_fresh (standing_of (with_standing xs n b) n)) + fresh_in (with_standing xs n b) nodes + 1 ≤ one (is_fresh (standing_of xs n)) + fresh_in xs nodes = omega (arith, was, now, fewer_in xs (place_of n) b nodes e) in
-        subst (λ (k : Node). one (is_fresh (standing_of (with_standing xs n b) k)) + fresh_in (with_standing xs n b) nodes + 1 ≤ one (is_fresh (standing_of xs k)) + fresh_in xs nodes) (is_node-true n m same) here
+        let here : one (is_fresh (standing_of (with_standing xs n b) n)) + fresh_in (with_standing xs n b) nodes + 1 ≤ one
+        (is_fresh (standing_of xs n)) + fresh_in xs nodes = omega (arith, was, now, fewer_in xs (place_of n) b nodes e) in
+        subst (λ (k : Node). one (is_fresh (standing_of (with_standing xs n b) k)) + fresh_in (with_standing xs n b) nodes + 1 ≤ one
+        (is_fresh (standing_of xs k)) + fresh_in xs nodes) (is_node-true n m same) here
     by false other h rest = omega (arith, rest (omega (arith, h)), fewer xs (place_of n) (place_of m) b e)
 
 -- ---- the nodes of a list that were asked, and those that may be
@@ -78,24 +88,40 @@ one_less xs n b (m ∷ nodes) e at has =
 abbrev Among : List Standing → List Node → Type 0
 Among xs nodes = count_by is_asked xs + fresh_in xs nodes ≤ length nodes
 
-among_ask : (xs : List Standing) (n : Node) (bytes : ℕ) (nodes : List Node) → Among xs nodes → may_ask (standing_of xs n) ≡ true → 1 ≤ times n nodes → Among (with_standing xs n (standings.OnWay bytes)) nodes
+among_ask : (xs : List Standing) (n : Node) (bytes : ℕ) (nodes : List Node) → Among xs nodes → may_ask (standing_of xs n) ≡ true → 1 ≤ times n nodes
+    → Among (with_standing xs n (standings.OnWay bytes)) nodes
 among_ask xs n bytes nodes among may has = by (standing_of xs n) refl may
   where
     by : (o : Option Standing) → standing_of xs n ≡ o → may_ask o ≡ true → Among (with_standing xs n (standings.OnWay bytes)) nodes
-    by (Some standings.Unasked) at m = omega (arith, (moved xs (place_of n) standings.Unasked (standings.OnWay bytes) at).asked, one_less xs n (standings.OnWay bytes) nodes refl at has, among)
-    by (Some standings.Lost) at m = omega (arith, (moved xs (place_of n) standings.Lost (standings.OnWay bytes) at).asked, fewer_in xs (place_of n) (standings.OnWay bytes) nodes refl, among)
+    by (Some standings.Unasked) at m =
+        omega (
+          arith,
+          (moved xs (place_of n) standings.Unasked (standings.OnWay bytes) at).asked,
+          one_less xs n (standings.OnWay bytes) nodes refl at has,
+          among,
+        )
+    by (Some standings.Lost) at m =
+        omega (
+          arith,
+          (moved xs (place_of n) standings.Lost (standings.OnWay bytes) at).asked,
+          fewer_in xs (place_of n) (standings.OnWay bytes) nodes refl,
+          among,
+        )
     by (Some (standings.OnWay b)) at m = absurd (cc)
     by (Some standings.Left) at m = absurd (cc)
     by (Some standings.Settled) at m = absurd (cc)
     by None at m = absurd (cc)
 
 -- the ask for a node ends
-among_end : (xs : List Standing) (n : Node) (b : Standing) (nodes : List Node) → Among xs nodes → may_take (standing_of xs n) ≡ true → is_asked b ≡ true → Among (with_standing xs n b) nodes
+among_end : (xs : List Standing) (n : Node) (b : Standing) (nodes : List Node) → Among xs nodes → may_take (standing_of xs n) ≡ true
+    → is_asked b ≡ true → Among (with_standing xs n b) nodes
 among_end xs n b nodes among may asked = by (standing_of xs n) refl may
   where
     by : (o : Option Standing) → standing_of xs n ≡ o → may_take o ≡ true → Among (with_standing xs n b) nodes
-    by (Some standings.Lost) at m = omega (arith, (moved xs (place_of n) standings.Lost b at).asked, ap one asked, fewer_in xs (place_of n) b nodes asked, among)
-    by (Some (standings.OnWay c)) at m = omega (arith, (moved xs (place_of n) (standings.OnWay c) b at).asked, ap one asked, fewer_in xs (place_of n) b nodes asked, among)
+    by (Some standings.Lost) at m =
+        omega (arith, (moved xs (place_of n) standings.Lost b at).asked, ap one asked, fewer_in xs (place_of n) b nodes asked, among)
+    by (Some (standings.OnWay c)) at m =
+        omega (arith, (moved xs (place_of n) (standings.OnWay c) b at).asked, ap one asked, fewer_in xs (place_of n) b nodes asked, among)
     by (Some standings.Unasked) at m = absurd (cc)
     by (Some standings.Left) at m = absurd (cc)
     by (Some standings.Settled) at m = absurd (cc)
@@ -105,7 +131,8 @@ among_lost : (xs : List Standing) (n : Node) (nodes : List Node) → Among xs no
 among_lost xs n nodes among = by (standing_of xs n) refl
   where
     by : (o : Option Standing) → standing_of xs n ≡ o → Among (if is_sent o then with_standing xs n standings.Lost else xs) nodes
-    by (Some (standings.OnWay c)) at = omega (arith, (moved xs (place_of n) (standings.OnWay c) standings.Lost at).asked, fewer_in xs (place_of n) standings.Lost nodes refl, among)
+    by (Some (standings.OnWay c)) at =
+        omega (arith, (moved xs (place_of n) (standings.OnWay c) standings.Lost at).asked, fewer_in xs (place_of n) standings.Lost nodes refl, among)
     by (Some standings.Unasked) at = among
     by (Some standings.Lost) at = among
     by (Some standings.Left) at = among
@@ -122,20 +149,25 @@ first_has : (xs : List Standing) (nodes : List Node) (n : Node) → first_askabl
 first_has xs [] n e = absurd (cc)
 first_has xs (m ∷ nodes) n e = by (may_ask (standing_of xs m)) (first_has xs nodes n) e
   where
-    by : (b : Bool) → (first_askable xs nodes ≡ Some n → 1 ≤ times n nodes) → (if b then Some m else first_askable xs nodes) ≡ Some n → 1 ≤ (if is_same_node n m then 1 else 0) + times n nodes
-    by true rest is = subst (λ (k : Node). 1 ≤ (if is_same_node k m then 1 else 0) + times k nodes) (same_Some m n is) (omega (arith, counts_itself m))
+    by : (b : Bool) → (first_askable xs nodes ≡ Some n → 1 ≤ times n nodes) → (if b then Some m else first_askable xs nodes) ≡ Some n
+        → 1 ≤ (if is_same_node n m then 1 else 0) + times n nodes
+    by true rest is = subst (λ (k : Node). 1 ≤ (if is_same_node k m then 1 else 0) + times k nodes) (same_Some m n is)
+        (omega (arith, counts_itself m))
     by false rest is = omega (arith, rest is)
 
 module _ (own other : RowMap) where
-  among_asks : (x : Course) (w : Walk) → IsTrueWalk own other w → Among x.standings (differ own other) → Among (after_ask x (next_in x w)).standings (differ own other)
+  among_asks : (x : Course) (w : Walk) → IsTrueWalk own other w → Among x.standings (differ own other)
+      → Among (after_ask x (next_in x w)).standings (differ own other)
   among_asks x w is among = by (next_in x w) refl
     where
       by : (o : Option (Node × ℕ)) → next_in x w ≡ o → Among (after_ask x o).standings (differ own other)
       by None e = among
       by (Some p) e =
           let outstanding = times_has p.0 w.outstanding (first_has x.standings w.outstanding p.0 (next_first x w p e)) in
-          let differs : contains_node p.0 (differ w.own other) ≡ true = asked_is_differ w other is.traced is.partner is.honest p.0 (is.asked p.0 outstanding) in
-          among_ask x.standings p.0 p.1 (differ own other) among (next_is x w p e).may (has_times p.0 (differ own other) (subst (λ (m : RowMap). contains_node p.0 (differ m other) ≡ true) is.own_is differs))
+          let differs : contains_node p.0 (differ w.own other) ≡ true = asked_is_differ w other is.traced is.partner is.honest p.0
+          (is.asked p.0 outstanding) in
+          among_ask x.standings p.0 p.1 (differ own other) among (next_is x w p e).may
+          (has_times p.0 (differ own other) (subst (λ (m : RowMap). contains_node p.0 (differ m other) ≡ true) is.own_is differs))
 
   among_loss : (x : Course) (n : Node) → Among x.standings (differ own other) → Among (after_loss x n).standings (differ own other)
   among_loss x n among = by (is_over x) (is_sent (standing_of x.standings n))
@@ -152,7 +184,8 @@ module _ (own other : RowMap) where
       by true = among
       by false = among
 
-  among_sorted_at : (x : Course) (a : Answer) (o : Option Standing) → Among x.standings (differ own other) → Among (sorted_at x a o).1.standings (differ own other)
+  among_sorted_at : (x : Course) (a : Answer) (o : Option Standing) → Among x.standings (differ own other)
+      → Among (sorted_at x a o).1.standings (differ own other)
   among_sorted_at x a (Some (standings.OnWay bytes)) among = among
   among_sorted_at x a (Some standings.Lost) among = among
   among_sorted_at x a (Some standings.Left) among = among
@@ -164,11 +197,13 @@ module _ (own other : RowMap) where
   among_sorted x None among = among
   among_sorted x (Some a) among = by (nat_eq a.offer x.offer.offer)
     where
-      by : (ours : Bool) → Among (if ours then sorted_at x a (standing_of x.standings a.node) else (Err verdicts.Late, x)).1.standings (differ own other)
+      by : (ours : Bool) → Among (if ours then sorted_at x a (standing_of x.standings a.node) else (Err verdicts.Late, x)).1.standings
+          (differ own other)
       by true = among_sorted_at x a (standing_of x.standings a.node) among
       by false = among
 
-  among_judged : (x : Course) (n : Node) (leaf : Bool) (len : ℕ) (said : Result AnswerTaken Refusal) → may_take (standing_of x.standings n) ≡ true → Among x.standings (differ own other) → Among (judged x n leaf len said).1.standings (differ own other)
+  among_judged : (x : Course) (n : Node) (leaf : Bool) (len : ℕ) (said : Result AnswerTaken Refusal) → may_take (standing_of x.standings n) ≡ true
+      → Among x.standings (differ own other) → Among (judged x n leaf len said).1.standings (differ own other)
   among_judged x n leaf len (Ok taken) may among = among_end x.standings n standings.Settled (differ own other) among may refl
   among_judged x n leaf len (Err refusals.Crowded) may among = among_end x.standings n standings.Left (differ own other) among may refl
   among_judged x n leaf len (Err refusals.NotAsked) may among = among_end x.standings n standings.Settled (differ own other) among may refl
@@ -178,7 +213,8 @@ module _ (own other : RowMap) where
   among_judged x n leaf len (Err refusals.NoMemory) may among = among_lost x.standings n (differ own other) among
   among_judged x n leaf len (Err e) may among = among
 
-  among_step : (x : Course) (step : Step) → May x step → IsTrueStep own other step → Among x.standings (differ own other) → Among (after x step).standings (differ own other)
+  among_step : (x : Course) (step : Step) → May x step → IsTrueStep own other step → Among x.standings (differ own other)
+      → Among (after x step).standings (differ own other)
   among_step x (Asks w) may is among = among_asks x w is among
   among_step x (Loses n) may is among = among_loss x n among
   among_step x (Retracts n) may is among = among_lost x.standings n (differ own other) among
@@ -187,11 +223,13 @@ module _ (own other : RowMap) where
   among_step x (Sorts read) may is among = among_sorted x read among
   among_step x (Judges n leaf len said) may is among = among_judged x n leaf len said may.1 among
 
-  few : (x : Course) (steps : List Step) → IsFair x → MayAll x steps → AreTrueSteps own other steps → Among x.standings (differ own other) → AsksFew (length (differ own other)) (after_all x steps).tally
+  few : (x : Course) (steps : List Step) → IsFair x → MayAll x steps → AreTrueSteps own other steps → Among x.standings (differ own other)
+      → AsksFew (length (differ own other)) (after_all x steps).tally
   few x [] fair may are among = omega (arith, fair.again, among)
   few x (step ∷ steps) fair may are among = few (after x step) steps (follow x step fair may.0).fair may.1 are.1 (among_step x step may.0 are.0 among)
 
-pub asks_few : (offer : Offer) (bounds : Bounds) (own other : RowMap) (steps : List Step) → MayAll (at_start offer bounds own.format) steps → AreTrueSteps own other steps → AsksFew (length (differ own other)) (after_all (at_start offer bounds own.format) steps).tally
+pub asks_few : (offer : Offer) (bounds : Bounds) (own other : RowMap) (steps : List Step) → MayAll (at_start offer bounds own.format) steps
+    → AreTrueSteps own other steps → AsksFew (length (differ own other)) (after_all (at_start offer bounds own.format) steps).tally
 asks_few offer bounds own other steps may are =
     let none : count_by is_asked (unasked own.format) ≡ 0 = none_counted is_asked (node_count own.format) refl in
     let most = count_by-le-length {X = Node} (λ n. is_fresh (standing_of (unasked own.format) n)) (differ own other) in

@@ -1,4 +1,4 @@
--- The answers that an exchange takes.
+-- An exchange's answers: sorted, taken and refused.
 use Rattle.std.specs.Prelude.{◌≡◌, ℕ, ◌+◌, nat_eq, Bool, List, length, Option, Some, None, Result, Ok, Err, if◌then◌else◌}
 use Rattle.vclock.specs.declared.refusal.Refusal.{Refusal}
 use Rattle.vclock.specs.declared.refusal.Refusal.TheVariants as refusals
@@ -20,7 +20,7 @@ use Rattle.exchange.specs.declared.verdict.Verdict.TheVariants as verdicts
 use Rattle.exchange.specs.Standings.{standing_of, with_standing, is_sent, lost_in}
 use Rattle.exchange.specs.Courses.{Course, plus}
 
--- ---- answers that no session sees
+-- ---- answers without a session
 
 -- one more bad answer
 abbrev pub with_bad : Course → Course
@@ -30,7 +30,7 @@ with_bad x = record x { tally = record x.tally { bad = x.tally.bad + 1 } }
 abbrev pub Sorted : Type 0
 Sorted = Result Answer Verdict
 
--- by the standing of the node that the answer names
+-- sorted, by the standing of the node that the answer names
 abbrev pub sorted_at : Course → Answer → Option Standing → Sorted × Course
 sorted_at x a (Some (standings.OnWay bytes)) = (Ok a, x)
 sorted_at x a (Some standings.Lost) = (Ok a, x)
@@ -39,27 +39,27 @@ sorted_at x a (Some standings.Settled) = (Err verdicts.Late, x)
 sorted_at x a (Some standings.Unasked) = (Err (verdicts.Bad refusals.NotAsked), with_bad x)
 sorted_at x a None = (Err (verdicts.Bad refusals.NotAsked), with_bad x)
 
--- what isn't an answer is bad, and an answer of another offer is late
+-- sorted: bytes that aren't an answer are bad, and an answer to another offer is late
 abbrev pub sorted : Course → Option Answer → Sorted × Course
 sorted x None = (Err (verdicts.Bad refusals.BadMessage), with_bad x)
 sorted x (Some a) = if nat_eq a.offer x.offer.offer then sorted_at x a (standing_of x.standings a.node) else (Err verdicts.Late, x)
 
--- the node and the text of an answer that is due
+-- the node and the text of a due answer
 abbrev pub IsDueBy : Sorted × Course → Node × List ℕ → Course → Type 0
 IsDueBy (Ok a, c) parts new = (parts ≡ (a.node, a.text)) × (new ≡ c)
 IsDueBy (Err w, c) parts new = ⊥
 
--- the verdict on an answer that isn't
+-- the verdict on any other answer
 abbrev pub IsVerdictBy : Sorted × Course → Verdict → Course → Type 0
 IsVerdictBy (Ok a, c) v new = ⊥
 IsVerdictBy (Err w, c) v new = (v ≡ w) × (new ≡ c)
 
--- the answer with these bytes, if they are one
+-- the answer with these bytes, if any
 abbrev pub IsRead : List ℕ → Option Answer → Type 0
 IsRead bytes None = IsNoAnswer bytes
 IsRead bytes (Some a) = IsAnswerOf bytes a
 
--- ---- answers that a session took
+-- ---- answers taken by a session
 
 abbrev pub at_node : Course → Node → Standing → Course
 at_node x n s = record x { standings = with_standing x.standings n s }
@@ -78,9 +78,9 @@ end_by states.Cancelled = None
 abbrev pub after_taken : Course → Node → Bool → ℕ → AnswerTaken → Course
 after_taken x n leaf len taken = record x { standings = with_standing x.standings n standings.Settled; tally = tallied x.tally taken leaf len; end = end_by taken.state }
 
--- ---- answers that a session refused
+-- ---- answers refused by a session
 
--- another digest: if the node's ask was on its way, it may be sent again
+-- another digest: if the node's ask was in progress, it may be sent again
 abbrev pub after_wrong : Course → Node → Course
 after_wrong x n = record x { standings = lost_in x.standings n; tally = record x.tally { bad = x.tally.bad + 1 } }
 
@@ -89,11 +89,11 @@ abbrev pub stop_by : Option Stop → Stop → Option Stop
 stop_by None e = Some e
 stop_by (Some first) e = Some first
 
--- there was no room for it
+-- an answer exceeded the capacity
 abbrev pub after_refused : Course → Node → Stop → Course
 after_refused x n e = record x { standings = lost_in x.standings n; tally = record x.tally { refused = x.tally.refused + (if is_sent (standing_of x.standings n) then 1 else 0) }; stop = stop_by x.stop e }
 
--- the verdict on an answer for a node, whose text has that length, by what its session said of it
+-- the verdict on an answer for a node, with a text of that length, by its session's result
 abbrev pub judged : Course → Node → Bool → ℕ → Result AnswerTaken Refusal → Verdict × Course
 judged x n leaf len (Ok taken) = (verdicts.Taken taken, after_taken x n leaf len taken)
 judged x n leaf len (Err refusals.Crowded) = (verdicts.Left, at_node x n standings.Left)

@@ -1,4 +1,4 @@
--- The course of an exchange: which asks are on their way, what was counted, and whether it goes on.
+-- The course of an exchange: the asks in progress, the counts, and the end.
 use Rattle.std.specs.Prelude.{◌≡◌, ℕ, ◌+◌, ◌-◌, ◌^◌, ◌≤◌, min, Bool, ◌||◌, nat_lt, is_some, List, [], length, replicate, Option, Some, None, if◌then◌else◌}
 use Rattle.std.specs.List.{list_all, count_by}
 use Rattle.vclock.specs.declared.format.Format.{Format}
@@ -19,7 +19,7 @@ use Rattle.exchange.specs.declared.report.Report.TheVariants as reports
 use Rattle.exchange.specs.Standings.{is_asked, is_lost, ways, standing_of, was_left, lost_in, is_sent}
 
 -- the partner's offer, the bounds, the standing of each node by its place, the counts, the cause for which asks
--- stopped, if they did, and the end, if it has ended
+-- stopped, if they did, and the end, if any
 pub record Course : Type 0 where
   pub offer : Offer
   pub bounds : Bounds
@@ -37,7 +37,8 @@ abbrev pub no_tally : Tally
 no_tally = record { asks = 0; bad = 0; lost = 0; refused = 0; accepted = 0; known = 0; leaves = 0; leaf_bytes = 0 }
 
 -- The facts of each course. Each ask beyond the first for a node follows a bad answer, a lost ask or a refused answer.
--- So no more asks are sent than the tree has nodes, and the bounds allow bad answers and lost asks.
+-- The number of asks is at most the number of the tree's nodes plus the bad answers and lost asks that the bounds
+-- allow.
 pub record IsFair (x : Course) : Type 0 where
   pub nodes : length x.standings ≤ 4369
   pub again : x.tally.asks + count_by is_lost x.standings ≤ count_by is_asked x.standings + x.tally.bad + x.tally.lost + x.tally.refused
@@ -61,7 +62,7 @@ unasked format = replicate (node_count format) Unasked
 abbrev pub begun : Offer → Bounds → List Standing → Course
 begun offer bounds standings = record { offer = offer; bounds = bounds; standings = standings; tally = no_tally; stop = None; end = None }
 
--- nothing is to be asked, since the roots are equal
+-- nothing has to be asked, since the roots are equal
 abbrev pub level : Offer → Bounds → Course
 level offer bounds = record { offer = offer; bounds = bounds; standings = []; tally = no_tally; stop = None; end = Some ends.Finished }
 
@@ -71,15 +72,15 @@ level offer bounds = record { offer = offer; bounds = bounds; standings = []; ta
 abbrev pub with_lost : Course → Node → Course
 with_lost x n = record x { standings = lost_in x.standings n; tally = record x.tally { lost = x.tally.lost + 1 } }
 
--- the ask for a node, if it is on its way, is lost
+-- the ask for a node, if it is in progress, is lost
 abbrev pub after_loss : Course → Node → Course
 after_loss x n = if is_over x then x else if is_sent (standing_of x.standings n) then with_lost x n else x
 
--- the ask for a node that is on its way is taken back, and may be sent again
+-- the ask in progress for a node is withdrawn, and may be sent again
 abbrev pub retracted : Course → Node → Course
 retracted x n = record x { standings = lost_in x.standings n; tally = record x.tally { asks = x.tally.asks - 1 } }
 
--- asks are sent again, and the answers that were refused count as lost
+-- asks are sent again, and refused answers count as lost
 abbrev pub gone_on : Course → Course
 gone_on x = record x { stop = None; tally = record x.tally { lost = x.tally.lost + x.tally.refused; refused = 0 } }
 
@@ -88,7 +89,7 @@ after_go_on x = if is_over x then x else gone_on x
 
 -- ---- the end by its owner
 
--- the end that it had, or that it was closed
+-- the end so far, or Closed
 abbrev pub closed_end : Option End → Option End
 closed_end None = Some ends.Closed
 closed_end (Some e) = Some e
@@ -102,12 +103,12 @@ closed x = record x { end = closed_end x.end }
 abbrev pub are_left : List Standing → List Node → Bool
 are_left standings nodes = list_all (λ n. was_left (standing_of standings n)) nodes
 
--- within the bounds
+-- the report within the bounds
 abbrev pub going_report : Course → List Node → Option Stop → Report
 going_report x nodes (Some e) = reports.Stopped e
 going_report x nodes None = if are_left x.standings nodes then reports.Left else reports.Waiting
 
--- of a session in progress
+-- the report on a session in progress
 abbrev pub bounded_report : Course → List Node → Report
 bounded_report x nodes =
     if nat_lt x.bounds.bad x.tally.bad then reports.TooManyBad
@@ -133,6 +134,6 @@ abbrev pub report_by : Course → Option Walk → Option End → Report
 report_by x w (Some e) = end_report e
 report_by x w None = walk_report x w
 
--- by its end, or by the walk of its session, if there is one
+-- the report by the end, or by the walk of the session, if any
 abbrev pub report_of : Course → Option Walk → Report
 report_of x w = report_by x w x.end

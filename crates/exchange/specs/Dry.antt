@@ -1,4 +1,4 @@
--- Dry exchanges: the walk of a session that is no record of a range, so nothing is taken into one.
+-- Dry exchanges: the walk of a session outside of any range, so no range takes anything.
 use Rattle.std.specs.Prelude.{◌≡◌, ◌⊎◌, ℕ, ◌==◌, Bool, true, false, List, [], length, Option, Some, None, Result, Ok, Err, if◌then◌else◌}
 use Rattle.vclock.specs.Format.{format_number}
 use Rattle.vclock.specs.declared.refusal.Refusal.{Refusal}
@@ -19,7 +19,7 @@ use Rattle.exchange.specs.Courses.{Course, begun, unasked, is_over}
 use Rattle.exchange.specs.Asks.{is_leaf, next_in, after_ask}
 use Rattle.exchange.specs.Answers.{IsRead, sorted, judged}
 
--- the fault of an offer that is not for these rows
+-- the fault of an offer that isn't for these rows
 abbrev pub dry_fault : RowMap → Offer → Option Refusal
 dry_fault own offer = if offer.format == format_number own.format then (if offer.range == own.range then None else Some refusals.OtherRange) else Some refusals.OtherFormat
 
@@ -30,13 +30,12 @@ dry own offer bounds = record { session = started own offer.root; course = begun
 abbrev pub after_dry_ask : DryExchange → DryExchange
 after_dry_ask x = record x { course = after_ask x.course (next_in x.course x.session) }
 
--- a session takes a text, and tells the rows that the local ones lack; if there is no memory for a text, it is
--- unchanged
+-- a session takes a text, and returns its rows that are missing locally; it is unchanged if memory runs out
 abbrev pub TakesNews : Walk → TakenText → Result News Refusal → Walk → Type 0
 TakesNews w t (Ok news) new = Tells w t (Ok news) × (new ≡ after w t)
 TakesNews w t (Err e) new = ((e ≡ refusals.NoMemory) × (new ≡ w)) ⊎ (IsTakeFault w t e × (new ≡ after_refusal w e))
 
--- the result of a text, of which no version was accepted
+-- the result of a text without an accepted version
 abbrev pub IsNothingOf : Result News Refusal → Walk → Result AnswerTaken Refusal → Type 0
 IsNothingOf (Ok news) w (Ok taken) = (taken.receipts.items ≡ []) × (taken.known ≡ news.known) × (taken.state ≡ w.state)
 IsNothingOf (Ok news) w (Err e) = ⊥
@@ -47,7 +46,7 @@ abbrev pub news_in : Result News Refusal → Option News
 news_in (Ok news) = Some news
 news_in (Err e) = None
 
--- an answer that is due is judged by what the session says
+-- a due answer is judged by the session's result
 pub record IsShown (x : DryExchange) (c : Course) (a : Answer) (v : Verdict) (news : Option News) (y : DryExchange) : Type 0 where
   pub said : Result News Refusal
   pub takes : TakesNews x.session (record { node = a.node; text = a.text }) said y.session
@@ -61,13 +60,13 @@ abbrev pub ShowsSorted : DryExchange → Result Answer Verdict × Course → Ver
 ShowsSorted x (Ok a, c) v news y = IsShown x c a v news y
 ShowsSorted x (Err w, c) v news y = (v ≡ w) × (news ≡ None) × (y ≡ record x { course = c })
 
--- bytes for a dry exchange that goes on
+-- bytes for a dry exchange that isn't over
 pub record ShowsBytes (x : DryExchange) (bytes : List ℕ) (v : Verdict) (news : Option News) (y : DryExchange) : Type 0 where
   pub read : Option Answer
   pub is : IsRead bytes read
   pub shown : ShowsSorted x (sorted x.course read) v news y
 
--- they are late if it is over
+-- bytes for any dry exchange: late if it is over
 abbrev pub ShowsUnless : Bool → DryExchange → List ℕ → Verdict → Option News → DryExchange → Type 0
 ShowsUnless true x bytes v news y = (v ≡ verdicts.Late) × (news ≡ None) × (y ≡ x)
 ShowsUnless false x bytes v news y = ShowsBytes x bytes v news y

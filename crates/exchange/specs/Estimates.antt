@@ -5,8 +5,8 @@ use Rattle.sync_session.specs.Walks.{Walk}
 use Rattle.sync_session.specs.declared.state.SessionState.{SessionState}
 use Rattle.sync_session.specs.declared.state.SessionState.TheVariants.{Open, Finished, Failed, Cancelled}
 
--- Keys at random are in so many different nodes of 256 when, on average, 256/256 + 256/255 + .. of them were drawn (the
--- coupon collector). This sum, in parts of 256.
+-- Random keys are in n different nodes of 256 after, on average, 256/256 + 256/255 + .. draws, n terms (the coupon
+-- collector). This sum, in parts of 256.
 abbrev pub drawn : ℕ → ℕ
 drawn zero = 0
 drawn (suc nodes) = drawn nodes + 65536 / (256 - nodes)
@@ -20,6 +20,6 @@ has_failed Open = false
 has_failed Finished = false
 has_failed Cancelled = false
 
--- known once the root and the nodes below it that differ were taken
+-- the estimate, once the root and the nodes below it that differ were taken
 abbrev pub estimate_of : Walk → Option ℕ
 estimate_of w = if has_failed w.state || list_any (λ n. nat_lt n.depth 2) w.outstanding then None else Some (keys_in (length (filter (λ n. nat_eq n.depth 2) w.asked)))

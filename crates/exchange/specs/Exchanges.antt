@@ -1,4 +1,4 @@
--- Exchanges: a session of a range with a partner, as its owner carries it on.
+-- Exchanges: a session of a range with a partner, as its owner runs it.
 use Rattle.std.specs.Prelude.{◌≡◌, ◌⊎◌, ℕ, Bool, true, false, ◌&&◌, ◌==◌, bytes_eq, length, List, [], Option, Some, None, option_map, Result, Ok, Err, is_none, if◌then◌else◌}
 use Rattle.vclock.specs.Outcome.{Outcome, gives, DoesOrNoMemory, ◌>>=◌, ◌>>◌}
 use Rattle.vclock.specs.declared.refusal.Refusal.{Refusal}
@@ -37,7 +37,7 @@ on x c = record x { course = c }
 
 -- ---- the session of an exchange
 
--- a record is that of the exchange's session: of its partner, the offered root and the same local rows
+-- a record belongs to the exchange's session: it has its partner, the offered root and the same local rows
 abbrev pub is_of : Exchange → Record → Bool
 is_of x r = (r.partner == x.partner) && bytes_eq r.session.root x.course.offer.root && bytes_eq (root_of r.session.own) x.local_root
 
@@ -51,7 +51,7 @@ record_in x s = if_of x (record_of x.session s.records)
 
 -- ---- opening
 
--- an exchange that has nothing to ask
+-- an exchange with nothing to ask
 abbrev pub level_with : ℕ → Offer → Bounds → Exchange
 level_with partner offer bounds = record { partner = partner; local_root = offer.root; session = 0; course = level offer bounds; outlines = no_outlines }
 
@@ -73,35 +73,35 @@ opening s partner offer bounds = do
   moment_fault s.moment
   if bytes_eq offer.root (root_of (shown_rows Moment s)) then gives (level_with partner offer bounds) s else beginning s partner offer bounds
 
--- a call that tests its first cause without memory: then it has the outcome, in whose place may be NoMemory
+-- a call that tests its first cause without memory; without that cause, it has the outcome, or NoMemory
 abbrev pub OpensUnless : {T S : Type 0} → Option Refusal → Result T Refusal → S → S → Outcome T S → Type 0
 OpensUnless (Some e) result old new o = (result ≡ Err e) × (new ≡ old)
 OpensUnless None result old new o = DoesOrNoMemory result old new o
 
 -- ---- asking
 
--- the ask that is sent now, if any, and the exchange after it
+-- the ask to send now, if any, and the exchange after it
 abbrev pub asks_of : Exchange → Option Record → Option Ask × Exchange
 asks_of x None = (None, x)
 asks_of x (Some r) = (ask_for x.course (next_in x.course r.session), on x (after_ask x.course (next_in x.course r.session)))
 
--- an outline of a node, if there is one, is sent in place of its ask
+-- a node's outline, if any, is sent in place of its ask
 abbrev pub outlined : Exchange → Node → Option (List ℕ) → Outcome (Option (List ℕ)) Exchange
 outlined x n None = gives None x
 outlined x n (Some bytes) = gives (Some bytes) (record x { outlines = with_outlining x.outlines n Sent })
 
--- with at most so many bytes
+-- an outline with at most `room` bytes, if any, is sent
 abbrev pub outlines_of : Exchange → Option Record → Node → ℕ → Outcome (Option (List ℕ)) Exchange
 outlines_of x None n room = gives None x
 outlines_of x (Some r) n room = outlined x n (outline_for x.outlines x.course r.session n room)
 
--- ---- outlines on their way
+-- ---- outlines in progress
 
--- the ask for a node is on its way, and was sent as an outline
+-- the ask for a node is in progress, and was sent as an outline
 abbrev pub awaits : Exchange → Node → Bool
 awaits x n = is_out (outlining_of x.outlines n) && is_sent (standing_of x.course.standings n)
 
--- the outline of a node brought no text: the ask counts as nothing, and is sent again as one
+-- the outline of a node brought no text: its ask isn't counted, and may be sent
 abbrev pub missed : Exchange → Node → Exchange
 missed x n = record x { course = retracted x.course n; outlines = after_miss x.outlines n }
 
@@ -109,7 +109,7 @@ missed x n = record x { course = retracted x.course n; outlines = after_miss x.o
 abbrev pub ended : Exchange → Node → Exchange
 ended x n = record x { outlines = after_text x.outlines n }
 
--- the ask for a node, if it is on its way, is lost
+-- the ask for a node, if it is in progress, is lost
 abbrev pub lost_for : Exchange → Node → Exchange
 lost_for x n = if is_over x.course then x else if awaits x n then missed x n else on x (after_loss x.course n)
 
@@ -119,11 +119,11 @@ lost_for x n = if is_over x.course then x else if awaits x n then missed x n els
 abbrev pub TakesText : State → ℕ → ℕ → TakenText → Result AnswerTaken Refusal → State → Type 0
 TakesText s seat id t said new = ((said ≡ Err refusals.NoMemory) × (new ≡ s)) ⊎ TakesAnswer s seat id t said new
 
--- the verdict on an answer for a node, whose text has that length, by what its session said of it
+-- the verdict on an answer for a node, with a text of that length, by its session's result
 abbrev pub judged_in : Exchange → Node → Bool → ℕ → Result AnswerTaken Refusal → Verdict × Exchange
 judged_in x n leaf len said = ((judged x.course n leaf len said).0, on x (judged x.course n leaf len said).1)
 
--- the same of an answer to an outline: it counts as nothing if it brought another text or none
+-- the verdict on an answer to an outline: it isn't counted if it brought another text or none
 abbrev pub judged_outline : Exchange → Node → Bool → ℕ → Result AnswerTaken Refusal → Verdict × Exchange
 judged_outline x n leaf len (Err refusals.WrongDigest) = (verdicts.Late, missed x n)
 judged_outline x n leaf len (Err refusals.BadMessage) = (verdicts.Late, missed x n)
@@ -132,7 +132,7 @@ judged_outline x n leaf len said = judged_in (ended x n) n leaf len said
 abbrev pub concluded : Exchange → Node → Bool → ℕ → Result AnswerTaken Refusal → Verdict × Exchange
 concluded x n leaf len said = if awaits x n then judged_outline x n leaf len said else judged_in x n leaf len said
 
--- an answer that is due is offered to the session, and judged by what it says; any other has its verdict already
+-- a due answer is offered to the session, and judged by its result; any other already has its verdict
 pub record IsJudged (x : Exchange) (s : State) (seat : ℕ) (r : Record) (a : Answer) (v : Verdict) (y : Exchange) (t : State) : Type 0 where
   pub said : Result AnswerTaken Refusal
   pub takes : TakesText s seat x.session (record { node = a.node; text = a.text }) said t
@@ -143,12 +143,12 @@ abbrev pub TakesSorted : Exchange → State → ℕ → Record → Result Answer
 TakesSorted x s seat r (Ok a, c) v y t = IsJudged (on x c) s seat r a v y t
 TakesSorted x s seat r (Err w, c) v y t = (v ≡ w) × (y ≡ on x c) × (t ≡ s)
 
--- the text that a patch makes is taken as an answer's; a patch that makes none has its verdict
+-- the text that a patch makes is taken like an answer's; a patch that makes no text has its verdict
 abbrev pub TakesRebuilt : Exchange → State → ℕ → Record → Ask → Result (List ℕ) Refusal → Verdict → Exchange → State → Type 0
 TakesRebuilt x s seat r a (Ok text) v y t = IsJudged x s seat r (record { offer = a.offer; node = a.node; text = text }) v y t
 TakesRebuilt x s seat r a (Err e) v y t = (v ≡ (concluded x a.node (is_leaf r.session.own a.node) 0 (Err e)).0) × (y ≡ (concluded x a.node (is_leaf r.session.own a.node) 0 (Err e)).1) × (t ≡ s)
 
--- the text is made of the local parts
+-- the text is made from the local parts
 pub record TakesSteps (x : Exchange) (s : State) (seat : ℕ) (r : Record) (a : Ask) (steps : List ℕ) (v : Verdict) (y : Exchange) (t : State) : Type 0 where
   pub rebuilt : Result (List ℕ) Refusal
   pub is : Rebuilds r.session.own a.node steps rebuilt
@@ -158,12 +158,12 @@ pub record TakesSteps (x : Exchange) (s : State) (seat : ℕ) (r : Record) (a : 
 abbrev pub going_in : Exchange → State → Option Record
 going_in x s = if is_over x.course then None else record_in x s
 
--- a patch is late if no outline for it is on its way
+-- a patch is late if no outline for it is in progress
 abbrev pub TakesAwaited : Bool → Exchange → State → ℕ → Record → Ask → List ℕ → Verdict → Exchange → State → Type 0
 TakesAwaited true x s seat r a steps v y t = TakesSteps x s seat r a steps v y t
 TakesAwaited false x s seat r a steps v y t = (v ≡ verdicts.Late) × (y ≡ x) × (t ≡ s)
 
--- or there is no such session
+-- a patch is late, too, if the range doesn't have the session
 abbrev pub TakesPatch : Exchange → State → ℕ → Ask → List ℕ → Option Record → Verdict → Exchange → State → Type 0
 TakesPatch x s seat a steps None v y t = (v ≡ verdicts.Late) × (y ≡ x) × (t ≡ s)
 TakesPatch x s seat a steps (Some r) v y t = TakesAwaited ((a.offer == x.course.offer.offer) && awaits x a.node) x s seat r a steps v y t
@@ -174,7 +174,7 @@ pub record TakesBytes (x : Exchange) (s : State) (seat : ℕ) (bytes : List ℕ)
   pub is : IsRead bytes read
   pub taken : TakesSorted x s seat r (sorted x.course read) v y t
 
--- they are late if there is no such session
+-- other bytes are late if the range doesn't have the session
 abbrev pub TakesFor : Exchange → State → ℕ → List ℕ → Option Record → Verdict → Exchange → State → Type 0
 TakesFor x s seat bytes None v y t = (v ≡ verdicts.Late) × (y ≡ x) × (t ≡ s)
 TakesFor x s seat bytes (Some r) v y t = TakesBytes x s seat bytes r v y t
@@ -204,7 +204,7 @@ abbrev pub left_of : Exchange → Option Record → List Node
 left_of x None = []
 left_of x (Some r) = left_in x.course.standings r.session.outstanding
 
--- the range, in which the session of a record is cancelled if it is in progress
+-- the range after the session of a record is cancelled, if it is in progress
 abbrev pub cancelled_in : State → ℕ → Option Record → State
 cancelled_in s id None = s
 cancelled_in s id (Some r) = walked_to s (place_of id s.records) r (cancelled_by r.session r.session.state)

@@ -4,7 +4,7 @@ use Rattle.tree_nodes.specs.Nodes.{Node}
 use Rattle.exchange.specs.declared.outlining.Outlining.TheVariants.{Sent}
 use Rattle.exchange.specs.Outlines.{Outlines, may_outline, with_outlining, after_miss, after_text}
 
--- one is sent for a node; it brings no text, or it brings one
+-- an outline is sent for a node; it brings no text; it brings a text
 pub data OutlineStep : Type 0 where
   Sends : Node → OutlineStep
   Misses : Node → OutlineStep
@@ -15,13 +15,13 @@ outlines_after o (Sends n) = with_outlining o n Sent
 outlines_after o (Misses n) = after_miss o n
 outlines_after o (Brings n) = after_text o n
 
--- a step is possible: one is sent only for a node for which it may be
+-- a step is possible: an outline is sent only for a node that may have one
 abbrev pub MayOutline : Outlines → OutlineStep → Type 0
 MayOutline o (Sends n) = may_outline o n ≡ true
 MayOutline o (Misses n) = Unit {0}
 MayOutline o (Brings n) = Unit {0}
 
--- each step of a list is possible, one after the other
+-- each step of a list is possible, in turn
 abbrev pub MayOutlineAll : Outlines → List OutlineStep → Type 0
 MayOutlineAll o [] = Unit {0}
 MayOutlineAll o (step ∷ steps) = MayOutline o step × MayOutlineAll (outlines_after o step) steps

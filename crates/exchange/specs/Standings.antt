@@ -1,11 +1,11 @@
--- How far the asks for the nodes of a tree are: the standing of each node, by its place.
+-- The state of the asks for the nodes of a tree: the standing of each node, by its place.
 use Rattle.std.specs.Prelude.{ℕ, Bool, true, false, List, [], ◌∷◌, Option, Some, None, slice_get, slice_set, if◌then◌else◌}
 use Rattle.std.specs.List.{filter, sum_by, count_by}
 use Rattle.tree_nodes.specs.Nodes.{Node, place_of}
 use Rattle.exchange.specs.declared.standing.Standing.{Standing}
 use Rattle.exchange.specs.declared.standing.Standing.TheVariants.{Unasked, OnWay, Lost, Left, Settled}
 
--- an ask is on its way
+-- an ask is in progress
 abbrev pub is_on_way : Standing → Bool
 is_on_way (OnWay bytes) = true
 is_on_way Unasked = false
@@ -37,7 +37,7 @@ is_left (OnWay bytes) = false
 is_left Lost = false
 is_left Settled = false
 
--- the size of the answer that is on its way
+-- the size of the answer to an ask in progress
 abbrev pub way_bytes : Standing → ℕ
 way_bytes (OnWay bytes) = bytes
 way_bytes Unasked = 0
@@ -45,7 +45,7 @@ way_bytes Lost = 0
 way_bytes Left = 0
 way_bytes Settled = 0
 
--- the number of asks on their way, and the size of their answers
+-- the number of asks in progress, and the size of their answers
 abbrev pub ways : List Standing → ℕ
 ways standings = count_by is_on_way standings
 
@@ -82,7 +82,7 @@ abbrev pub was_asked : Option Standing → Bool
 was_asked (Some s) = is_asked s
 was_asked None = false
 
--- the ask for a node with this standing is on its way
+-- the ask for a node with this standing is in progress
 abbrev pub is_sent : Option Standing → Bool
 is_sent (Some s) = is_on_way s
 is_sent None = false
@@ -92,7 +92,7 @@ abbrev pub sent_bytes : Option Standing → ℕ
 sent_bytes (Some s) = way_bytes s
 sent_bytes None = 0
 
--- the ask for a node, if it is on its way, is lost
+-- the ask for a node, if it is in progress, is lost
 abbrev pub lost_in : List Standing → Node → List Standing
 lost_in standings n = if is_sent (standing_of standings n) then with_standing standings n Lost else standings
 
@@ -106,6 +106,6 @@ abbrev pub first_askable : List Standing → List Node → Option Node
 first_askable standings [] = None
 first_askable standings (n ∷ nodes) = if may_ask (standing_of standings n) then Some n else first_askable standings nodes
 
--- those of some nodes that were left
+-- the left nodes among some nodes
 abbrev pub left_in : List Standing → List Node → List Node
 left_in standings nodes = filter (λ n. was_left (standing_of standings n)) nodes

@@ -13,9 +13,9 @@ use Rattle.exchange.specs.Courses.{Course, is_over, begun, unasked, after_loss, 
 use Rattle.exchange.specs.Asks.{next_in, after_ask}
 use Rattle.exchange.specs.Answers.{sorted, judged}
 
--- a call of the owner: for the next ask of a session at any point of its walk, of a lost ask, or to go on or to close; an
--- ask that is taken back, since it was an outline that brought no text;
--- and the answer of a partner, which is sorted, and judged by what its session said, if it was due
+-- a call of the owner: for the next ask of a session at any point of its walk, for a lost ask, to resume or to close;
+-- an ask that is withdrawn, since it was an outline that brought no text; and a partner's answer, which is sorted and,
+-- if it was due, judged by its session's result
 pub data Step : Type 0 where
   Asks : Walk → Step
   Loses : Node → Step
@@ -36,7 +36,7 @@ after x (Sorts read) = (sorted x read).1
 after x (Judges n leaf len said) = (judged x n leaf len said).1
 
 -- a step is possible: no answer is sorted or judged when the course is over, only a due one is judged, and only an ask
--- that is on its way is taken back
+-- in progress is withdrawn
 abbrev pub May : Course → Step → Type 0
 May x (Sorts read) = is_over x ≡ false
 May x (Judges n leaf len said) = (is_over x ≡ false) × (may_take (standing_of x.standings n) ≡ true)
@@ -46,7 +46,7 @@ May x (Loses n) = Unit {0}
 May x GoesOn = Unit {0}
 May x Closes = Unit {0}
 
--- each step of a list is possible, one after the other
+-- each step of a list is possible, in turn
 abbrev pub MayAll : Course → List Step → Type 0
 MayAll x [] = Unit {0}
 MayAll x (step ∷ steps) = May x step × MayAll (after x step) steps

@@ -7,10 +7,9 @@
 /// ```
 #[derive(Clone, Copy, Debug, PartialEq, Eq)]
 pub struct Bounds {
-    /// The maximum number of asks on their way.
+    /// The maximum number of asks in progress.
     pub asks: u32,
-    /// The maximum size in bytes of the answers that are asked for at once, as far as they can be estimated. A single
-    /// answer may be longer.
+    /// The maximum estimated size, in bytes, of the answers to the asks in progress. A single answer may be longer.
     pub bytes: u64,
     /// The maximum number of bad answers: after one more the exchange is over.
     pub bad: u32,

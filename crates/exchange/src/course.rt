@@ -26,10 +26,10 @@ use walk_messages::{Ask, Offer, answer_parts};
 /// The length in bytes of the text of an inner node.
 const INNER_LEN: u64 = 513;
 
-/// The maximum number of asks on their way with one for a leaf, before the first leaf was taken.
+/// The maximum number of asks in progress, including one for a leaf, before the first leaf was taken.
 const FIRST_WAYS: u64 = 16;
 
-/// Which asks for an offer are on their way, what was counted, and whether more may be sent.
+/// The asks for an offer that are in progress, the counts, and the cause for which no more may be sent, if any.
 pub(crate) struct Course {
     pub(crate) offer: Offer,
     pub(crate) bounds: Bounds,
@@ -65,7 +65,7 @@ impl Course {
         }
     }
 
-    /// Makes the course of an exchange with a partner that has the local root: it is finished.
+    /// Makes the course of an exchange with a partner that has the local root: finished.
     pub(crate) fn level(alloc: Global, offer: Offer, bounds: Bounds) -> Course
         ensures { result ≡ level offer bounds }
     {
@@ -128,8 +128,7 @@ impl Course {
         ways < most && fits(self.standings.ways_bytes(), bytes, self.bounds.bytes)
     }
 
-    /// Returns the node and the text of an answer that is due. Otherwise returns the verdict on it, and counts it if it
-    /// is bad.
+    /// Returns the node and the text of a due answer, or the verdict on any other, which is counted if it is bad.
     pub(crate) fn sort<'a>(&mut self, answer: &'a [u8]) -> Result<(NodeAt, &'a [u8]), Verdict>
         requires { is_over self.old ≡ false }
         ensures { (read : Option Answer) × IsRead answer.now read × MatchResult result
@@ -154,7 +153,7 @@ impl Course {
         Err(Verdict::Bad(Refusal::NotAsked))
     }
 
-    /// Returns the verdict on an answer that was due, by what its session said of it, and counts it.
+    /// Returns the verdict on a due answer, by its session's result, and counts it.
     pub(crate) fn judge(
         &mut self,
         node: NodeAt,
@@ -197,7 +196,7 @@ impl Course {
         }
     }
 
-    /// Refuses an answer that there is no room for: no ask is sent until `go_on`.
+    /// Refuses an answer that exceeded the capacity: no ask is sent until `go_on`.
     fn refuse(&mut self, node: NodeAt, cause: Stop) -> Verdict
         ensures verdict { result ≡ verdicts.Refused cause }
         ensures counts { self.new ≡ after_refused self.old node cause }
@@ -208,7 +207,7 @@ impl Course {
         Verdict::Refused(cause)
     }
 
-    /// Counts the ask for a node as lost, if it is on its way.
+    /// Counts the ask for a node as lost, if it is in progress.
     pub(crate) fn lose(&mut self, node: NodeAt)
         ensures { self.new ≡ after_loss self.old node }
     {
@@ -217,8 +216,8 @@ impl Course {
         }
     }
 
-    /// Takes back the ask for a node that is on its way, so that another one may be sent: it was an outline, and brought
-    /// no text.
+    /// Withdraws the ask in progress for a node, so that another one may be sent: it was an outline, and brought no
+    /// text.
     pub(crate) fn retract(&mut self, node: NodeAt)
         requires { is_sent (standing_of self.old.standings node) ≡ true }
         ensures { self.new ≡ retracted self.old node }
@@ -227,7 +226,7 @@ impl Course {
         self.tally.asks -= 1;
     }
 
-    /// Lets asks be sent again after there was no room for an answer.
+    /// Resumes the asks after an answer exceeded the capacity.
     pub(crate) fn go_on(&mut self)
         ensures { self.new ≡ after_go_on self.old }
     {
@@ -246,7 +245,7 @@ impl Course {
         self.end = self.end.or(Some(End::Closed));
     }
 
-    /// Returns how far the exchange is, whose session this is, if it hasn't ended.
+    /// Returns the progress of the exchange with this session.
     pub(crate) fn report(&self, session: &Session) -> Report
         ensures { result ≡ report_by_state self.now session.now.outstanding session.now.state }
     {
@@ -258,7 +257,7 @@ impl Course {
         }
     }
 
-    /// Returns how far the exchange is, whose session has these nodes outstanding.
+    /// Returns the progress of an exchange whose session has these outstanding nodes.
     fn bounded_report(&self, outstanding: &[NodeAt]) -> Report
         ensures { result ≡ bounded_report self.now outstanding.now }
     {

@@ -1,4 +1,4 @@
-//! Dry exchanges: what a partner has, and the local rows lack.
+//! Dry exchanges, which only show the partner's rows that are missing locally.
 ghost use Rattle.std.specs.Prelude.{◌≡◌, Some, None};
 ghost use Rattle.std.specs.Arc.{arc_value};
 ghost use Rattle.vclock.specs.Answer.{Answers};
@@ -23,8 +23,8 @@ use tree_nodes::{NodeAt, Text, hash, tree_depth};
 use vclock::Refusal;
 use walk_messages::{Ask, Offer};
 
-/// An exchange that takes nothing into a range. It walks a partner's tree as an [`Exchange`](crate::Exchange) does, and
-/// shows the rows that a local snapshot lacks.
+/// An exchange that takes nothing into a range. It walks a partner's tree like an [`Exchange`](crate::Exchange), and
+/// shows the rows that are missing from a local snapshot.
 ///
 /// ```
 /// let mut exchange = DryExchange::open(alloc, own, partner.offer(7), bounds)?;
@@ -34,13 +34,13 @@ pub struct DryExchange {
     course: Course,
 }
 
-/// What became of an answer, and the news in it.
+/// The verdict on an answer, and the news in it.
 #[derive(Debug, Drop)]
 pub struct Shown {
-    /// What became of the answer. A taken one has no receipts.
+    /// The verdict on the answer. A taken one has no receipts.
     pub verdict: Verdict,
-    /// The rows of the partner's leaf that the local snapshot lacks, and the number of versions that it has; no rows
-    /// for an inner node. `None` for an answer that wasn't taken.
+    /// The rows of the partner's leaf that are missing from the local snapshot, and the number of versions that it has;
+    /// no rows for an inner node. `None` if the answer wasn't taken.
     pub news: Option<News>,
 }
 
@@ -69,7 +69,7 @@ impl DryExchange {
         })
     }
 
-    /// Returns the next ask to send, as an exchange does. Doesn't allocate.
+    /// Returns the next ask to send, like an exchange. Doesn't allocate.
     pub fn next(&mut self) -> Option<Ask>
         ensures ask { result ≡ ask_for self.old.course (next_in self.old.course self.old.session) }
         ensures sent { self.new ≡ after_dry_ask self.old }
@@ -77,7 +77,8 @@ impl DryExchange {
         self.course.next(&self.session)
     }
 
-    /// Takes a partner's answer, as bytes, as an exchange does, and shows the rows that the local snapshot lacks.
+    /// Takes the bytes of a partner's answer, like an exchange, and shows the rows that are missing from the local
+    /// snapshot.
     pub fn take(&mut self, alloc: Global, answer: &[u8]) -> Shown
         ensures { Shows self.old answer.now result.verdict result.news self.new }
     {
@@ -109,21 +110,21 @@ impl DryExchange {
         }
     }
 
-    /// Counts the ask for a node as lost, if it is on its way. Doesn't allocate.
+    /// Counts the ask for a node as lost, if it is in progress. Doesn't allocate.
     pub fn lose(&mut self, node: NodeAt)
         ensures { self.new ≡ record self.old { course = after_loss self.old.course node } }
     {
         self.course.lose(node);
     }
 
-    /// Lets asks be sent again after there was no memory for an answer. Doesn't allocate.
+    /// Resumes the asks after memory for an answer ran out. Doesn't allocate.
     pub fn go_on(&mut self)
         ensures { self.new ≡ record self.old { course = after_go_on self.old.course } }
     {
         self.course.go_on();
     }
 
-    /// Returns how far the exchange is: never Left, Closed or Gone. Doesn't allocate.
+    /// Returns the progress of the exchange: never Left, Closed or Gone. Doesn't allocate.
     pub fn report(&self) -> Report
         ensures { result ≡ report_of self.now.course (Some self.now.session) }
     {
@@ -133,16 +134,17 @@ impl DryExchange {
         }
     }
 
-    /// Estimates the number of keys that differ, from the first two levels of the trees alone. With so many such keys, as
-    /// many of the 256 nodes at depth 2 differ on average as do here; if all differ, there may be more. Returns `None`
-    /// until the root and the nodes below it that differ were taken, or if the session has failed. Doesn't allocate.
+    /// Estimates the number of keys that differ, from only the first two levels of the trees. It is the number of keys
+    /// with which, on average, the same number of the 256 nodes at depth 2 differ; if all of these differ, there may be
+    /// more keys. Returns `None` until the root and the nodes below it that differ were taken, or if the session has
+    /// failed. Doesn't allocate.
     pub fn differing_keys(&self) -> Option<u64>
         ensures { result ≡ estimate_of self.now.session }
     {
         estimate(&self.session)
     }
 
-    /// Returns the counts of the exchange: `known` are the versions of rows that the local snapshot has, too.
+    /// Returns the counts of the exchange: `known` counts the versions of rows that the local snapshot has, too.
     pub fn tally(&self) -> Tally
         ensures counts { result ≡ self.now.course.tally }
         ensures fair { IsFair self.now.course }
@@ -163,7 +165,7 @@ impl Shown {
     }
 }
 
-/// Hands a text to a session, and returns the rows in it that the local snapshot lacks.
+/// Passes a text to a session, and returns its rows that are missing from the local snapshot.
 fn take_news(
     alloc: Global,
     session: &mut Session,

@@ -12,7 +12,7 @@ const DEPTH: u8 = 2;
 /// Their number.
 const NODES: u64 = 256;
 
-/// Returns the estimate of a session, or `None` if a node above these is outstanding, or the session has failed.
+/// Returns the estimate of a session, or `None` if a node above these nodes is outstanding, or the session has failed.
 pub(crate) fn estimate(session: &Session) -> Option<u64>
     ensures { result ≡ estimate_of session.now }
 {
@@ -46,7 +46,7 @@ fn count(nodes: &[NodeAt]) -> u64
     nodes.iter().filter(|node| node.depth == DEPTH).count() as u64
 }
 
-/// Returns the number of keys that are in so many of the nodes on average.
+/// Returns the number of keys that are in this number of nodes on average.
 #[tactic(auto, using(crate::proofs::EstimateLaws::drawn_most, crate::proofs::EstimateLaws::drawn_more))]
 fn keys_in(nodes: u64) -> u64
     ensures { result ≡ keys_in nodes }

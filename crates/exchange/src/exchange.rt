@@ -31,10 +31,10 @@ const WIDTH: u8 = 3;
 /// The number of bytes of an outline before its marks.
 const HEAD_LEN: usize = 13;
 
-/// A session of a range with a partner, as its owner carries it on: which asks are on their way, which answers were
-/// bad, and when it ends. It starts no thread and sends no message: its owner sends the asks that `next` returns, hands
-/// each answer to `take`, and looks at `report`. It lives as long as its owner wants: between two calls the range may
-/// change in any way. A renewal or a migration of the range ends it.
+/// A session of a range with a partner, as its owner runs it: the asks in progress, the number of bad answers, and the
+/// end. It starts no thread and sends no message: its owner sends the asks that `next` returns, passes each answer to
+/// `take`, and reads `report`. Its owner may keep it as long as it wants: between two calls the range may change in any
+/// way. A renewal or a migration of the range ends it.
 ///
 /// ```
 /// let exchange = Exchange::open(alloc, &mut state, 2, partner.offer(7), bounds)?;
@@ -49,9 +49,9 @@ pub struct Exchange {
 
 impl Exchange {
     /// Begins an exchange with a partner's offer: opens a session that compares the rows of the range's moment with it.
-    /// If the moment has the offered root, it is finished at once, and no session is opened.
+    /// If the moment has the offered root, the exchange is finished immediately, and no session is opened.
     ///
-    /// Refused, in order: OtherFormat, OtherRange, Dirty (there is no moment, or some node of it has no digest),
+    /// Refused, in order: OtherFormat, OtherRange, Dirty (the moment is missing, or one of its nodes has no digest),
     /// SessionsFull (64 sessions are open, or there are 1,024 records), NoMemory, which may replace the two before it.
     /// On error the range is unchanged.
     #[tactic(auto, using(crate::proofs::OpenLaws::opens_refused))]
@@ -82,7 +82,8 @@ impl Exchange {
         })
     }
 
-    /// Makes an exchange with a partner that offers the local root: it has no session, and is finished. Doesn't allocate.
+    /// Makes an exchange with a partner that offers the local root: it has no session, and is finished. Doesn't
+    /// allocate.
     pub fn level(alloc: Global, partner: u16, offer: Offer, bounds: Bounds) -> Exchange
         ensures { result ≡ level_with partner offer bounds }
     {
@@ -103,8 +104,8 @@ impl Exchange {
         self.course.offer.offer
     }
 
-    /// Returns the next ask to send. Returns `None` if each outstanding node is on its way or was left, the bounds
-    /// leave no room, asks have stopped, or the exchange is over. Doesn't allocate.
+    /// Returns the next ask to send. Returns `None` if each outstanding node has an ask in progress or was left, the
+    /// bounds allow no other ask, asks have stopped, or the exchange is over. Doesn't allocate.
     pub fn next(&mut self, state: &RangeState) -> Option<Ask>
         ensures ask { result ≡ (asks_of self.old (record_in self.old state.now)).0 }
         ensures sent { self.new ≡ (asks_of self.old (record_in self.old state.now)).1 }
@@ -114,12 +115,12 @@ impl Exchange {
     }
 
     /// Returns the bytes of an outline to send in place of the ask for a node, which `next` has returned: the ask with
-    /// marks of the parts of the node's text that the local snapshot has. Returns `None` if a patch isn't likely to be
-    /// smaller than the text, an outline was sent for the node before, three in a row brought no text (the partner may not
-    /// know them), the outline has more bytes than `room`, or no ask for the node is on its way. Refused: NoMemory. Then the
-    /// exchange is unchanged, and the ask may be sent.
+    /// marks for the parts of the node's text in the local snapshot. Returns `None` if a patch isn't likely to be
+    /// smaller than the text, an outline was already sent for the node, three in a row brought no text (the partner may
+    /// not know outlines), the outline has more bytes than `room`, or no ask for the node is in progress. Refused:
+    /// NoMemory. On error the exchange is unchanged, and the ask may be sent.
     ///
-    /// An outline that brings no text, since it was lost or its answer was bad, counts as nothing: the ask is sent next.
+    /// An outline that brings no text, since it was lost or its answer was bad, isn't counted: the ask is sent next.
     pub fn outline(
         &mut self,
         alloc: Global,
@@ -171,7 +172,7 @@ impl Exchange {
         Ok(Some(Text::from(outline(alloc, ask, &salt, WIDTH, &parts)?)))
     }
 
-    /// Returns true if the ask for a node is on its way, and an outline may be sent in its place, and pays.
+    /// Returns true if the ask for a node is in progress, and an outline may be sent instead, and pays.
     fn may_outline(&self, own: &Snapshot, node: NodeAt) -> bool
         requires { node.depth ≤ tree_depth own.now.format }
         ensures { result ≡ (is_sent (standing_of self.now.course.standings node) && (may_outline self.now.outlines node && pays own.now node)) }
@@ -180,7 +181,7 @@ impl Exchange {
     }
 
     /// Takes a partner's answer or patch, as bytes, and judges it by the node that it names. Answers may arrive in any
-    /// order. The range changes as `take_answer` changes it, or not at all. An answer of an exchange that is over is late.
+    /// order. The range changes as by `take_answer`, or not at all. An answer to an exchange that is over is late.
     pub fn take(
         &mut self,
         alloc: Global,
@@ -196,8 +197,8 @@ impl Exchange {
         }
     }
 
-    /// Counts the ask for a node as lost, if it is on its way: its link was lost, say, or its time is over. It may be
-    /// sent again then. An outline that was lost counts as nothing. Doesn't allocate.
+    /// Counts the ask for a node as lost, if it is in progress: its link was lost, say, or its time is over. It may be
+    /// sent again. A lost outline isn't counted. Doesn't allocate.
     pub fn lose(&mut self, node: NodeAt)
         ensures { self.new ≡ lost_for self.old node }
     {
@@ -211,7 +212,7 @@ impl Exchange {
         }
     }
 
-    /// Lets asks be sent again after there was no room for an answer. Each ask whose answer was refused counts as lost.
+    /// Resumes the asks after an answer exceeded the capacity. Each ask whose answer was refused counts as lost.
     /// Doesn't allocate.
     pub fn go_on(&mut self)
         ensures { self.new ≡ on self.old (after_go_on self.old.course) }
@@ -219,7 +220,7 @@ impl Exchange {
         self.course.go_on();
     }
 
-    /// Returns how far the exchange is. Doesn't allocate.
+    /// Returns the progress of the exchange. Doesn't allocate.
     pub fn report(&self, state: &RangeState) -> Report
         ensures { result ≡ report_in self.now state.now }
     {
@@ -232,8 +233,8 @@ impl Exchange {
         }
     }
 
-    /// Returns a leaf that was left, by its place among them from 0 in the order in which the session asks, or `None`
-    /// if there are fewer. In each of them a key is crowded. Doesn't allocate.
+    /// Returns one of the left leaves, by its place among them, from 0, in the order of the session's asks, or `None`
+    /// if there are fewer. Each has a crowded key. Doesn't allocate.
     pub fn left(&self, state: &RangeState, place: usize) -> Option<NodeAt>
         ensures { result ≡ slice_get (left_of self.now (record_in self.now state.now)) place }
     {
@@ -241,7 +242,7 @@ impl Exchange {
         self.course.standings.left_at(nodes, place)
     }
 
-    /// Closes the exchange: cancels its session, if that is in progress, so that its record may be dropped. Doesn't
+    /// Closes the exchange: cancels its session if it is in progress, so that its record may be dropped. Doesn't
     /// allocate.
     pub fn close(&mut self, state: &mut RangeState)
         ensures exchange { self.new ≡ on self.old (closed self.old.course) }
@@ -262,21 +263,21 @@ impl Exchange {
         self.course.tally
     }
 
-    /// Returns the number of asks on their way.
+    /// Returns the number of asks in progress.
     pub fn on_way(&self) -> u64
         ensures { result ≡ ways self.now.course.standings }
     {
         self.course.standings.ways()
     }
 
-    /// Returns the estimated size of the answers to the asks on their way, in bytes.
+    /// Returns the estimated size of the answers to the asks in progress, in bytes.
     pub fn bytes_on_way(&self) -> u64
         ensures { result ≡ ways_bytes self.now.course.standings }
     {
         self.course.standings.ways_bytes()
     }
 
-    /// Takes the bytes of what isn't a patch.
+    /// Takes bytes that aren't a patch.
     fn take_answer(
         &mut self,
         alloc: Global,
@@ -298,7 +299,7 @@ impl Exchange {
         self.conclude(node, is_leaf, text.len(), said)
     }
 
-    /// Takes the steps of a patch: the text that they make of the local parts is offered to the session.
+    /// Takes the steps of a patch: the text that they make from the local parts is offered to the session.
     fn take_patch(
         &mut self,
         alloc: Global,
@@ -327,8 +328,8 @@ impl Exchange {
         }
     }
 
-    /// Returns the verdict on an answer for a node by what its session said, and counts it. An answer to an outline that
-    /// brought another text, or none, counts as nothing.
+    /// Returns the verdict on an answer for a node, by its session's result, and counts it. An answer to an outline
+    /// isn't counted if it brought another text, or none.
     fn conclude(
         &mut self,
         node: NodeAt,
@@ -351,14 +352,14 @@ impl Exchange {
         self.course.judge(node, is_leaf, len, said)
     }
 
-    /// Returns true if the ask for a node is on its way, and was sent as an outline.
+    /// Returns true if the ask for a node is in progress, and was sent as an outline.
     fn awaits(&self, node: NodeAt) -> bool
         ensures { result ≡ awaits self.now node }
     {
         self.outlines.is_out(node) && self.course.standings.is_sent(node)
     }
 
-    /// Takes back the ask for a node, whose outline brought no text.
+    /// Withdraws the ask for a node whose outline brought no text.
     fn miss(&mut self, node: NodeAt)
         requires { awaits self.old node ≡ true }
         ensures { self.new ≡ missed self.old node }
@@ -388,7 +389,7 @@ impl Exchange {
         }
     }
 
-    /// Returns true if a record of the session's number is that of the session.
+    /// Returns true if a record with the session's number belongs to the session.
     fn is_of(&self, kept: &Record) -> bool
         ensures { result ≡ is_of self.now kept.now }
     {
@@ -399,7 +400,7 @@ impl Exchange {
     }
 }
 
-/// Makes the standings and the outlines of a tree none of whose nodes was asked. Refused: NoMemory.
+/// Makes the standings and the outlines of a tree without an asked node. Refused: NoMemory.
 fn untouched(alloc: Global, format: Format) -> Result<(Standings, Outlines), Refusal>
     ensures { Answers result None (λ both. both ≡ (unasked format, unsent format)) }
 {
@@ -408,7 +409,7 @@ fn untouched(alloc: Global, format: Format) -> Result<(Standings, Outlines), Ref
     Ok((standings, outlines))
 }
 
-/// Hands a text to a session.
+/// Passes a text to a session.
 fn take_text(
     alloc: Global,
     state: &mut RangeState,

@@ -28,30 +28,30 @@ ghost use Rattle.exchange.specs.Exchanges.{IsJudged};
 ghost use Rattle.exchange.specs.Steps.{Step, MayAll, after_all, at_start};
 ghost use Rattle.exchange.specs.TruePartners.{AreTrueSteps, AsksFew};
 
-/// Whatever a partner sends, and whatever the owner calls, an exchange counts at most as many asks as the tree has
-/// nodes, and the bounds allow bad answers and lost asks. An outline that brought no text isn't counted.
+/// Whatever a partner sends, and whatever the owner calls, the number of asks that an exchange counts is at most the
+/// number of the tree's nodes plus the bad answers and lost asks that the bounds allow. An outline that brought no text
+/// isn't counted.
 pub fn asks_are_bounded()
     ensures { (offer : Offer) (bounds : Bounds) (format : Format) (steps : List Step)
         → MayAll (at_start offer bounds format) steps
         → (after_all (at_start offer bounds format) steps).tally.asks ≤ node_count format + bounds.bad + bounds.lost }
 {}
 
-/// With a true partner, an exchange asks only for nodes at which the trees differ: it counts at most as many asks as there
-/// are such nodes, bad answers, lost asks, and answers that there was no room for.
+/// With a true partner, an exchange asks only for nodes at which the trees differ: the number of asks that it counts is
+/// at most the sum of such nodes, bad answers, lost asks, and answers that exceeded the capacity.
 pub fn asks_of_a_true_partner_are_few()
     ensures { (offer : Offer) (bounds : Bounds) (own other : RowMap) (steps : List Step)
         → MayAll (at_start offer bounds own.format) steps → AreTrueSteps own other steps
         → AsksFew (length (differ own other)) (after_all (at_start offer bounds own.format) steps).tally }
 {}
 
-/// The node of the next ask isn't on its way, and wasn't left.
+/// The node of the next ask has no ask in progress, and wasn't left.
 pub fn no_node_is_on_its_way_twice()
     ensures { (x : Course) (w : Walk) (n : Node) (bytes : ℕ) → next_in x w ≡ Some (n, bytes)
         → (is_sent (standing_of x.standings n) ≡ false) × (was_left (standing_of x.standings n) ≡ false) }
 {}
 
-/// An outline is sent only for a node for which none was sent before. Whatever becomes of outlines, no more are sent than
-/// the tree has nodes.
+/// An outline is sent at most once for a node. Whatever the outlines bring, no more are sent than the tree has nodes.
 pub fn no_node_is_outlined_twice()
     ensures first { (o : Outlines) (x : Course) (w : Walk) (n : Node) (room : ℕ) (bytes : List ℕ)
         → outline_for o x w n room ≡ Some bytes → outlining_of o n ≡ Some outlining.Never }
@@ -59,14 +59,14 @@ pub fn no_node_is_outlined_twice()
         → sent_in steps ≤ node_count format }
 {}
 
-/// A leaf is left only for its own true text, in which a key is crowded.
+/// A leaf is left only for its own true text with a crowded key.
 pub fn a_leaf_is_left_for_its_own_text()
     ensures { (x y : Exchange) (s t : State) (seat : ℕ) (r : Record) (a : Answer)
         → slice_get s.records (place_of x.session s.records) ≡ Some r → IsJudged x s seat r a verdicts.Left y t
         → IsLeafFault s seat r (record { node = a.node; text = a.text }) refusals.Crowded }
 {}
 
-/// An exchange that an answer finishes has a session that is finished.
+/// An exchange that an answer finishes has a finished session.
 pub fn a_finished_exchange_has_a_finished_session()
     ensures { (x y : Exchange) (s t : State) (seat : ℕ) (r : Record) (a : Answer) (v : Verdict)
         → slice_get s.records (place_of x.session s.records) ≡ Some r → IsJudged x s seat r a v y t → x.course.end ≡ None

@@ -1,12 +1,11 @@
-//! Exchanges: the loop of a sync, the paper of 2007, section 4.7. Use one to carry on a session of a range with a
-//! partner: it says which node to ask next, takes the answers in any order, counts the bad ones, and says how far it
-//! is.
+//! Exchanges: the loop of a sync (the Dynamo paper, section 4.7). Use one to run a session of a range with a partner:
+//! it returns the next ask, takes the answers in any order, counts the bad ones, and reports its progress.
 //!
 //! - [`exchange`]: an exchange, and its calls.
-//! - [`dry`]: an exchange that takes nothing, and shows what the local rows lack.
+//! - [`dry`]: an exchange that takes nothing, and shows the rows that are missing locally.
 //! - [`bounds`]: the bounds within which it asks.
-//! - [`verdict`]: what became of an answer; [`report`]: how far an exchange is; [`tally`]: its counts.
-//! - [`standing`]: how far the ask for a node is.
+//! - [`verdict`]: the verdict on an answer; [`report`]: the progress of an exchange; [`tally`]: its counts.
+//! - [`standing`]: the state of the ask for a node.
 //! - [`laws`]: laws proved from the definitions: asks are bounded, whatever a partner sends.
 //!
 //! ```

@@ -14,13 +14,13 @@ use std::marker::Model;
 use tree_nodes::NodeAt;
 use vclock::{Format, Refusal};
 
-/// The number of outlines in a row without a text after which none is sent any more: the partner may not know them.
+/// The number of outlines in a row without a text after which no more are sent: the partner may not know outlines.
 const MISSES_MAX: u8 = 3;
 
-/// The length in bytes up to which a leaf isn't outlined: its text costs about as much as a patch.
+/// The maximum length, in bytes, of a leaf that isn't outlined: its text costs about as much as a patch.
 const SMALL_LEAF: u64 = 255;
 
-/// How far the outline of each node is, by its place, and how many in a row brought no text.
+/// The state of each node's outline, by its place, and the number of outlines in a row without a text.
 pub(crate) struct Outlines {
     nodes: Vec<Outlining>,
     misses: u8,
@@ -46,7 +46,7 @@ impl Outlines {
         }
     }
 
-    /// Makes the outlines of a tree for none of whose nodes one was sent. Refused: NoMemory.
+    /// Makes the outlines of a tree; none was sent yet. Refused: NoMemory.
     pub(crate) fn unsent(alloc: Global, format: Format) -> Result<Outlines, Refusal>
         ensures { Answers result None (λ outlines. outlines ≡ unsent format) }
     {
@@ -62,7 +62,7 @@ impl Outlines {
         self.misses < MISSES_MAX && matches!(self.get(node), Some(Outlining::Never))
     }
 
-    /// Returns true if an outline of a node is on its way.
+    /// Returns true if an outline of a node is in progress.
     pub(crate) fn is_out(&self, node: NodeAt) -> bool
         ensures { result ≡ is_out (outlining_of self.now node) }
     {
@@ -86,7 +86,7 @@ impl Outlines {
         self.misses = self.misses.saturating_add(1).min(MISSES_MAX);
     }
 
-    /// Records that the outline of a node brought a text. Three misses stay.
+    /// Records that the outline of a node brought a text. A count of three misses stays.
     pub(crate) fn end(&mut self, node: NodeAt)
         requires { is_out (outlining_of self.old node) ≡ true }
         ensures { self.new ≡ after_text self.old node }
@@ -99,7 +99,7 @@ impl Outlines {
         };
     }
 
-    /// Returns how far the outline of a node is, if the tree has the node.
+    /// Returns the state of a node's outline, if the tree has the node.
     fn get(&self, node: NodeAt) -> Option<Outlining>
         ensures { result ≡ outlining_of self.now node }
     {

@@ -1,11 +1,11 @@
-//! How far the outline of a node is.
+//! The state of the outline of a node.
 
-/// How far the outline of a node is.
+/// The state of the outline of a node.
 #[derive(Clone, Copy, Debug, PartialEq, Eq)]
 pub(crate) enum Outlining {
     /// None was sent.
     Never,
-    /// It is on its way.
+    /// It is in progress.
     Sent,
     /// It brought a text or none.
     Ended,

@@ -1,13 +1,13 @@
-//! How far an exchange is.
+//! The progress of an exchange.
 ghost use Rattle.std.specs.Prelude.{◌≡◌};
 ghost use Rattle.exchange.specs.Courses.{end_report};
 
-/// The cause for which an exchange sends no asks for now.
+/// The cause for which an exchange currently sends no asks.
 #[derive(Clone, Copy, Debug, PartialEq, Eq)]
 pub enum Stop {
-    /// The range's journal had no room for the versions of a leaf.
+    /// The range's journal had no capacity for the versions of a leaf.
     JournalFull,
-    /// There was no memory for an answer.
+    /// Memory for an answer ran out.
     NoMemory,
 }
 
@@ -18,11 +18,11 @@ pub enum End {
     Finished,
     /// The session has failed.
     Failed,
-    /// Its owner closed it.
+    /// Its owner closed the exchange.
     Closed,
 }
 
-/// How far an exchange is.
+/// The progress of an exchange.
 ///
 /// ```
 /// expect(pair.report() == Report::Waiting, "the root is to be asked")?;
@@ -31,11 +31,11 @@ pub enum End {
 pub enum Report {
     /// The range holds each version of the offer, or one that has seen it.
     Finished,
-    /// Some node is to be asked, or its ask is on its way.
+    /// Some node has to be asked, or its ask is in progress.
     Waiting,
     /// Only leaves that were left are outstanding: in each of them a key is crowded.
     Left,
-    /// There was no room for an answer: `go_on` or `close`.
+    /// An answer exceeded the capacity: `go_on` or `close`.
     Stopped(Stop),
     /// More answers were bad than the bounds allow.
     TooManyBad,
@@ -43,9 +43,9 @@ pub enum Report {
     TooManyLost,
     /// A text had the right digest, but its node can't have it: the session has failed.
     Failed,
-    /// Its owner closed it.
+    /// Its owner closed the exchange.
     Closed,
-    /// The range doesn't have the session, or it was cancelled: by a renewal or a migration, say.
+    /// The range doesn't have the session, or the session was cancelled: by a renewal or a migration, say.
     Gone,
 }
 

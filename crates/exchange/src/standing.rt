@@ -1,11 +1,11 @@
-//! How far the ask for a node is.
+//! The state of the ask for a node.
 
-/// How far the ask for a node is.
+/// The state of the ask for a node.
 #[derive(Clone, Copy, Debug, PartialEq, Eq)]
 pub enum Standing {
     /// No ask was sent.
     Unasked,
-    /// An ask is on its way, and its answer may have so many bytes.
+    /// An ask is in progress, and its answer may have this many bytes.
     OnWay(u64),
     /// The last ask was lost: another one may be sent.
     Lost,

@@ -42,7 +42,7 @@ impl Standings {
         }
     }
 
-    /// Makes the standings of a tree none of whose nodes was asked. Refused: NoMemory.
+    /// Makes the standings of a tree without an asked node. Refused: NoMemory.
     pub(crate) fn unasked(alloc: Global, format: Format) -> Result<Standings, Refusal>
         ensures { Answers result None (λ standings. standings ≡ unasked format) }
     {
@@ -55,7 +55,7 @@ impl Standings {
         })
     }
 
-    /// Returns the number of asks on their way.
+    /// Returns the number of asks in progress.
     pub(crate) fn ways(&self) -> u64
         ensures number { result ≡ ways self.now }
         ensures most { result ≤ length self.now }
@@ -77,7 +77,7 @@ impl Standings {
         self.list.get(node.place()).copied()
     }
 
-    /// Sets the standing of a node that may be asked: an ask is on its way, whose answer may have so many bytes.
+    /// Sets the standing of a node that may be asked: an ask is in progress, whose answer may have `bytes` bytes.
     pub(crate) fn send(&mut self, node: NodeAt, bytes: u64)
         requires may { may_ask (standing_of self.old node) ≡ true }
         requires fits { ways_bytes self.old + bytes < 2 ^ 64 }
@@ -88,7 +88,7 @@ impl Standings {
         self.bytes += bytes;
     }
 
-    /// Sets the standing of a node whose answer may be taken to one that isn't on its way.
+    /// Sets the standing of a node whose answer may be taken; the new one has no ask in progress.
     pub(crate) fn end(&mut self, node: NodeAt, standing: Standing)
         requires may { may_take (standing_of self.old node) ≡ true }
         requires ended { is_on_way standing ≡ false }
@@ -100,7 +100,7 @@ impl Standings {
         self.list[node.place()] = standing;
     }
 
-    /// Sets the standing of a node whose ask is on its way to lost. Returns true if it was.
+    /// Sets the standing of a node to lost if its ask is in progress. Returns true if it was.
     pub(crate) fn lose(&mut self, node: NodeAt) -> bool
         ensures was { result ≡ is_sent (standing_of self.old node) }
         ensures now { self.new ≡ lost_in self.old node }
@@ -112,7 +112,7 @@ impl Standings {
         is_sent
     }
 
-    /// Returns true if an ask for a node is on its way.
+    /// Returns true if an ask for a node is in progress.
     pub(crate) fn is_sent(&self, node: NodeAt) -> bool
         ensures { result ≡ is_sent (standing_of self.now node) }
     {
@@ -131,7 +131,7 @@ impl Standings {
         None
     }
 
-    /// Returns one of the nodes that were left, by its place among these from 0, or `None` if there are fewer.
+    /// Returns one of the left nodes, by its place among them, from 0, or `None` if there are fewer.
     pub(crate) fn left_at(&self, nodes: &[NodeAt], place: usize) -> Option<NodeAt>
         ensures { result ≡ slice_get (left_in self.now nodes.now) place }
     {
@@ -172,7 +172,7 @@ pub(crate) fn node_count(format: Format) -> usize
     }
 }
 
-/// Returns the number of asks on their way for a node with this standing: 1 or 0.
+/// Returns the number of asks in progress for a node with this standing: 1 or 0.
 fn ways_of(standing: Option<Standing>) -> u64
     ensures { result ≡ cond (is_sent standing) 1 0 }
 {
@@ -182,7 +182,7 @@ fn ways_of(standing: Option<Standing>) -> u64
     }
 }
 
-/// Returns the size in bytes of the answer that is on its way for a node with this standing.
+/// Returns the size in bytes of the answer to the ask in progress for a node with this standing, or 0.
 fn bytes_of(standing: Option<Standing>) -> u64
     ensures { result ≡ sent_bytes standing }
 {

@@ -6,7 +6,7 @@ ghost use Rattle.exchange.specs.Answers.{tallied};
 
 use range_state::AnswerTaken;
 
-/// The counts of an exchange. Those of versions and bytes stop at 2^64 - 1.
+/// The counts of an exchange. The counts of versions and bytes stop at 2^64 - 1.
 #[derive(Clone, Copy, Debug, PartialEq, Eq)]
 pub struct Tally {
     /// The number of asks that were sent, without outlines that brought no text.
@@ -15,11 +15,11 @@ pub struct Tally {
     pub bad: u64,
     /// The number of lost asks.
     pub lost: u64,
-    /// The number of asks whose answers there was no room for, since asks were last sent.
+    /// The number of asks whose answers exceeded the capacity, since asks were last resumed.
     pub refused: u64,
     /// The number of new versions: each is an entry of the range's journal.
     pub accepted: u64,
-    /// The number of known versions in the answers that were taken.
+    /// The number of known versions in the taken answers.
     pub known: u64,
     /// The number of leaves that were taken.
     pub leaves: u64,
@@ -28,7 +28,7 @@ pub struct Tally {
 }
 
 impl Tally {
-    /// Returns counts of nothing.
+    /// Returns counts of 0.
     pub(crate) fn none() -> Tally
         ensures { result ≡ no_tally }
     {
@@ -44,7 +44,7 @@ impl Tally {
         }
     }
 
-    /// Returns the mean length of the leaves that were taken: 0 if there are none.
+    /// Returns the mean length of the taken leaves, or 0 without any.
     pub(crate) fn mean_leaf(&self) -> u64
         ensures { result ≡ mean_leaf self.now }
     {
@@ -55,7 +55,7 @@ impl Tally {
         }
     }
 
-    /// Counts a text that was taken, of a leaf or of an inner node.
+    /// Counts a taken text of a leaf or an inner node.
     pub(crate) fn count(&mut self, taken: &AnswerTaken, is_leaf: bool, len: usize)
         ensures { self.new ≡ tallied self.old taken.now is_leaf len }
     {

@@ -1,5 +1,6 @@
 -- The rows of chunks one after another, and what is left of them where one chunk changes or is split.
-use Rattle.std.proofs.Common.{◌≡◌, ℕ, zero, suc, ◌+◌, ◌-◌, ◌<◌, ◌≤◌, ◌^◌, None, Result, Ok, Err, OnOk, OnErr, List, [], ◌∷◌, ◌++◌, length, get_or, set, take, drop, refl, sym, ap, subst, ◌∙◌, append_assoc, arith}
+use Rattle.std.proofs.Common.{◌≡◌, ℕ, zero, suc, ◌+◌, ◌-◌, ◌<◌, ◌≤◌, ◌^◌, None, Result, Ok, Err, OnOk, OnErr, List, [], ◌∷◌, ◌++◌, length, get_or}
+use Rattle.std.proofs.Common.{set, take, drop, refl, sym, ap, subst, ◌∙◌, append_assoc, arith}
 use Rattle.std.specs.List.{AllByRecursion, insert, flat_map}
 use Rattle.std.proofs.lemmas.List.{length-append, append-nil, take-append-drop, length-set, length-take-le, length-drop}
 use Rattle.std.proofs.lemmas.List.Concat.{flat_map-append}
@@ -19,7 +20,8 @@ use Rattle.hash_tree.proofs.ChunkLaws.{all-set, all-insert}
 -- ---- texts and lengths
 
 -- the texts of the chunks are those of all rows
-pub texts_of : (format : Format) (chunks : List Bucket) → AllByRecursion (IsChunk format) chunks → flat_map chunk_text chunks ≡ flat_map (row_text format) (all_rows chunks)
+pub texts_of : (format : Format) (chunks : List Bucket) → AllByRecursion (IsChunk format) chunks
+    → flat_map chunk_text chunks ≡ flat_map (row_text format) (all_rows chunks)
 texts_of format [] all = refl
 texts_of format (c ∷ chunks) all =
     ap (λ (f : Format). flat_map (row_text f) c.rows ++ flat_map chunk_text chunks) all.0.same
@@ -27,11 +29,13 @@ texts_of format (c ∷ chunks) all =
     ∙ sym (flat_map-append (row_text format) c.rows (all_rows chunks))
 
 -- so the texts of a leaf's rows are those of its chunks
-pub rows_of_chunks : (b : Bucket) (format : Format) (chunks : List Bucket) → record { format = format; rows = all_rows chunks } ≡ b → AreChunks format chunks → flat_map chunk_text chunks ≡ flat_map (row_text b.format) b.rows
+pub rows_of_chunks : (b : Bucket) (format : Format) (chunks : List Bucket) → record { format = format; rows = all_rows chunks } ≡ b
+    → AreChunks format chunks → flat_map chunk_text chunks ≡ flat_map (row_text b.format) b.rows
 rows_of_chunks b format chunks same are = texts_of format chunks are.each ∙ ap (λ (x : Bucket). flat_map (row_text x.format) x.rows) same
 
 -- and its text is a byte and these
-pub text_of_chunks : (b : Bucket) (format : Format) (chunks : List Bucket) → record { format = format; rows = all_rows chunks } ≡ b → AreChunks format chunks → leaf_byte format ∷ flat_map chunk_text chunks ≡ leaf_text b.format b.rows
+pub text_of_chunks : (b : Bucket) (format : Format) (chunks : List Bucket) → record { format = format; rows = all_rows chunks } ≡ b
+    → AreChunks format chunks → leaf_byte format ∷ flat_map chunk_text chunks ≡ leaf_text b.format b.rows
 unfolding leaf_text
 text_of_chunks b format chunks same are =
     ap (λ (rest : List ℕ). leaf_byte format ∷ rest) (texts_of format chunks are.each)
@@ -43,7 +47,8 @@ unfolding leaf_text
 some_text b = omega arith
 
 -- the rows before a chunk, its own, and those after it
-pub three_parts : (chunks : List Bucket) (i : ℕ) → i < length chunks → all_rows chunks ≡ all_rows (take i chunks) ++ chunk_rows chunks i ++ all_rows (drop (i + 1) chunks)
+pub three_parts : (chunks : List Bucket) (i : ℕ) → i < length chunks
+    → all_rows chunks ≡ all_rows (take i chunks) ++ chunk_rows chunks i ++ all_rows (drop (i + 1) chunks)
 three_parts [] i h = absurd (omega arith)
 three_parts (c ∷ chunks) zero h = refl
 three_parts (c ∷ chunks) (suc i) h =
@@ -86,7 +91,8 @@ offered_at-before [] back i v h = absurd (omega arith)
 offered_at-before (r ∷ rows) back zero v h = refl
 offered_at-before (r ∷ rows) back (suc i) v h = ap (λ rest. r ∷ rest) (offered_at-before rows back i v (omega arith))
 
-offered_at-behind : (front rows : List Row) (i n : ℕ) (v : Version) → length front + i ≡ n → offered_at (front ++ rows) n v ≡ front ++ offered_at rows i v
+offered_at-behind : (front rows : List Row) (i n : ℕ) (v : Version) → length front + i ≡ n
+    → offered_at (front ++ rows) n v ≡ front ++ offered_at rows i v
 offered_at-behind [] rows i n v e = ap (λ (m : ℕ). offered_at rows m v) (let same : n ≡ i = omega (arith, e) in same)
 offered_at-behind (r ∷ front) rows i zero v e = absurd (omega (arith, e))
 offered_at-behind (r ∷ front) rows i (suc n) v e = ap (λ rest. r ∷ rest) (offered_at-behind front rows i n v (omega (arith, e)))
@@ -108,25 +114,36 @@ insert-behind (x ∷ front) rows i (suc n) y e = ap (λ rest. x ∷ rest) (inser
 
 -- ---- what holds of the chunk that a read gives
 
-pub chunk_is : (format : Format) (chunks : List Bucket) (i : ℕ) (c : Bucket) → AllByRecursion (IsChunk format) chunks → i < length chunks → c ≡ get_or chunks i c → IsChunk format c
+pub chunk_is : (format : Format) (chunks : List Bucket) (i : ℕ) (c : Bucket) → AllByRecursion (IsChunk format) chunks → i < length chunks
+    → c ≡ get_or chunks i c → IsChunk format c
 chunk_is format chunks i c all h is = subst (IsChunk format) (sym is) (all_get (IsChunk format) chunks i c all h)
 
 -- a value that the format admits is one for each chunk
-pub values_fit : (format : Format) (chunks : List Bucket) (v : Version) → AllByRecursion (IsChunk format) chunks → value_fault format v.kind v.value ≡ None → AllByRecursion (λ (c : Bucket). value_fault c.format v.kind v.value ≡ None) chunks
+pub values_fit : (format : Format) (chunks : List Bucket) (v : Version) → AllByRecursion (IsChunk format) chunks
+    → value_fault format v.kind v.value ≡ None → AllByRecursion (λ (c : Bucket). value_fault c.format v.kind v.value ≡ None) chunks
 values_fit format [] v all h = tt
-values_fit format (c ∷ chunks) v all h = (subst (λ (f : Format). value_fault f v.kind v.value ≡ None) (sym all.0.same) h, values_fit format chunks v all.1 h)
+values_fit format (c ∷ chunks) v all h =
+    (subst (λ (f : Format). value_fault f v.kind v.value ≡ None) (sym all.0.same) h, values_fit format chunks v all.1 h)
 
 -- where a chunk is split before a gap, the gap is in the second part
-pub gap-behind : (chunks parts : List Bucket) (s : Spot) (cut : ℕ) → IsGapSpot chunks s → IsSplit chunks s.chunk cut parts → length (chunk_rows chunks s.chunk) ≡ 15 → cut < s.at → IsGapSpot parts (record { chunk = s.chunk + 1; at = s.at - cut })
+pub gap-behind : (chunks parts : List Bucket) (s : Spot) (cut : ℕ) → IsGapSpot chunks s → IsSplit chunks s.chunk cut parts
+    → length (chunk_rows chunks s.chunk) ≡ 15 → cut < s.at → IsGapSpot parts (record { chunk = s.chunk + 1; at = s.at - cut })
 gap-behind chunks parts s cut gap split full behind = record {
   chunk = omega (arith, split.more, gap.chunk);
   within = omega (arith, split.back, gap.within, full, behind);
 }
 
 -- its place is the same
-pub place-behind : (chunks parts : List Bucket) (s : Spot) (cut : ℕ) → IsSplit chunks s.chunk cut parts → cut < s.at → place_in parts (record { chunk = s.chunk + 1; at = s.at - cut }) ≡ place_in chunks s
+pub place-behind : (chunks parts : List Bucket) (s : Spot) (cut : ℕ) → IsSplit chunks s.chunk cut parts → cut < s.at
+    → place_in parts (record { chunk = s.chunk + 1; at = s.at - cut }) ≡ place_in chunks s
 place-behind chunks parts s cut split behind =
-    omega (arith, ap (λ (rows : List Row). length rows) split.first, length-append (all_rows (take s.chunk chunks)) (chunk_rows parts s.chunk), split.front, behind)
+    omega (
+      arith,
+      ap (λ (rows : List Row). length rows) split.first,
+      length-append (all_rows (take s.chunk chunks)) (chunk_rows parts s.chunk),
+      split.front,
+      behind,
+    )
 
 -- ---- what holds where a call answers, and where it fails
 
@@ -141,12 +158,14 @@ on_err_map (Err e) f h = f h
 -- ---- one chunk changes
 
 -- a version is offered to a row of a chunk
-pub offered-in_chunk : (chunks : List Bucket) (i at place : ℕ) (v : Version) (c : Bucket) → i < length chunks → at < length (chunk_rows chunks i) → length (all_rows (take i chunks)) + at ≡ place → c.rows ≡ offered_at (chunk_rows chunks i) at v
+pub offered-in_chunk : (chunks : List Bucket) (i at place : ℕ) (v : Version) (c : Bucket) → i < length chunks → at < length (chunk_rows chunks i)
+    → length (all_rows (take i chunks)) + at ≡ place → c.rows ≡ offered_at (chunk_rows chunks i) at v
     → all_rows (set chunks i c) ≡ offered_at (all_rows chunks) place v
 offered-in_chunk [] i at place v c h within before now = absurd (omega arith)
 offered-in_chunk (x ∷ chunks) zero at place v c h within before now =
     let same : at ≡ place = omega (arith, before) in
-    ap (λ (rows : List Row). rows ++ all_rows chunks) now ∙ sym (offered_at-before x.rows (all_rows chunks) at v within) ∙ ap (λ (m : ℕ). offered_at (x.rows ++ all_rows chunks) m v) same
+    ap (λ (rows : List Row). rows ++ all_rows chunks) now ∙ sym (offered_at-before x.rows (all_rows chunks) at v within)
+    ∙ ap (λ (m : ℕ). offered_at (x.rows ++ all_rows chunks) m v) same
 offered-in_chunk (x ∷ chunks) (suc i) at place v c h within before now =
     let first = all_rows (take i chunks) in
     let rest : length first + at ≡ place - length x.rows = omega (arith, before, length-append x.rows first) in
@@ -154,7 +173,8 @@ offered-in_chunk (x ∷ chunks) (suc i) at place v c h within before now =
     ap (λ (rows : List Row). x.rows ++ rows) (offered-in_chunk chunks i at (place - length x.rows) v c (omega arith) within rest now)
     ∙ sym (offered_at-behind x.rows (all_rows chunks) (place - length x.rows) place v whole)
 
-pub versions-in_chunk : (chunks : List Bucket) (i at place : ℕ) → i < length chunks → at < length (chunk_rows chunks i) → length (all_rows (take i chunks)) + at ≡ place → row_versions (chunk_rows chunks i) at ≡ row_versions (all_rows chunks) place
+pub versions-in_chunk : (chunks : List Bucket) (i at place : ℕ) → i < length chunks → at < length (chunk_rows chunks i)
+    → length (all_rows (take i chunks)) + at ≡ place → row_versions (chunk_rows chunks i) at ≡ row_versions (all_rows chunks) place
 versions-in_chunk [] i at place h within before = absurd (omega arith)
 versions-in_chunk (x ∷ chunks) zero at place h within before =
     let same : at ≡ place = omega (arith, before) in
@@ -163,15 +183,18 @@ versions-in_chunk (x ∷ chunks) (suc i) at place h within before =
     let first = all_rows (take i chunks) in
     let rest : length first + at ≡ place - length x.rows = omega (arith, before, length-append x.rows first) in
     let whole : length x.rows + (place - length x.rows) ≡ place = omega (arith, before, length-append x.rows first) in
-    versions-in_chunk chunks i at (place - length x.rows) (omega arith) within rest ∙ sym (versions_at-behind x.rows (all_rows chunks) (place - length x.rows) place whole)
+    versions-in_chunk chunks i at (place - length x.rows) (omega arith) within rest
+    ∙ sym (versions_at-behind x.rows (all_rows chunks) (place - length x.rows) place whole)
 
 -- a row is put into a chunk
-pub inserted-in_chunk : (chunks : List Bucket) (i at place : ℕ) (r : Row) (c : Bucket) → i < length chunks → at ≤ length (chunk_rows chunks i) → length (all_rows (take i chunks)) + at ≡ place → c.rows ≡ insert (chunk_rows chunks i) at r
+pub inserted-in_chunk : (chunks : List Bucket) (i at place : ℕ) (r : Row) (c : Bucket) → i < length chunks → at ≤ length (chunk_rows chunks i)
+    → length (all_rows (take i chunks)) + at ≡ place → c.rows ≡ insert (chunk_rows chunks i) at r
     → all_rows (set chunks i c) ≡ insert (all_rows chunks) place r
 inserted-in_chunk [] i at place r c h within before now = absurd (omega arith)
 inserted-in_chunk (x ∷ chunks) zero at place r c h within before now =
     let same : at ≡ place = omega (arith, before) in
-    ap (λ (rows : List Row). rows ++ all_rows chunks) now ∙ sym (insert-append_left x.rows (all_rows chunks) at r within) ∙ ap (λ (m : ℕ). insert (x.rows ++ all_rows chunks) m r) same
+    ap (λ (rows : List Row). rows ++ all_rows chunks) now ∙ sym (insert-append_left x.rows (all_rows chunks) at r within)
+    ∙ ap (λ (m : ℕ). insert (x.rows ++ all_rows chunks) m r) same
 inserted-in_chunk (x ∷ chunks) (suc i) at place r c h within before now =
     let first = all_rows (take i chunks) in
     let rest : length first + at ≡ place - length x.rows = omega (arith, before, length-append x.rows first) in
@@ -180,28 +203,35 @@ inserted-in_chunk (x ∷ chunks) (suc i) at place r c h within before now =
     ∙ sym (insert-behind x.rows (all_rows chunks) (place - length x.rows) place r whole)
 
 -- the chunks are still those of a leaf
-pub chunks-offered : (format : Format) (chunks : List Bucket) (i at : ℕ) (v : Version) (c old : Bucket) → i < length chunks → old ≡ get_or chunks i old → c ≡ record { format = old.format; rows = offered_at old.rows at v } → AreChunks format chunks → AreChunks format (set chunks i c)
+pub chunks-offered : (format : Format) (chunks : List Bucket) (i at : ℕ) (v : Version) (c old : Bucket) → i < length chunks
+    → old ≡ get_or chunks i old → c ≡ record { format = old.format; rows = offered_at old.rows at v } → AreChunks format chunks
+    → AreChunks format (set chunks i c)
 chunks-offered format chunks i at v c old h is now are =
     let was : IsChunk format old = subst (IsChunk format) (sym is) (all_get (IsChunk format) chunks i old are.each h) in
     let long = ap (λ (x : Bucket). length x.rows) now ∙ length-offered_at old.rows at v in
     record {
-      each = all-set (IsChunk format) chunks i c (record { same = ap (λ (x : Bucket). x.format) now ∙ was.same; some = omega (arith, long, was.some); few = omega (arith, long, was.few) }) are.each;
+      each = all-set (IsChunk format) chunks i c
+          (record { same = ap (λ (x : Bucket). x.format) now ∙ was.same; some = omega (arith, long, was.some); few = omega (arith, long, was.few) })
+          are.each;
       few = omega (arith, length-set chunks i c, are.few);
     }
 
-pub chunks-inserted : (format : Format) (chunks : List Bucket) (i at : ℕ) (r : Row) (c old : Bucket) → i < length chunks → old ≡ get_or chunks i old → c ≡ record { format = old.format; rows = insert old.rows at r } → at ≤ length old.rows → length old.rows < 15
+pub chunks-inserted : (format : Format) (chunks : List Bucket) (i at : ℕ) (r : Row) (c old : Bucket) → i < length chunks → old ≡ get_or chunks i old
+    → c ≡ record { format = old.format; rows = insert old.rows at r } → at ≤ length old.rows → length old.rows < 15
     → AreChunks format chunks → AreChunks format (set chunks i c)
 chunks-inserted format chunks i at r c old h is now within room are =
     let was : IsChunk format old = subst (IsChunk format) (sym is) (all_get (IsChunk format) chunks i old are.each h) in
     let long = ap (λ (x : Bucket). length x.rows) now ∙ length-insert old.rows at r within in
     record {
-      each = all-set (IsChunk format) chunks i c (record { same = ap (λ (x : Bucket). x.format) now ∙ was.same; some = omega (arith, long); few = omega (arith, long, room) }) are.each;
+      each = all-set (IsChunk format) chunks i c
+          (record { same = ap (λ (x : Bucket). x.format) now ∙ was.same; some = omega (arith, long); few = omega (arith, long, room) }) are.each;
       few = omega (arith, length-set chunks i c, are.few);
     }
 
 -- ---- a chunk is split
 
-split_rows : (chunks : List Bucket) (i : ℕ) (a b : Bucket) → i < length chunks → a.rows ++ b.rows ≡ chunk_rows chunks i → all_rows (insert (set chunks i a) (i + 1) b) ≡ all_rows chunks
+split_rows : (chunks : List Bucket) (i : ℕ) (a b : Bucket) → i < length chunks → a.rows ++ b.rows ≡ chunk_rows chunks i
+    → all_rows (insert (set chunks i a) (i + 1) b) ≡ all_rows chunks
 split_rows [] i a b h same = absurd (omega arith)
 split_rows (c ∷ chunks) zero a b h same = sym (append_assoc a.rows b.rows (all_rows chunks)) ∙ ap (λ (rows : List Row). rows ++ all_rows chunks) same
 split_rows (c ∷ chunks) (suc i) a b h same =
@@ -229,16 +259,20 @@ split_back (c ∷ chunks) (suc i) a b h =
     let next : suc i + 1 ≡ suc (i + 1) = omega arith in
     rw next (split_back chunks i a b (omega arith))
 
-pub is_split : (chunks : List Bucket) (i cut : ℕ) (old a b : Bucket) → i < length chunks → length chunks < 2 ^ 56 → 1 ≤ cut → cut < 15 → old ≡ get_or chunks i old → length old.rows ≡ 15
-    → a ≡ record { format = old.format; rows = take cut old.rows } → b ≡ record { format = old.format; rows = drop cut old.rows } → IsSplit chunks i cut (insert (set chunks i a) (i + 1) b)
+pub is_split : (chunks : List Bucket) (i cut : ℕ) (old a b : Bucket) → i < length chunks → length chunks < 2 ^ 56 → 1 ≤ cut → cut < 15
+    → old ≡ get_or chunks i old → length old.rows ≡ 15
+    → a ≡ record { format = old.format; rows = take cut old.rows } → b ≡ record { format = old.format; rows = drop cut old.rows }
+    → IsSplit chunks i cut (insert (set chunks i a) (i + 1) b)
 is_split chunks i cut old a b h few some less is full front back =
     let parts = insert (set chunks i a) (i + 1) b in
     let is_a = ap (λ (x : Bucket). x.rows) front in
     let is_b = ap (λ (x : Bucket). x.rows) back in
-    let whole : a.rows ++ b.rows ≡ old.rows = ap (λ (rows : List Row). rows ++ b.rows) is_a ∙ ap (λ (rows : List Row). take cut old.rows ++ rows) is_b ∙ take-append-drop cut old.rows in
+    let whole : a.rows ++ b.rows ≡ old.rows = ap (λ (rows : List Row). rows ++ b.rows) is_a ∙ ap (λ (rows : List Row). take cut old.rows ++ rows) is_b
+    ∙ take-append-drop cut old.rows in
     let long_a : length a.rows ≡ cut = ap (λ (rows : List Row). length rows) is_a ∙ length-take-le cut old.rows (omega (arith, full, less)) in
     let long_b : length b.rows + cut ≡ 15 = omega (arith, ap (λ (rows : List Row). length rows) is_b, length-drop cut old.rows, full, less) in
-    let many : length parts ≡ length chunks + 1 = omega (arith, length-insert (set chunks i a) (i + 1) b (omega (arith, h, length-set chunks i a)), length-set chunks i a) in
+    let many : length parts ≡ length chunks + 1 = omega
+    (arith, length-insert (set chunks i a) (i + 1) b (omega (arith, h, length-set chunks i a)), length-set chunks i a) in
     let at = split_front chunks i a b h in
     record {
       rows = split_rows chunks i a b h (whole ∙ rows_read chunks i old h is);
@@ -250,8 +284,14 @@ is_split chunks i cut old a b h few some less is full front back =
       each = λ format are.
           let was : IsChunk format old = subst (IsChunk format) (sym is) (all_get (IsChunk format) chunks i old are.each h) in
           record {
-            each = all-insert (IsChunk format) (set chunks i a) (i + 1) b (record { same = ap (λ (x : Bucket). x.format) back ∙ was.same; some = omega (arith, long_b, less); few = omega (arith, long_b) })
-                (all-set (IsChunk format) chunks i a (record { same = ap (λ (x : Bucket). x.format) front ∙ was.same; some = omega (arith, long_a, some); few = omega (arith, long_a, less) }) are.each);
+            each = all-insert (IsChunk format) (set chunks i a) (i + 1) b
+                (record { same = ap (λ (x : Bucket). x.format) back ∙ was.same; some = omega (arith, long_b, less); few = omega (arith, long_b) })
+                (all-set (IsChunk format) chunks i a
+                (record {
+                  same = ap (λ (x : Bucket). x.format) front ∙ was.same;
+                  some = omega (arith, long_a, some);
+                  few = omega (arith, long_a, less);
+                }) are.each);
             few = omega (arith, many, few);
           };
     }

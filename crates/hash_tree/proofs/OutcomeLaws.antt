@@ -24,9 +24,11 @@ pub no_memory : {T S : Type 0} (e : Refusal) (old new s : S) (x : T) → Does (E
 no_memory e old new s x h = (h.0, elim h.1 [ inl n ↦ n.0 | inr r ↦ absurd (cc) ])
 
 -- an outcome on a part is one on the whole
-pub does_within : {T S R : Type 0} (f : S → R) (r : Result T Refusal) (old new s : S) (x : T) (was now : R) → f old ≡ was → f s ≡ now → Does r old new (gives x s) → Does r was (f new) (gives x now)
+pub does_within : {T S R : Type 0} (f : S → R) (r : Result T Refusal) (old new s : S) (x : T) (was now : R) → f old ≡ was → f s ≡ now
+    → Does r old new (gives x s) → Does r was (f new) (gives x now)
 does_within f (Ok y) old new s x was now e g is = ap (λ o. gives x o) (sym g) ∙ ap (through f) is
-does_within f (Err m) old new s x was now e g h = (ap f h.0 ∙ e, elim h.1 [ inl n ↦ inl n | inr r ↦ inr (ap (λ o. gives x o) (sym g) ∙ ap (through f) r) ])
+does_within f (Err m) old new s x was now e g h =
+    (ap f h.0 ∙ e, elim h.1 [ inl n ↦ inl n | inr r ↦ inr (ap (λ o. gives x o) (sym g) ∙ ap (through f) r) ])
 
 -- what holds of the state before a call, and of the state that it is to give, holds of the state after it
 pub does_keep : {T S : Type 0} (P : S → Type 0) (r : Result T Refusal) (old new s : S) (x : T) → P old → P s → Does r old new (gives x s) → P new
@@ -34,6 +36,7 @@ does_keep P (Ok y) old new s x was now is = subst P (ap (state_of s) is) now
 does_keep P (Err m) old new s x was now h = subst P (sym h.0) was
 
 -- a list of handles that is to be changed has the elements of the shared one
-pub unshared : {X : Type 0} (old now : Vec X Global) → (now ≡ old) ⊎ (AllZip (λ (x y : X). y ≡ x) old.items now.items × (vec_len now ≡ vec_len old)) → now.items ≡ old.items
+pub unshared : {X : Type 0} (old now : Vec X Global) → (now ≡ old) ⊎ (AllZip (λ (x y : X). y ≡ x) old.items now.items × (vec_len now ≡ vec_len old))
+    → now.items ≡ old.items
 unshared {X = X} old now (inl same) = ap (λ (v : Vec X Global). v.items) same
 unshared {X = X} old now (inr copy) = same_from_all_zip (λ (x y : X). y ≡ x) old.items now.items copy.0 (λ x y e. e)

@@ -25,11 +25,12 @@ use Rattle.hash_tree.proofs.KeyLaws.{AscendByKey-with_offer}
 -- a set covers the version that was put into it
 covered-with_version : (v : Version) (S : List Version) → covered v (with_version v S) ≡ true
 covered-with_version v [] = or_left _ _ (or_left _ _ (ap is_eq (tied_itself version_total v)))
-covered-with_version v (w ∷ S) = elim (version_cmp v w) as (λ o. version_cmp v w ≡ o → covered v (place_by o (v ∷ w ∷ S) (w ∷ S) (w ∷ with_version v S)) ≡ true) [
-  | Less ↦ λ o. or_left _ _ (or_left _ _ (ap is_eq (tied_itself version_total v)))
-  | Equal ↦ λ o. or_left _ _ (or_left _ _ (ap is_eq o))
-  | Greater ↦ λ o. or_right _ _ (covered-with_version v S)
-] refl
+covered-with_version v (w ∷ S) =
+    elim (version_cmp v w) as (λ o. version_cmp v w ≡ o → covered v (place_by o (v ∷ w ∷ S) (w ∷ S) (w ∷ with_version v S)) ≡ true) [
+      | Less ↦ λ o. or_left _ _ (or_left _ _ (ap is_eq (tied_itself version_total v)))
+      | Equal ↦ λ o. or_left _ _ (or_left _ _ (ap is_eq o))
+      | Greater ↦ λ o. or_right _ _ (covered-with_version v S)
+    ] refl
 
 -- a set covers the version that was offered to it
 covered-offered : (v : Version) (S : List Version) → covered v (offered v S) ≡ true
@@ -55,7 +56,8 @@ all-offered P v S h all = elim (covered v S) as (λ b. AllByRecursion P (cond b 
 ]
 
 -- a row has a text after an offer to its set
-pub fits-offered : (format : Format) (k : List ℕ) (v : Version) (S : List Version) → key_fault k ≡ None → value_fault format v.kind v.value ≡ None → AllByRecursion (λ (u : Version). value_fault format u.kind u.value ≡ None) S → FitsText format (record { key = k; versions = offered v S })
+pub fits-offered : (format : Format) (k : List ℕ) (v : Version) (S : List Version) → key_fault k ≡ None → value_fault format v.kind v.value ≡ None
+    → AllByRecursion (λ (u : Version). value_fault format u.kind u.value ≡ None) S → FitsText format (record { key = k; versions = offered v S })
 fits-offered format k v S key value all = record {
   key = key;
   some = some-offered v S;
@@ -71,13 +73,16 @@ len-filter f p (x ∷ xs) = elim (p x) as (λ b. length (flat_map f (cond b (x �
 ]
 
 -- with one more version there is at most its text more
-len-with_version : (f : Version → List ℕ) (v : Version) (S : List Version) → length (flat_map f (with_version v S)) ≤ length (f v) + length (flat_map f S)
+len-with_version : (f : Version → List ℕ) (v : Version) (S : List Version)
+    → length (flat_map f (with_version v S)) ≤ length (f v) + length (flat_map f S)
 len-with_version f v [] = omega (arith, length-append (f v) [])
-len-with_version f v (w ∷ S) = elim (version_cmp v w) as (λ o. length (flat_map f (place_by o (v ∷ w ∷ S) (w ∷ S) (w ∷ with_version v S))) ≤ length (f v) + length (flat_map f (w ∷ S))) [
-  | Less ↦ omega (arith, length-append (f v) (flat_map f (w ∷ S)))
-  | Equal ↦ omega arith
-  | Greater ↦ omega (arith, length-append (f w) (flat_map f (with_version v S)), length-append (f w) (flat_map f S), len-with_version f v S)
-]
+len-with_version f v (w ∷ S) =
+    elim (version_cmp v w) as
+    (λ o. length (flat_map f (place_by o (v ∷ w ∷ S) (w ∷ S) (w ∷ with_version v S))) ≤ length (f v) + length (flat_map f (w ∷ S))) [
+      | Less ↦ omega (arith, length-append (f v) (flat_map f (w ∷ S)))
+      | Equal ↦ omega arith
+      | Greater ↦ omega (arith, length-append (f w) (flat_map f (with_version v S)), length-append (f w) (flat_map f S), len-with_version f v S)
+    ]
 
 len-offered : (f : Version → List ℕ) (v : Version) (S : List Version) → length (flat_map f (offered v S)) ≤ length (f v) + length (flat_map f S)
 len-offered f v S = elim (covered v S) as (λ b. length (flat_map f (cond b S (maximal (with_version v S)))) ≤ length (f v) + length (flat_map f S)) [
@@ -86,22 +91,37 @@ len-offered f v S = elim (covered v S) as (λ b. length (flat_map f (cond b S (m
 ]
 
 -- after an offer the text of a row is longer by at most that of the version
-pub row-grows : (format : Format) (k : List ℕ) (v : Version) (S : List Version) → length (row_text format (record { key = k; versions = offered v S })) ≤ length (row_text format (record { key = k; versions = S })) + length (version_text format v)
-row-grows format k v S = omega (arith, row_text_len format (record { key = k; versions = offered v S }), row_text_len format (record { key = k; versions = S }), len-offered (version_text format) v S)
+pub row-grows : (format : Format) (k : List ℕ) (v : Version) (S : List Version)
+    → length (row_text format (record { key = k; versions = offered v S })) ≤ length (row_text format (record { key = k; versions = S })) + length
+    (version_text format v)
+row-grows format k v S =
+    omega (
+      arith,
+      row_text_len format (record { key = k; versions = offered v S }),
+      row_text_len format (record { key = k; versions = S }),
+      len-offered (version_text format) v S,
+    )
 
 -- ---- rows after an offer
 
 -- each row has a text after an offer
-pub all_fit-with_offer : (format : Format) (k : List ℕ) (v : Version) (rows : List Row) → key_fault k ≡ None → value_fault format v.kind v.value ≡ None → AllByRecursion (FitsText format) rows → AllByRecursion (FitsText format) (with_offer k v rows)
+pub all_fit-with_offer : (format : Format) (k : List ℕ) (v : Version) (rows : List Row) → key_fault k ≡ None
+    → value_fault format v.kind v.value ≡ None → AllByRecursion (FitsText format) rows → AllByRecursion (FitsText format) (with_offer k v rows)
 all_fit-with_offer format k v [] key value all = (fits-offered format k v [] key value tt, tt)
-all_fit-with_offer format k v (r ∷ rows) key value all = elim (key_cmp k r.key) as (λ o. AllByRecursion (FitsText format) (place_by o (record { key = k; versions = offered v [] } ∷ r ∷ rows) (record { key = r.key; versions = offered v r.versions } ∷ rows) (r ∷ with_offer k v rows))) [
-  | Less ↦ (fits-offered format k v [] key value tt, all)
-  | Equal ↦ (fits-offered format r.key v r.versions all.0.key value all.0.each, all.1)
-  | Greater ↦ (all.0, all_fit-with_offer format k v rows key value all.1)
-]
+all_fit-with_offer format k v (r ∷ rows) key value all =
+    elim (key_cmp k r.key) as
+    (λ o. AllByRecursion (FitsText format)
+    (place_by o (record { key = k; versions = offered v [] } ∷ r ∷ rows) (record { key = r.key; versions = offered v r.versions } ∷ rows)
+    (r ∷ with_offer k v rows))) [
+      | Less ↦ (fits-offered format k v [] key value tt, all)
+      | Equal ↦ (fits-offered format r.key v r.versions all.0.key value all.0.each, all.1)
+      | Greater ↦ (all.0, all_fit-with_offer format k v rows key value all.1)
+    ]
 
 -- The rows of a leaf are still in order, and still have texts, after an offer.
-pub IsBucket-with_offer : (format : Format) (k : List ℕ) (v : Version) (rows : List Row) → key_fault k ≡ None → value_fault format v.kind v.value ≡ None → IsBucket (record { format = format; rows = rows }) → IsBucket (record { format = format; rows = with_offer k v rows })
+pub IsBucket-with_offer : (format : Format) (k : List ℕ) (v : Version) (rows : List Row) → key_fault k ≡ None
+    → value_fault format v.kind v.value ≡ None → IsBucket (record { format = format; rows = rows })
+    → IsBucket (record { format = format; rows = with_offer k v rows })
 IsBucket-with_offer format k v rows key value b = record {
   ascending = AscendByKey-with_offer k v rows b.ascending;
   each = all_fit-with_offer format k v rows key value b.each;

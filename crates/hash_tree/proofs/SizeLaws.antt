@@ -21,16 +21,21 @@ unfolding leaf_text
 text_of_rows format rows = let all = length-flat_map (row_text format) rows in omega arith
 
 -- the size of one more leaf
-pub one_leaf_more : (leaves : List Bucket) (i : ℕ) (b : Bucket) (a l sum : ℕ) → i < length leaves → b ≡ get_or leaves i b → a ≡ min (sum_by leaf_len (take i leaves)) (2 ^ 64 - 1) → l ≡ min (leaf_len b) (2 ^ 64 - 1) → sum ≡ min (a + l) (2 ^ 64 - 1) → sum ≡ min (sum_by leaf_len (take (i + 1) leaves)) (2 ^ 64 - 1)
+pub one_leaf_more : (leaves : List Bucket) (i : ℕ) (b : Bucket) (a l sum : ℕ) → i < length leaves → b ≡ get_or leaves i b
+    → a ≡ min (sum_by leaf_len (take i leaves)) (2 ^ 64 - 1) → l ≡ min (leaf_len b) (2 ^ 64 - 1) → sum ≡ min (a + l) (2 ^ 64 - 1)
+    → sum ≡ min (sum_by leaf_len (take (i + 1) leaves)) (2 ^ 64 - 1)
 one_leaf_more leaves i b a l sum within is first second added =
     let more : take (i + 1) leaves ≡ take i leaves ++ b ∷ [] = take_more leaves i b within ∙ ap (λ (x : Bucket). take i leaves ++ x ∷ []) (sym is) in
     cut_sum _ a l (sum_by leaf_len (take i leaves)) (leaf_len b) sum first second added
     ∙ ap (λ n. min n (2 ^ 64 - 1)) (sym (sum_by_push leaf_len (take i leaves) b) ∙ ap (sum_by leaf_len) (sym more))
 
 -- the size of one more block
-pub one_block_more : (blocks : List (List Bucket)) (i : ℕ) (b : List Bucket) (a l sum : ℕ) → i < length blocks → b ≡ get_or blocks i b → a ≡ min (sum_by leaf_len (joined (take i blocks))) (2 ^ 64 - 1) → l ≡ min (sum_by leaf_len b) (2 ^ 64 - 1) → sum ≡ min (a + l) (2 ^ 64 - 1) → sum ≡ min (sum_by leaf_len (joined (take (i + 1) blocks))) (2 ^ 64 - 1)
+pub one_block_more : (blocks : List (List Bucket)) (i : ℕ) (b : List Bucket) (a l sum : ℕ) → i < length blocks → b ≡ get_or blocks i b
+    → a ≡ min (sum_by leaf_len (joined (take i blocks))) (2 ^ 64 - 1) → l ≡ min (sum_by leaf_len b) (2 ^ 64 - 1) → sum ≡ min (a + l) (2 ^ 64 - 1)
+    → sum ≡ min (sum_by leaf_len (joined (take (i + 1) blocks))) (2 ^ 64 - 1)
 one_block_more blocks i b a l sum within is first second added =
-    let more : take (i + 1) blocks ≡ take i blocks ++ b ∷ [] = take_more blocks i b within ∙ ap (λ (x : List Bucket). take i blocks ++ x ∷ []) (sym is) in
+    let more : take (i + 1) blocks ≡ take i blocks ++ b ∷ [] = take_more blocks i b within
+    ∙ ap (λ (x : List Bucket). take i blocks ++ x ∷ []) (sym is) in
     cut_sum _ a l (sum_by leaf_len (joined (take i blocks))) (sum_by leaf_len b) sum first second added
     ∙ ap (λ n. min n (2 ^ 64 - 1)) (sym (one_more (take i blocks) b) ∙ ap (λ (bs : List (List Bucket)). sum_by leaf_len (joined bs)) (sym more))
   where

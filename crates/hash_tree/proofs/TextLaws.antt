@@ -42,44 +42,54 @@ per_child_same f g same = per_child_is g (per_child f) (length-per_child f) (λ 
 -- ---- nodes
 
 -- The text of a leaf, as the definition has it.
-pub leaf_node : (format : Format) (leaf : List ℕ → ℕ) (rows : List Row) (index : ℕ) → node_text format leaf rows zero index ≡ leaf_text format (rows_in_leaf leaf index rows)
+pub leaf_node : (format : Format) (leaf : List ℕ → ℕ) (rows : List Row) (index : ℕ)
+    → node_text format leaf rows zero index ≡ leaf_text format (rows_in_leaf leaf index rows)
 unfolding node_text
 leaf_node format leaf rows index = refl
 
 -- The text of a node that is no leaf, as the definition has it.
-pub inner_node : (format : Format) (leaf : List ℕ → ℕ) (rows : List Row) (height index : ℕ) → node_text format leaf rows (suc height) index ≡ inner_text format (per_child (λ j. node_digest format leaf rows height (16 * index + j)))
+pub inner_node : (format : Format) (leaf : List ℕ → ℕ) (rows : List Row) (height index : ℕ)
+    → node_text format leaf rows (suc height) index ≡ inner_text format (per_child (λ j. node_digest format leaf rows height (16 * index + j)))
 unfolding node_text
 inner_node format leaf rows height index = refl
 
 -- A version of a key leaves the rows of each other leaf.
-pub rows_kept : (leaf : List ℕ → ℕ) (index : ℕ) (key : List ℕ) (v : Version) (rows : List Row) → AscendByKey rows → index ≢ leaf key → rows_in_leaf leaf index (with_offer key v rows) ≡ rows_in_leaf leaf index rows
+pub rows_kept : (leaf : List ℕ → ℕ) (index : ℕ) (key : List ℕ) (v : Version) (rows : List Row) → AscendByKey rows → index ≢ leaf key
+    → rows_in_leaf leaf index (with_offer key v rows) ≡ rows_in_leaf leaf index rows
 rows_kept leaf index key v rows ascend other =
     rows_at-with_offer leaf index key v rows ascend
-    ∙ cond-false (nat_eq (leaf key) index) (with_offer key v (rows_in_leaf leaf index rows)) (rows_in_leaf leaf index rows) (ne_eqb (leaf key) index (λ e. other (sym e)))
+    ∙ cond-false (nat_eq (leaf key) index) (with_offer key v (rows_in_leaf leaf index rows)) (rows_in_leaf leaf index rows)
+    (ne_eqb (leaf key) index (λ e. other (sym e)))
 
 -- Rows that differ in one leaf leave the text of each node that is not above that leaf.
-pub text_apart : (format : Format) (leaf : List ℕ → ℕ) (rows others : List Row) (there : ℕ) → ((i : ℕ) → i ≢ there → rows_in_leaf leaf i others ≡ rows_in_leaf leaf i rows)
+pub text_apart : (format : Format) (leaf : List ℕ → ℕ) (rows others : List Row) (there : ℕ)
+    → ((i : ℕ) → i ≢ there → rows_in_leaf leaf i others ≡ rows_in_leaf leaf i rows)
     → (height index : ℕ) → index ≢ ancestor_of height there → node_text format leaf others height index ≡ node_text format leaf rows height index
 unfolding node_text
 text_apart format leaf rows others there same zero index other = ap (leaf_text format) (same index other)
 text_apart format leaf rows others there same (suc height) index other =
-    ap (inner_text format) (per_child_same (λ j. sha256 (node_text format leaf others height (16 * index + j))) (λ j. sha256 (node_text format leaf rows height (16 * index + j)))
+    ap (inner_text format) (per_child_same (λ j. sha256 (node_text format leaf others height (16 * index + j)))
+    (λ j. sha256 (node_text format leaf rows height (16 * index + j)))
     (λ j less. ap sha256 (text_apart format leaf rows others there same height (16 * index + j) (λ e. other (omega (arith, e))))))
 
 -- A version of a key leaves the text of each node that is not above the key's leaf.
-pub text_kept : (format : Format) (leaf : List ℕ → ℕ) (rows : List Row) (key : List ℕ) (v : Version) (height index : ℕ) → AscendByKey rows → index ≢ ancestor_of height (leaf key)
+pub text_kept : (format : Format) (leaf : List ℕ → ℕ) (rows : List Row) (key : List ℕ) (v : Version) (height index : ℕ) → AscendByKey rows
+    → index ≢ ancestor_of height (leaf key)
     → node_text format leaf (with_offer key v rows) height index ≡ node_text format leaf rows height index
-text_kept format leaf rows key v height index ascend other = text_apart format leaf rows (with_offer key v rows) (leaf key) (λ i apart. rows_kept leaf i key v rows ascend apart) height index other
+text_kept format leaf rows key v height index ascend other =
+    text_apart format leaf rows (with_offer key v rows) (leaf key) (λ i apart. rows_kept leaf i key v rows ascend apart) height index other
 
 -- ---- how long texts are
 
 -- What stands before an item and its own text are no longer than all texts.
-pub part_within : {X : Type 0} (f : X → List ℕ) (xs : List X) (i : ℕ) (x : X) → i < length xs → x ≡ get_or xs i x → length (flat_map f (take i xs)) + length (f x) ≤ length (flat_map f xs)
+pub part_within : {X : Type 0} (f : X → List ℕ) (xs : List X) (i : ℕ) (x : X) → i < length xs → x ≡ get_or xs i x
+    → length (flat_map f (take i xs)) + length (f x) ≤ length (flat_map f xs)
 part_within f xs i x within is =
     let rest = flat_map f (drop (i + 1) xs) in
     let first : flat_map f (drop i xs) ≡ f x ++ rest = flat_map-at f xs i x within ∙ ap (λ (y : List ℕ). y ++ rest) (ap f (sym is)) in
     let split : flat_map f xs ≡ flat_map f (take i xs) ++ (f x ++ rest) =
-    ap (flat_map f) (sym (take-append-drop i xs)) ∙ flat_map-append f (take i xs) (drop i xs) ∙ ap (λ (t : List ℕ). flat_map f (take i xs) ++ t) first in
+    ap (flat_map f) (sym (take-append-drop i xs)) ∙ flat_map-append f (take i xs) (drop i xs)
+    ∙ ap (λ (t : List ℕ). flat_map f (take i xs) ++ t) first in
     omega (arith, ap (λ (t : List ℕ). length t) split, length-append (flat_map f (take i xs)) (f x ++ rest), length-append (f x) rest)
 
 -- ---- what a leaf's text says
@@ -90,16 +100,20 @@ unfolding row_text
 some_bytes format r = grind (arith, length-append)
 
 -- Rows with equal texts are equal.
-same_rows : (format : Format) (rows others : List Row) → AllByRecursion (IsRow format) rows → AllByRecursion (IsRow format) others → flat_map (row_text format) rows ≡ flat_map (row_text format) others → rows ≡ others
+same_rows : (format : Format) (rows others : List Row) → AllByRecursion (IsRow format) rows → AllByRecursion (IsRow format) others
+    → flat_map (row_text format) rows ≡ flat_map (row_text format) others → rows ≡ others
 same_rows format [] [] p q e = refl
-same_rows format [] (s ∷ others) p q e = absurd (omega (arith, ap length e, some_bytes format s, length-append (row_text format s) (flat_map (row_text format) others)))
-same_rows format (r ∷ rows) [] p q e = absurd (omega (arith, ap length e, some_bytes format r, length-append (row_text format r) (flat_map (row_text format) rows)))
+same_rows format [] (s ∷ others) p q e =
+    absurd (omega (arith, ap length e, some_bytes format s, length-append (row_text format s) (flat_map (row_text format) others)))
+same_rows format (r ∷ rows) [] p q e =
+    absurd (omega (arith, ap length e, some_bytes format r, length-append (row_text format r) (flat_map (row_text format) rows)))
 same_rows format (r ∷ rows) (s ∷ others) p q e =
     let one = one_row format r s (flat_map (row_text format) rows) (flat_map (row_text format) others) p.0 q.0 e in
     let rest = same_rows format rows others p.1 q.1 one.1 in
     λ i. one.0 i ∷ rest i
 
 -- Leaves with equal texts have equal rows.
-pub same_leaf : (format : Format) (rows others : List Row) → AllByRecursion (IsRow format) rows → AllByRecursion (IsRow format) others → leaf_text format rows ≡ leaf_text format others → rows ≡ others
+pub same_leaf : (format : Format) (rows others : List Row) → AllByRecursion (IsRow format) rows → AllByRecursion (IsRow format) others
+    → leaf_text format rows ≡ leaf_text format others → rows ≡ others
 unfolding leaf_text
 same_leaf format rows others p q e = same_rows format rows others p q (cc)

@@ -4,7 +4,7 @@ use Rattle.vclock.specs.declared.format.Format.TheVariants.{One}
 use Rattle.version_set.specs.declared.version.Version.{Version}
 use Rattle.hash_tree.specs.Leaves.{Bucket, with_offer}
 
--- leaf i, or a leaf without rows where there is none
+-- leaf i, or a leaf without rows if the list is too short
 abbrev pub nth_leaf : List Bucket → ℕ → Bucket
 nth_leaf leaves i = slice_index_or leaves i (record { format = One; rows = [] })
 

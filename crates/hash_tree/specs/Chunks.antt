@@ -20,7 +20,7 @@ chunk_rows [] i = []
 chunk_rows (c ∷ chunks) zero = c.rows
 chunk_rows (c ∷ chunks) (suc i) = chunk_rows chunks i
 
--- the texts of the rows of a chunk, one after another
+-- the texts of the rows of a chunk, in order
 abbrev pub chunk_text : Bucket → List ℕ
 chunk_text c = flat_map (row_text c.format) c.rows
 

@@ -1,4 +1,4 @@
--- Rows in order of key, and their distribution over leaves: the paper of 2007, section 4.7.
+-- Rows in order of key, and their distribution over leaves: section 4.7 of the Dynamo paper.
 use Rattle.std.specs.Prelude.{◌≡◌, ◌≢◌, ℕ, ◌<◌, ◌≤◌, ◌++◌, nat_eq, List, [], ◌∷◌, length, filter, take, drop, slice_index_or, slice_set, Option, Some, None, Result, Ok, Err}
 use Rattle.std.specs.List.{AllByRecursion, Contains}
 use Rattle.std.specs.declared.cmp.Ordering.{Ordering}

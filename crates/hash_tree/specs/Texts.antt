@@ -1,5 +1,5 @@
--- The texts of the nodes of a tree, and their digests: the paper of 2007, section 4.7; digests are those of FIPS 180-4.
--- This project's profile defines the contents of texts. The parameter leaf gives the leaf of each key.
+-- The texts of the nodes of a tree, and their SHA-256 digests (FIPS 180-4): section 4.7 of the Dynamo paper.
+-- docs/FORMATS.md defines the contents of texts. The parameter leaf maps each key to its leaf.
 use Rattle.std.specs.Prelude.{◌≡◌, ℕ, zero, suc, ◌+◌, ◌*◌, ◌^◌, ◌<◌, Option, Some, List, ◌∷◌, map}
 use Rattle.std.specs.List.{flat_map, range_with_len}
 use Rattle.sha2.specs.Sha256.{sha256}

@@ -94,7 +94,7 @@ impl Chunk {
         self.first.as_slice().cmp(key).is_le()
     }
 
-    /// Offers a version to the set of the row at a place, which has room for it. If the rows have other owners, a copy
+    /// Offers a version to the set of the row at a place, which has space for it. If the rows have other owners, a copy
     /// of them is changed. Refused: NoMemory.
     pub(crate) fn offer(&mut self, at: usize, version: Version) -> Result<(), Refusal>
         requires at { at < length self.old.rows }

@@ -30,8 +30,8 @@ pub(crate) struct Spot {
     pub(crate) at: usize,
 }
 
-/// Returns the spot of the row of a key, or the spot at which to insert one, by a binary search. If there is no chunk,
-/// that is place 0 of chunk 0.
+/// Returns the spot of the row of a key, or the spot at which to insert one, by a binary search: place 0 of chunk 0 if
+/// the leaf has no chunks.
 pub(crate) fn spot_of(chunks: &[Chunk], key: &[u8]) -> Result<Spot, Spot>
     requires each { AllByRecursion (λ (c : Bucket). 1 ≤ length c.rows) chunks.now }
     requires ascending { AscendByKey (all_rows chunks.now) }
@@ -82,7 +82,7 @@ pub(crate) fn text_len(chunks: &[Chunk]) -> u128
     len
 }
 
-/// Offers a version to the set of a key, which has room for it. If the key has no row, one is added. On error the rows
+/// Offers a version to the set of a key, which has space for it. If the key has no row, one is added. On error the rows
 /// are unchanged. Refused: NoMemory.
 pub(crate) fn offer_to_key(
     alloc: Global,
@@ -119,7 +119,7 @@ fn row_of_one(alloc: Global, key: &Bytes, version: Version) -> Result<Row, Refus
     Ok(Row { key, versions })
 }
 
-/// Offers a version to the set of a row, which has room for it. On error the rows are unchanged. Refused: NoMemory.
+/// Offers a version to the set of a row, which has space for it. On error the rows are unchanged. Refused: NoMemory.
 fn offer_at(chunks: &mut Vec<Chunk>, spot: Spot, version: Version) -> Result<(), Refusal>
     requires spot { IsRowSpot chunks.old.items spot }
     requires value { AllByRecursion (λ (c : Bucket). value_fault c.format version.kind version.value ≡ None) chunks.old.items }
@@ -131,7 +131,7 @@ fn offer_at(chunks: &mut Vec<Chunk>, spot: Spot, version: Version) -> Result<(),
     chunks[spot.chunk].offer(spot.at, version)
 }
 
-/// Inserts a row among the others, after splitting its chunk if that is full. If there is no chunk, it makes one. On
+/// Inserts a row among the others, after splitting its chunk if that is full. Makes the first chunk if none exists. On
 /// error the rows are unchanged. Refused: NoMemory.
 fn insert_at(
     alloc: Global,
@@ -155,7 +155,7 @@ fn insert_at(
     chunks[spot.chunk].insert(spot.at, row)
 }
 
-/// Makes room at a gap, by splitting a full chunk, and returns the spot of the gap. The rows are unchanged, even on
+/// Makes space at a gap by splitting a full chunk, and returns the spot of the gap. The rows are unchanged, even on
 /// error. Refused: NoMemory.
 fn roomy_gap(alloc: Global, chunks: &mut Vec<Chunk>, gap: Spot) -> Result<Spot, Refusal>
     requires gap { IsGapSpot chunks.old.items gap }

@@ -39,7 +39,7 @@ fn strip_chunked<'a>(format: Format, text: &'a [u8], chunks: &[Chunk]) -> Option
     strip_chunks(rest, chunks)
 }
 
-/// Returns the bytes after the texts of chunks, one after another.
+/// Returns the bytes after the concatenated texts of chunks.
 fn strip_chunks<'a>(text: &'a [u8], chunks: &[Chunk]) -> Option<&'a [u8]>
     ensures { Strips (λ x. x.now) (flat_map chunk_text chunks.now) text.now result }
 {
@@ -58,7 +58,7 @@ fn strip_inner<'a>(format: Format, text: &'a [u8], digests: &[Digest; 16]) -> Op
     strip_all(rest, digests)
 }
 
-/// Returns the bytes after these digests, one after another.
+/// Returns the bytes after these concatenated digests.
 fn strip_all<'a>(text: &'a [u8], digests: &[Digest]) -> Option<&'a [u8]>
     ensures { Strips (λ x. x.now) (flat_map (λ d. d) digests.now) text.now result }
 {

@@ -9,7 +9,7 @@ ghost use Rattle.hash_tree.specs.Leaves.{AscendByKey, with_offer};
 ghost use Rattle.tree_nodes.specs.Nodes.{ancestor_of};
 ghost use Rattle.hash_tree.specs.Texts.{leaf_text, node_text};
 
-/// A version of a key leaves all node texts unchanged except those of the key's leaf and the nodes above it.
+/// A version of a key changes no node texts but the texts of the key's leaf and the nodes above it.
 pub fn other_nodes_keep_their_texts()
     ensures { (format : Format) (leaf : List ℕ → ℕ) (rows : List Row) (key : List ℕ) (v : Version) (height index : ℕ)
         → AscendByKey rows

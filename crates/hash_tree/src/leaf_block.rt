@@ -92,8 +92,8 @@ impl LeafBlock {
         leaves_len(&self.leaves)
     }
 
-    /// Replaces the leaf at an index. If the leaves have other owners, a block that shares the others is changed. Refused:
-    /// NoMemory.
+    /// Replaces the leaf at an index. If the leaves have other owners, a block that shares the others is changed.
+    /// Refused: NoMemory.
     pub(crate) fn set(&mut self, at: usize, leaf: SharedLeaf) -> Result<(), Refusal>
         requires { at < 64 }
         ensures { Does result self.old self.new (gives tt (slice_set self.old at leaf)) }

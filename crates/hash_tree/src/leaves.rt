@@ -21,8 +21,8 @@ use vclock::{Bytes, Format, Refusal};
 use version_set::Version;
 
 /// The leaves of a range by ascending index, in blocks of 64, with any number of owners: a range and its snapshots
-/// share what neither has changed. A change copies the handles of what is shared, at most 64 of blocks and 64 of
-/// leaves, and no row of another leaf. On error the leaves are unchanged.
+/// share the blocks and leaves that neither has changed. A change copies the handles of shared ones, at most 64 of
+/// blocks and 64 of leaves, and no row of another leaf. On error the leaves are unchanged.
 #[derive(Debug)]
 pub struct Leaves {
     blocks: Arc<Vec<LeafBlock>, Global>,
@@ -119,8 +119,8 @@ impl Leaves {
         })
     }
 
-    /// Offers a version to the set of a key in the leaf with an index, which has room for it. What has other owners is
-    /// copied first, by handles; if nothing has, the leaf is changed in place. Refused: NoMemory.
+    /// Offers a version to the set of a key in the leaf with an index. The set has space for it. Parts with other
+    /// owners are copied first, by handles; a leaf without other owners is changed in place. Refused: NoMemory.
     #[tactic(auto, using(tree_nodes::proofs::BlockLaws::number_within))]
     pub fn offer(
         &mut self,

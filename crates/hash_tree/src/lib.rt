@@ -1,5 +1,5 @@
-//! The tree of a range (the paper of 2007, section 4.7): its rows in leaves, and the texts of its nodes. Use it to change
-//! leaves, and to write and compare the texts of nodes.
+//! The tree of a range (section 4.7 of the Dynamo paper): its rows in leaves, and the texts of its nodes. Use it to
+//! change leaves, and to write and compare the texts of nodes.
 //!
 //! - [`shared_leaf`]: the rows of one leaf, in order of key, with any number of owners.
 //! - [`row_runs`]: the rows of a leaf, to be read a run at a time.

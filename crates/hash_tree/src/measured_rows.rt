@@ -21,10 +21,10 @@ use version_set::Version;
 /// The maximum number of rows of a chunk: a new row moves at most these.
 pub(crate) const ROWS_MAX: usize = 15;
 
-/// The number of spare rows for which a small chunk reserves room.
+/// The number of spare rows for which a small chunk reserves capacity.
 const SPARE_ROWS: usize = 3;
 
-/// Some consecutive rows of a leaf, and the length of their texts in bytes, so that room for the text of a leaf is made
+/// Some consecutive rows of a leaf, and the length of their texts in bytes, so that the text of a leaf is allocated
 /// without a look at its rows. On error the rows are unchanged.
 #[derive(Debug)]
 pub(crate) struct MeasuredRows {
@@ -106,8 +106,8 @@ impl MeasuredRows {
         self.text_len
     }
 
-    /// Appends the texts of the rows, one after another. Fails only if memory is needed beyond the room of `out`, and
-    /// then some may be at the end.
+    /// Appends the texts of the rows, in order. Fails only if memory is needed beyond the capacity of `out`. On error
+    /// some texts may have been appended.
     pub(crate) fn put_texts(&self, out: &mut Vec<u8>) -> Result<(), AllocError>
         ensures ok { OnOk result (out.new.items ≡ out.old.items ++ chunk_text self.now) }
         ensures room { OnErr result (vec_capacity out.old < length out.old.items + length (chunk_text self.now)) }
@@ -127,7 +127,7 @@ impl MeasuredRows {
         Some(rest)
     }
 
-    /// Offers a version to the set of the row at a place, which has room for it. Refused: NoMemory.
+    /// Offers a version to the set of the row at a place, which has space for it. Refused: NoMemory.
     pub(crate) fn offer(&mut self, at: usize, version: Version) -> Result<(), Refusal>
         requires at { at < length self.old.rows }
         requires value { value_fault self.old.format version.kind version.value ≡ None }
@@ -214,8 +214,8 @@ fn texts_len(format: Format, rows: &[Row]) -> u64
     len
 }
 
-/// Makes room for `more` items. If there is too little room, makes room for `spare` ones in addition. The items are
-/// unchanged. Fails only if memory is needed.
+/// Reserves capacity for `more` items. If that needs memory, reserves capacity for `spare` ones in addition. The items
+/// are unchanged. Fails only if memory is needed.
 fn make_room<T>(items: &mut Vec<T>, more: usize, spare: usize) -> Result<(), AllocError>
     ensures items { items.new.items ≡ items.old.items }
     ensures room { OnOk result (length items.new.items + more ≤ vec_capacity items.new) }

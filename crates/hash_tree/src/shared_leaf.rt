@@ -109,8 +109,8 @@ impl SharedLeaf {
         Ok(self.clone()?)
     }
 
-    /// Appends the text of the leaf. Fails only if memory is needed beyond the room of `out`,
-    /// which is then unchanged.
+    /// Appends the text of the leaf. Fails only if memory is needed beyond the capacity of `out`, which is then
+    /// unchanged.
     pub fn put_text(&self, out: &mut Vec<u8>) -> Result<(), AllocError>
         ensures ok { OnOk result (out.new.items ≡ out.old.items ++ leaf_text self.now.format self.now.rows) }
         ensures room { OnErr result (vec_capacity out.old < length out.old.items + length (leaf_text self.now.format self.now.rows)) }
@@ -121,8 +121,8 @@ impl SharedLeaf {
         put_chunks(out, self.chunks())
     }
 
-    /// Appends the texts of the rows, one after another: the text of the leaf without its first byte. Refused: NoMemory,
-    /// and then `out` is unchanged.
+    /// Appends the texts of the rows, in order: the text of the leaf without its first byte. Refused: NoMemory, and
+    /// then `out` is unchanged.
     pub fn put_rows(&self, out: &mut Vec<u8>) -> Result<(), Refusal>
         ensures { Does result out.old.items out.new.items
             (gives tt (out.old.items ++ flat_map (row_text self.now.format) self.now.rows)) }
@@ -171,8 +171,8 @@ impl SharedLeaf {
         RowRuns::of(self.chunks())
     }
 
-    /// Offers a version to the set of a key, which has room for it. If the key has no row, one is added. If the leaf has
-    /// other owners, a copy of it is changed. Refused: NoMemory.
+    /// Offers a version to the set of a key, which has space for it. If the key has no row, one is added. If the leaf
+    /// has other owners, a copy of it is changed. Refused: NoMemory.
     pub fn offer(&mut self, alloc: Global, key: &Bytes, version: Version) -> Result<(), Refusal>
         requires key { key_fault key.now ≡ None }
         requires value { value_fault self.old.format version.kind version.value ≡ None }
@@ -207,7 +207,7 @@ impl SharedLeaf {
     }
 }
 
-/// Makes room for `len` more bytes. Fails only if memory is needed.
+/// Reserves capacity for `len` more bytes. Fails only if memory is needed.
 fn reserve(out: &mut Vec<u8>, len: u128) -> Result<(), AllocError>
     ensures items { out.new.items ≡ out.old.items }
     ensures capacity { vec_capacity out.old ≤ vec_capacity out.new }

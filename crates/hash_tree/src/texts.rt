@@ -1,4 +1,4 @@
-//! Writing the texts of nodes, as this project's profile defines them.
+//! Writing the texts of nodes, as docs/FORMATS.md defines them.
 ghost use Rattle.std.specs.Prelude.{◌≡◌, ◌++◌, ◌+◌, ◌<◌, ◌≤◌, ◌∷◌, length, None, OnOk, OnErr};
 ghost use Rattle.std.specs.List.{AllByRecursion, flat_map};
 ghost use Rattle.std.specs.Vec.{vec_capacity};
@@ -36,8 +36,8 @@ pub fn inner_byte(format: Format) -> u8
     }
 }
 
-/// Appends the texts of rows, one after another. Fails only if memory is needed beyond the room of `out`, and then some
-/// may be at the end.
+/// Appends the texts of rows, in order. Fails only if memory is needed beyond the capacity of `out`. On error some
+/// texts may have been appended.
 pub(crate) fn put_rows(out: &mut Vec<u8>, format: Format, rows: &[Row]) -> Result<(), AllocError>
     requires { AllByRecursion (FitsText format) rows.now }
     ensures ok { OnOk result (out.new.items ≡ out.old.items ++ flat_map (row_text format) rows.now) }
@@ -50,8 +50,8 @@ pub(crate) fn put_rows(out: &mut Vec<u8>, format: Format, rows: &[Row]) -> Resul
     Ok(())
 }
 
-/// Appends the texts of the rows of chunks. Fails only if memory is needed beyond the room of `out`, and then some may
-/// be at the end.
+/// Appends the texts of the rows of chunks. Fails only if memory is needed beyond the capacity of `out`. On error some
+/// texts may have been appended.
 pub(crate) fn put_chunks(out: &mut Vec<u8>, chunks: &[Chunk]) -> Result<(), AllocError>
     ensures ok { OnOk result (out.new.items ≡ out.old.items ++ flat_map chunk_text chunks.now) }
     ensures room { OnErr result (vec_capacity out.old < length out.old.items + length (flat_map chunk_text chunks.now)) }
@@ -63,7 +63,7 @@ pub(crate) fn put_chunks(out: &mut Vec<u8>, chunks: &[Chunk]) -> Result<(), Allo
 }
 
 /// Appends the text of a node whose children have these digests, in order. Fails only if memory is needed beyond the
-/// room of `out`, which is then unchanged.
+/// capacity of `out`, which is then unchanged.
 #[tactic(auto, unfolding(crate::specs::Texts::inner_text))]
 pub fn put_inner_text(
     out: &mut Vec<u8>,

@@ -1,10 +1,13 @@
 -- Laws of numbered hints.
-use Rattle.std.proofs.Common.{◌≡◌, ℕ, zero, suc, ◌+◌, ◌-◌, ◌<◌, ◌≤◌, ◌^◌, ◌↔◌, Bool, true, false, ◌&&◌, ◌||◌, cond, leb, List, [], ◌∷◌, ◌++◌, length, get_or, set, take, min, Option, Some, None, refl, ap, sym, subst, ◌∙◌, inl, inr, arith, add-zero, length-set, get_or-set_same, Any}
+use Rattle.std.proofs.Common.{◌≡◌, ℕ, zero, suc, ◌+◌, ◌-◌, ◌<◌, ◌≤◌, ◌^◌, ◌↔◌, Bool, true, false, ◌&&◌, ◌||◌, cond, leb, List, [], ◌∷◌, ◌++◌, length}
+use Rattle.std.proofs.Common.{get_or, set, take, min, Option, Some, None, refl, ap, sym, subst, ◌∙◌, inl, inr, arith, add-zero, length-set}
+use Rattle.std.proofs.Common.{get_or-set_same, Any}
 use Rattle.std.specs.Prelude.{nat_eq, nat_lt, slice_get, find, MatchOption}
 use Rattle.std.specs.List.{list_any}
 use Rattle.std.specs.Option.{option_map, option_and_then}
 use Rattle.std.specs.Str.{bytes_eq}
-use Rattle.std.proofs.lemmas.Bool.{and_parts, and_from, cases_Bool, cases_eq, eqb-true, ne_eqb, eq-eqb, lt-ltb, le-ltb, le-leb, lt-leb, cases_lt, false_from_ne_true, both_ways}
+use Rattle.std.proofs.lemmas.Bool.{and_parts, and_from, cases_Bool, cases_eq, eqb-true, ne_eqb, eq-eqb, lt-ltb, le-ltb, le-leb, lt-leb, cases_lt}
+use Rattle.std.proofs.lemmas.Bool.{false_from_ne_true, both_ways}
 use Rattle.std.proofs.lemmas.List.Folds.{find_at, Any-from_list_any, list_any_at, list_any-from_Any, list_any-append}
 use Rattle.std.proofs.lemmas.List.Sums.{position_or_len_is}
 use Rattle.std.proofs.lemmas.Option.{slice_get-get_or, same_Some, slice_get_within, get_or_from_slice_get}
@@ -24,7 +27,9 @@ use Rattle.hint_store.specs.declared.hint.Fate.{Fate}
 use Rattle.hint_store.specs.declared.hint.Fate.TheVariants.{Pending, Taken, Known}
 use Rattle.hint_store.specs.declared.hint.Kept.{Kept}
 use Rattle.hint_store.specs.Waits.{earliest}
-use Rattle.hint_store.specs.Hints.{is_undelivered, is_pending, pending_count, HaveIdsFrom, kept_at, keep_fault, is_due, next_hint, delivers_hint, is_answered, IsAnswered, fate_of, answered, confirm, confirmed, closed, owner_answer, delivery_of, delivery_by, waiting_owner, settle, settled_at}
+use Rattle.hint_store.specs.Hints.{is_undelivered, is_pending, pending_count, HaveIdsFrom, kept_at, keep_fault, is_due, next_hint, delivers_hint}
+use Rattle.hint_store.specs.Hints.{is_answered, IsAnswered, fate_of, answered, confirm, confirmed, closed, owner_answer, delivery_of, delivery_by}
+use Rattle.hint_store.specs.Hints.{waiting_owner, settle, settled_at}
 
 pub get_or_same : {X : Type 0} (xs : List X) (i : ℕ) (d e : X) → i < length xs → get_or xs i d ≡ get_or xs i e
 get_or_same xs i d e h = same_Some (get_or xs i d) (get_or xs i e) (sym (slice_get-get_or xs i d h) ∙ slice_get-get_or xs i e h)
@@ -43,7 +48,8 @@ AreNumberedFrom-push n (x ∷ ks) k all is = (all.0, AreNumberedFrom-push (n + 1
 kept_above : (hints : List Kept) (id : ℕ) → 1 ≤ id → kept_at hints id ≡ slice_get hints (id - 1)
 kept_above hints id h = ap (λ b. cond b None (slice_get hints (id - 1))) (ne_eqb id 0 (λ e. omega arith))
 
-pub kept_some : (hints : List Kept) (id : ℕ) (k : Kept) → kept_at hints id ≡ Some k → (1 ≤ id) × (id - 1 < length hints) × (get_or hints (id - 1) k ≡ k)
+pub kept_some : (hints : List Kept) (id : ℕ) (k : Kept) → kept_at hints id ≡ Some k
+    → (1 ≤ id) × (id - 1 < length hints) × (get_or hints (id - 1) k ≡ k)
 kept_some hints id k e = elim (cases_eq id 0) [
   | inl z ↦ absurd (let f : None ≡ Some k = ap (λ b. cond b None (slice_get hints (id - 1))) (sym (eq-eqb id 0 z)) ∙ e in cc)
   | inr n ↦
@@ -63,7 +69,8 @@ kept_none hints id j d e is h =
     cc
 
 -- a test that only the hint of one number passes
-pub any_at_place : (t : Kept → Bool) (n i j : ℕ) (hints : List Kept) (d : Kept) → ((k : Kept) → t k ≡ true → k.hint.id ≡ i) → HaveIdsFrom n hints → i ≡ n + j → j < length hints → list_any t hints ≡ t (get_or hints j d)
+pub any_at_place : (t : Kept → Bool) (n i j : ℕ) (hints : List Kept) (d : Kept) → ((k : Kept) → t k ≡ true → k.hint.id ≡ i) → HaveIdsFrom n hints
+    → i ≡ n + j → j < length hints → list_any t hints ≡ t (get_or hints j d)
 any_at_place t n i j hints d one a is h =
     elim (cases_Bool (t (get_or hints j d))) [
       | inl passes ↦ list_any_at t hints j d h passes ∙ sym passes
@@ -71,31 +78,40 @@ any_at_place t n i j hints d one a is h =
           let found = Any-from_list_any t hints e in
           let number : found.1.hint.id ≡ n + found.0 = ap (λ (k : Kept). k.hint.id) (sym found.3) ∙ id_at n hints found.0 found.1 a found.2 in
           let same : found.0 ≡ j = omega (arith, one found.1 found.4) in
-          let passed : t (get_or hints j d) ≡ true = ap t (get_or_same hints j d found.1 h ∙ ap (λ m. get_or hints m found.1) (sym same) ∙ found.3) ∙ found.4 in
+          let passed : t (get_or hints j d) ≡ true = ap t (get_or_same hints j d found.1 h ∙ ap (λ m. get_or hints m found.1) (sym same) ∙ found.3)
+          ∙ found.4 in
           both_ways _ fails passed) ∙ sym fails
     ]
 
-pub any_nowhere : (t : Kept → Bool) (i : ℕ) (hints : List Kept) → ((k : Kept) → t k ≡ true → k.hint.id ≡ i) → HaveIdsFrom 1 hints → kept_at hints i ≡ None → list_any t hints ≡ false
+pub any_nowhere : (t : Kept → Bool) (i : ℕ) (hints : List Kept) → ((k : Kept) → t k ≡ true → k.hint.id ≡ i) → HaveIdsFrom 1 hints
+    → kept_at hints i ≡ None → list_any t hints ≡ false
 any_nowhere t i hints one a none = false_from_ne_true (list_any t hints) (λ e.
     let found = Any-from_list_any t hints e in
     let number : found.1.hint.id ≡ 1 + found.0 = ap (λ (k : Kept). k.hint.id) (sym found.3) ∙ id_at 1 hints found.0 found.1 a found.2 in
     kept_none hints i found.0 found.1 none (omega (arith, one found.1 found.4)) found.2)
 
 pub answered-id : (id : ℕ) (d : Delivery) (k : Kept) → is_answered id d k ≡ true → k.hint.id ≡ id
-answered-id id d k e = eqb-true k.hint.id id (and_parts (is_pending k) (nat_eq k.hint.id id) (and_parts (is_pending k && nat_eq k.hint.id id) (delivers_hint d k.hint) e).0).1
+answered-id id d k e = eqb-true k.hint.id id
+    (and_parts (is_pending k) (nat_eq k.hint.id id) (and_parts (is_pending k && nat_eq k.hint.id id) (delivers_hint d k.hint) e).0).1
 
-pub awaits_some : (hints : List Kept) (id : ℕ) (d : Delivery) (k : Kept) → HaveIdsFrom 1 hints → Some k ≡ kept_at hints id → list_any (is_answered id d) hints ≡ (is_undelivered k.fate && delivers_hint d k.hint)
+pub awaits_some : (hints : List Kept) (id : ℕ) (d : Delivery) (k : Kept) → HaveIdsFrom 1 hints → Some k ≡ kept_at hints id
+    → list_any (is_answered id d) hints ≡ (is_undelivered k.fate && delivers_hint d k.hint)
 awaits_some hints id d k a e =
     let there = kept_some hints id k (sym e) in
-    let number : k.hint.id ≡ id = let n = id_at 1 hints (id - 1) k a there.1 in ap (λ (x : Kept). x.hint.id) (sym there.2) ∙ n ∙ omega (arith, there.0) in
+    let number : k.hint.id ≡ id = let n = id_at 1 hints (id - 1) k a there.1 in ap (λ (x : Kept). x.hint.id) (sym there.2) ∙ n
+    ∙ omega (arith, there.0) in
     any_at_place (is_answered id d) 1 id (id - 1) hints k (answered-id id d) a (omega (arith, there.0)) there.1
-    ∙ (ap (is_answered id d) there.2 ∙ (ap (λ b. (is_undelivered k.fate && b) && delivers_hint d k.hint) (eq-eqb k.hint.id id number) ∙ ap (λ b. b && delivers_hint d k.hint) (and-true (is_undelivered k.fate))))
+    ∙ (ap (is_answered id d) there.2
+    ∙ (ap (λ b. (is_undelivered k.fate && b) && delivers_hint d k.hint) (eq-eqb k.hint.id id number)
+    ∙ ap (λ b. b && delivers_hint d k.hint) (and-true (is_undelivered k.fate))))
 
-pub awaits_none : (hints : List Kept) (id : ℕ) (d : Delivery) → HaveIdsFrom 1 hints → None ≡ kept_at hints id → list_any (is_answered id d) hints ≡ false
+pub awaits_none : (hints : List Kept) (id : ℕ) (d : Delivery) → HaveIdsFrom 1 hints → None ≡ kept_at hints id
+    → list_any (is_answered id d) hints ≡ false
 awaits_none hints id d a e = any_nowhere (is_answered id d) id hints (answered-id id d) a (sym e)
 
 -- the first hint that passes a test
-pub find_first : (q : Kept → Bool) (hints : List Kept) (j : ℕ) (d : Kept) → j < length hints → q (get_or hints j d) ≡ true → ((k : ℕ) → k < j → q (get_or hints k d) ≡ false) → find q hints ≡ Some (get_or hints j d)
+pub find_first : (q : Kept → Bool) (hints : List Kept) (j : ℕ) (d : Kept) → j < length hints → q (get_or hints j d) ≡ true
+    → ((k : ℕ) → k < j → q (get_or hints k d) ≡ false) → find q hints ≡ Some (get_or hints j d)
 find_first q hints j d h passes before =
     find_at q hints ∙ (ap (slice_get hints) (position_or_len_is q hints j d (omega arith) before (λ _. passes)) ∙ slice_get-get_or hints j d h)
 
@@ -110,7 +126,8 @@ find_some q hints k e =
     (_, slice_get_within hints _ k there, get_or_from_slice_get hints _ k k there)
 
 -- the hint of the number of a hint that was found is that hint
-pub found_again : (q : Kept → Bool) (hints : List Kept) → HaveIdsFrom 1 hints → option_and_then (kept_at hints) (option_map (λ h. h.id) (option_map (λ k. k.hint) (find q hints))) ≡ find q hints
+pub found_again : (q : Kept → Bool) (hints : List Kept) → HaveIdsFrom 1 hints
+    → option_and_then (kept_at hints) (option_map (λ h. h.id) (option_map (λ k. k.hint) (find q hints))) ≡ find q hints
 found_again q hints a =
     elim (find q hints) as (λ o. find q hints ≡ o → option_and_then (kept_at hints) (option_map (λ h. h.id) (option_map (λ k. k.hint) o)) ≡ o) [
       | None ↦ λ e. refl
@@ -144,13 +161,16 @@ last_lesser q n m hints a h = elim (find q hints) as (λ o. find q hints ≡ o �
   | Some k ↦ λ e. let over = ids_above q n hints k a e in ap (λ x. Some x) (let low : min k.hint.id m ≡ m = omega arith in low)
 ] refl
 
-lesser_find : (p r q : Kept → Bool) → ((k : Kept) → q k ≡ (p k || r k)) → (n : ℕ) (hints : List Kept) → HaveIdsFrom n hints → ids (find q hints) ≡ earliest (ids (find p hints)) (ids (find r hints))
+lesser_find : (p r q : Kept → Bool) → ((k : Kept) → q k ≡ (p k || r k)) → (n : ℕ) (hints : List Kept) → HaveIdsFrom n hints
+    → ids (find q hints) ≡ earliest (ids (find p hints)) (ids (find r hints))
 lesser_find p r q same n [] a = refl
 lesser_find p r q same n (k ∷ ks) a =
     ap (λ b. ids (cond b (Some k) (find q ks))) (same k)
-    ∙ by_tests (p k) (r k) (lesser_find p r q same (n + 1) ks a.1) (first_lesser r (n + 1) k.hint.id ks a.1 (omega (arith, a.0))) (last_lesser p (n + 1) k.hint.id ks a.1 (omega (arith, a.0)))
+    ∙ by_tests (p k) (r k) (lesser_find p r q same (n + 1) ks a.1) (first_lesser r (n + 1) k.hint.id ks a.1 (omega (arith, a.0)))
+    (last_lesser p (n + 1) k.hint.id ks a.1 (omega (arith, a.0)))
   where
-    by_tests : (b c : Bool) → ids (find q ks) ≡ earliest (ids (find p ks)) (ids (find r ks)) → earliest (Some k.hint.id) (ids (find r ks)) ≡ Some k.hint.id → earliest (ids (find p ks)) (Some k.hint.id) ≡ Some k.hint.id
+    by_tests : (b c : Bool) → ids (find q ks) ≡ earliest (ids (find p ks)) (ids (find r ks))
+        → earliest (Some k.hint.id) (ids (find r ks)) ≡ Some k.hint.id → earliest (ids (find p ks)) (Some k.hint.id) ≡ Some k.hint.id
         → ids (cond (b || c) (Some k) (find q ks)) ≡ earliest (ids (cond b (Some k) (find p ks))) (ids (cond c (Some k) (find r ks)))
     by_tests true true rest one two = ap (λ x. Some x) (let both : k.hint.id ≡ min k.hint.id k.hint.id = omega arith in both)
     by_tests true false rest one two = sym one
@@ -158,10 +178,13 @@ lesser_find p r q same n (k ∷ ks) a =
     by_tests false false rest one two = rest
 
 -- the next hint of one owner more
-pub next_push : (owners : List ℕ) (o after : ℕ) (hints : List Kept) → HaveIdsFrom 1 hints → ids (find (is_due (owners ++ o ∷ []) after) hints) ≡ earliest (ids (find (is_due owners after) hints)) (ids (find (is_due (o ∷ []) after) hints))
+pub next_push : (owners : List ℕ) (o after : ℕ) (hints : List Kept) → HaveIdsFrom 1 hints
+    → ids (find (is_due (owners ++ o ∷ []) after) hints) ≡ earliest (ids (find (is_due owners after) hints))
+    (ids (find (is_due (o ∷ []) after) hints))
 next_push owners o after hints a =
     lesser_find (is_due owners after) (is_due (o ∷ []) after) (is_due (owners ++ o ∷ []) after)
-    (λ k. ap (λ b. (is_pending k && nat_lt after k.hint.id) && b) (list_any-append (nat_eq k.hint.owner) owners (o ∷ [])) ∙ spread (is_pending k && nat_lt after k.hint.id) (list_any (nat_eq k.hint.owner) owners) (list_any (nat_eq k.hint.owner) (o ∷ [])))
+    (λ k. ap (λ b. (is_pending k && nat_lt after k.hint.id) && b) (list_any-append (nat_eq k.hint.owner) owners (o ∷ []))
+    ∙ spread (is_pending k && nat_lt after k.hint.id) (list_any (nat_eq k.hint.owner) owners) (list_any (nat_eq k.hint.owner) (o ∷ [])))
     1 hints a
   where
     spread : (a b c : Bool) → (a && (b || c)) ≡ ((a && b) || (a && c))
@@ -170,7 +193,8 @@ next_push owners o after hints a =
 
 -- no hint is due to no owner
 pub no_owners : (after : ℕ) (hints : List Kept) → None ≡ ids (find (is_due [] after) hints)
-no_owners after hints = ap ids (sym (find_none (is_due [] after) hints (λ k d h. and-false (is_pending (get_or hints k d) && nat_lt after (get_or hints k d).hint.id))))
+no_owners after hints = ap ids
+    (sym (find_none (is_due [] after) hints (λ k d h. and-false (is_pending (get_or hints k d) && nat_lt after (get_or hints k d).hint.id))))
   where
     and-false : (b : Bool) → (b && false) ≡ false
     and-false true = refl
@@ -178,14 +202,17 @@ no_owners after hints = ap ids (sym (find_none (is_due [] after) hints (λ k d h
 
 -- at a step of a loop over owners
 pub next_more : (owners : List ℕ) (i d after : ℕ) (hints : List Kept) → HaveIdsFrom 1 hints → i < length owners
-    → ids (find (is_due (take (i + 1) owners) after) hints) ≡ earliest (ids (find (is_due (take i owners) after) hints)) (ids (find (is_due (get_or owners i d ∷ []) after) hints))
+    → ids (find (is_due (take (i + 1) owners) after) hints) ≡ earliest (ids (find (is_due (take i owners) after) hints))
+    (ids (find (is_due (get_or owners i d ∷ []) after) hints))
 next_more owners i d after hints a h =
     ap (λ os. ids (find (is_due os after) hints)) (take_more owners i d h) ∙ next_push (take i owners) (get_or owners i d) after hints a
 
 -- the copy of the next hint
-pub next_found : (owners : List ℕ) (after : ℕ) (hints : List Kept) (id : Option ℕ) → HaveIdsFrom 1 hints → id ≡ ids (find (is_due owners after) hints) → option_map (λ k. k.hint) (option_and_then (kept_at hints) id) ≡ next_hint owners after hints
+pub next_found : (owners : List ℕ) (after : ℕ) (hints : List Kept) (id : Option ℕ) → HaveIdsFrom 1 hints → id ≡ ids (find (is_due owners after) hints)
+    → option_map (λ k. k.hint) (option_and_then (kept_at hints) id) ≡ next_hint owners after hints
 next_found owners after hints id a is =
-    ap (λ i. option_map (λ k. k.hint) (option_and_then (kept_at hints) i)) is ∙ ap (λ o. option_map (λ k. k.hint) o) (found_again (is_due owners after) hints a)
+    ap (λ i. option_map (λ k. k.hint) (option_and_then (kept_at hints) i)) is
+    ∙ ap (λ o. option_map (λ k. k.hint) o) (found_again (is_due owners after) hints a)
 
 pub open_pending : (f : Fate) → is_undelivered f ≡ true → f ≡ Pending
 open_pending Pending e = refl
@@ -211,13 +238,16 @@ answered_from id d k is =
     and_from (is_pending k && nat_eq k.hint.id id) (delivers_hint d k.hint)
     (and_from (is_pending k) (nat_eq k.hint.id id) (ap is_undelivered is.is_pending) (eq-eqb k.hint.id id is.same_id))
     (and_from (nat_eq k.hint.owner d.owner && bytes_eq k.hint.key d.key) (is_same k.hint.version d.version)
-    (and_from (nat_eq k.hint.owner d.owner) (bytes_eq k.hint.key d.key) (eq-eqb k.hint.owner d.owner is.same_owner) ((bytes_eq-Decides k.hint.key d.key).1 is.same_key))
+    (and_from (nat_eq k.hint.owner d.owner) (bytes_eq k.hint.key d.key) (eq-eqb k.hint.owner d.owner is.same_owner)
+    ((bytes_eq-Decides k.hint.key d.key).1 is.same_key))
     (subst (λ (v : Version). is_same k.hint.version v ≡ true) is.same_version (ap is_eq (tied_itself version_total k.hint.version))))
 
 -- the test of a delivery as equations
-pub answered_fact : (b : Bool) (hints : List Kept) (id : ℕ) (d : Delivery) → b ≡ list_any (is_answered id d) hints → (b ≡ true) ↔ Any (IsAnswered id d) hints
+pub answered_fact : (b : Bool) (hints : List Kept) (id : ℕ) (d : Delivery) → b ≡ list_any (is_answered id d) hints
+    → (b ≡ true) ↔ Any (IsAnswered id d) hints
 answered_fact b hints id d is = (
-  (λ t. let found = Any-from_list_any (is_answered id d) hints (sym is ∙ t) in (found.0, found.1, found.2, found.3, answered_is id d found.1 found.4)),
+  (λ t. let found = Any-from_list_any (is_answered id d) hints (sym is ∙ t) in
+      (found.0, found.1, found.2, found.3, answered_is id d found.1 found.4)),
   (λ found. is ∙ list_any-from_Any (is_answered id d) hints (found.0, found.1, found.2, found.3, answered_from id d found.1 found.4)),
 )
 
@@ -250,9 +280,11 @@ pub record IsOpen (hints : List Kept) (id owner : ℕ) : Type 0 where
   pub pending : kept.fate ≡ Pending
   pub same_owner : kept.hint.owner ≡ owner
 
-pub open_at : (hints : List Kept) (id owner : ℕ) → MatchOption (kept_at hints id) ⊥ (λ k. (k.fate ≡ Pending) × (k.hint.owner ≡ owner)) → IsOpen hints id owner
+pub open_at : (hints : List Kept) (id owner : ℕ) → MatchOption (kept_at hints id) ⊥ (λ k. (k.fate ≡ Pending) × (k.hint.owner ≡ owner))
+    → IsOpen hints id owner
 open_at hints id owner h =
-    elim (kept_at hints id) as (λ o. kept_at hints id ≡ o → MatchOption o ⊥ (λ k. (k.fate ≡ Pending) × (k.hint.owner ≡ owner)) → IsOpen hints id owner) [
+    elim (kept_at hints id) as (λ o. kept_at hints id ≡ o → MatchOption o ⊥ (λ k. (k.fate ≡ Pending) × (k.hint.owner ≡ owner))
+    → IsOpen hints id owner) [
       | None ↦ λ e no. absurd no
       | Some k ↦ λ e is. record { kept = k; is = e; pending = is.0; same_owner = is.1 }
     ] refl h
@@ -261,7 +293,8 @@ open_at hints id owner h =
 abbrev pub delivery_to : ℕ → Hint → Bool → Delivery
 delivery_to owner h known = record { owner = owner; key = h.key; version = h.version; known = known }
 
-pub open_found : (hints : List Kept) (id owner : ℕ) (known : Bool) → HaveIdsFrom 1 hints → (o : IsOpen hints id owner) → IsFound hints id (delivery_to owner o.kept.hint known)
+pub open_found : (hints : List Kept) (id owner : ℕ) (known : Bool) → HaveIdsFrom 1 hints → (o : IsOpen hints id owner)
+    → IsFound hints id (delivery_to owner o.kept.hint known)
 open_found hints id owner known a o =
     let there = kept_some hints id o.kept o.is in
     let number = id_at 1 hints (id - 1) o.kept a there.1 in
@@ -280,9 +313,11 @@ open_found hints id owner known a o =
     }
 
 -- a hint that was found is open
-pub found_open : (hints : List Kept) (id : ℕ) (d : Delivery) → IsFound hints id d → MatchOption (kept_at hints id) ⊥ (λ k. (k.fate ≡ Pending) × (k.hint.owner ≡ d.owner))
+pub found_open : (hints : List Kept) (id : ℕ) (d : Delivery) → IsFound hints id d
+    → MatchOption (kept_at hints id) ⊥ (λ k. (k.fate ≡ Pending) × (k.hint.owner ≡ d.owner))
 found_open hints id d f =
-    subst (λ o. MatchOption o ⊥ (λ (k : Kept). (k.fate ≡ Pending) × (k.hint.owner ≡ d.owner))) (sym (kept_there hints id f.kept f.over f.inside ∙ ap (λ x. Some x) f.stands)) (f.answered.is_pending, f.answered.same_owner)
+    subst (λ o. MatchOption o ⊥ (λ (k : Kept). (k.fate ≡ Pending) × (k.hint.owner ≡ d.owner)))
+    (sym (kept_there hints id f.kept f.over f.inside ∙ ap (λ x. Some x) f.stands)) (f.answered.is_pending, f.answered.same_owner)
 
 -- the owner of the pending hint of a number, if there is one
 pub open_owner : (hints : List Kept) (id owner : ℕ) → option_and_then waiting_owner (kept_at hints id) ≡ Some owner → IsOpen hints id owner
@@ -297,19 +332,25 @@ open_owner hints id owner is =
     ] refl is
 
 -- the outcome of a delivery of a hint by its number alone
-pub settle_open : (hints : List Kept) (id owner : ℕ) (known : Bool) → HaveIdsFrom 1 hints → IsOpen hints id owner → settle hints id known ≡ gives tt (closed hints id known)
+pub settle_open : (hints : List Kept) (id owner : ℕ) (known : Bool) → HaveIdsFrom 1 hints → IsOpen hints id owner
+    → settle hints id known ≡ gives tt (closed hints id known)
 settle_open hints id owner known a o =
     let d : Delivery = delivery_by o.kept.hint known in
-    let f : IsFound hints id d = open_found hints id o.kept.hint.owner known a (record { kept = o.kept; is = o.is; pending = o.pending; same_owner = refl }) in
-    let any : list_any (is_answered id d) hints ≡ true = list_any-from_Any (is_answered id d) hints (id - 1, f.kept, f.inside, f.stands, answered_from id d f.kept f.answered) in
+    let f : IsFound hints id d = open_found hints id o.kept.hint.owner known a
+    (record { kept = o.kept; is = o.is; pending = o.pending; same_owner = refl }) in
+    let any : list_any (is_answered id d) hints ≡ true = list_any-from_Any (is_answered id d) hints
+    (id - 1, f.kept, f.inside, f.stands, answered_from id d f.kept f.answered) in
     ap (settled_at hints id known) o.is ∙ ap (λ b. cond b (gives tt (closed hints id known)) (refuses UnknownHint)) any
 
-pub settle_none : (hints : List Kept) (id : ℕ) (known : Bool) → HaveIdsFrom 1 hints → option_and_then waiting_owner (kept_at hints id) ≡ None → settle hints id known ≡ refuses UnknownHint
+pub settle_none : (hints : List Kept) (id : ℕ) (known : Bool) → HaveIdsFrom 1 hints → option_and_then waiting_owner (kept_at hints id) ≡ None
+    → settle hints id known ≡ refuses UnknownHint
 settle_none hints id known a none =
-    elim (kept_at hints id) as (λ o. kept_at hints id ≡ o → option_and_then waiting_owner o ≡ None → settled_at hints id known o ≡ refuses UnknownHint) [
+    elim (kept_at hints id) as (λ o. kept_at hints id ≡ o → option_and_then waiting_owner o ≡ None
+    → settled_at hints id known o ≡ refuses UnknownHint) [
       | None ↦ λ e no. refl
       | Some k ↦ λ e no.
-          let shut : is_undelivered k.fate ≡ false = elim (is_undelivered k.fate) as (λ b. cond b (Some k.hint.owner) None ≡ None → b ≡ false) [ true ↦ λ n. cc | false ↦ λ n. refl ] no in
+          let shut : is_undelivered k.fate ≡ false = elim (is_undelivered k.fate) as
+          (λ b. cond b (Some k.hint.owner) None ≡ None → b ≡ false) [ true ↦ λ n. cc | false ↦ λ n. refl ] no in
           ap (λ b. cond b (gives tt (closed hints id known)) (refuses UnknownHint))
           (awaits_some hints id (delivery_by k.hint known) k a (sym e) ∙ ap (λ b. b && delivers_hint (delivery_by k.hint known) k.hint) shut)
     ] refl none
@@ -326,34 +367,43 @@ pub confirmed_set : (n id j : ℕ) (hints : List Kept) (d : Delivery) (x : Kept)
     → confirmed hints id d ≡ set hints j (record { hint = (get_or hints j x).hint; fate = fate_of d })
 confirmed_set n id j [] d x a is h = absurd (omega arith)
 confirmed_set n id zero (k ∷ ks) d x a is h =
-    λ i. ap (λ b. cond b (record { hint = k.hint; fate = fate_of d }) k) (eq-eqb k.hint.id id (omega (arith, a.0))) i ∷ confirmed_past (n + 1) id ks d a.1 (omega arith) i
+    λ i. ap (λ b. cond b (record { hint = k.hint; fate = fate_of d }) k) (eq-eqb k.hint.id id (omega (arith, a.0))) i ∷ confirmed_past
+    (n + 1) id ks d a.1 (omega arith) i
 confirmed_set n id (suc j) (k ∷ ks) d x a is h =
     λ i. answered_other id d k (λ e. omega (arith, e, a.0)) i ∷ confirmed_set (n + 1) id j ks d x a.1 (omega arith) (omega arith) i
 
 -- the same for the hint that a delivery is of
-pub confirmed_at : (hints : List Kept) (id : ℕ) (d : Delivery) → HaveIdsFrom 1 hints → (f : IsFound hints id d) → confirmed hints id d ≡ set hints (id - 1) (record { hint = f.kept.hint; fate = fate_of d })
+pub confirmed_at : (hints : List Kept) (id : ℕ) (d : Delivery) → HaveIdsFrom 1 hints → (f : IsFound hints id d)
+    → confirmed hints id d ≡ set hints (id - 1) (record { hint = f.kept.hint; fate = fate_of d })
 confirmed_at hints id d a f =
-    confirmed_set 1 id (id - 1) hints d f.kept a (omega (arith, f.over)) f.inside ∙ ap (λ (x : Kept). set hints (id - 1) (record { hint = x.hint; fate = fate_of d })) f.stands
+    confirmed_set 1 id (id - 1) hints d f.kept a (omega (arith, f.over)) f.inside
+    ∙ ap (λ (x : Kept). set hints (id - 1) (record { hint = x.hint; fate = fate_of d })) f.stands
 
 -- a hint that was answered gives the delivery back
-delivery_back : (h : Hint) (d : Delivery) → h.owner ≡ d.owner → h.key ≡ d.key → h.version ≡ d.version → delivery_of (record { hint = h; fate = fate_of d }) ≡ Some d
-delivery_back h d o k v = elim d.known as (λ t. d.known ≡ t → option_map (λ known. record { owner = h.owner; key = h.key; version = h.version; known = known }) (owner_answer (cond t Known Taken)) ≡ Some d) [
-  | true ↦ λ e. λ i. Some (record { owner = o i; key = k i; version = v i; known = sym e i })
-  | false ↦ λ e. λ i. Some (record { owner = o i; key = k i; version = v i; known = sym e i })
-] refl
+delivery_back : (h : Hint) (d : Delivery) → h.owner ≡ d.owner → h.key ≡ d.key → h.version ≡ d.version
+    → delivery_of (record { hint = h; fate = fate_of d }) ≡ Some d
+delivery_back h d o k v =
+    elim d.known as (λ t. d.known ≡ t
+    → option_map (λ known. record { owner = h.owner; key = h.key; version = h.version; known = known }) (owner_answer (cond t Known Taken)) ≡ Some d) [
+      | true ↦ λ e. λ i. Some (record { owner = o i; key = k i; version = v i; known = sym e i })
+      | false ↦ λ e. λ i. Some (record { owner = o i; key = k i; version = v i; known = sym e i })
+    ] refl
 
-pub kept_answered : (hints : List Kept) (id : ℕ) (d : Delivery) → HaveIdsFrom 1 hints → list_any (is_answered id d) hints ≡ true → option_and_then delivery_of (kept_at (confirmed hints id d) id) ≡ Some d
+pub kept_answered : (hints : List Kept) (id : ℕ) (d : Delivery) → HaveIdsFrom 1 hints → list_any (is_answered id d) hints ≡ true
+    → option_and_then delivery_of (kept_at (confirmed hints id d) id) ≡ Some d
 kept_answered hints id d a t =
     let f = found_at hints id d a t in
     let k : Kept = record { hint = f.kept.hint; fate = fate_of d } in
     let items : confirmed hints id d ≡ set hints (id - 1) k = confirmed_at hints id d a f in
     let inside : id - 1 < length (set hints (id - 1) k) = simp length-set f.inside in
     ap (λ hs. option_and_then delivery_of (kept_at hs id)) items
-    ∙ (ap (option_and_then delivery_of) (kept_there (set hints (id - 1) k) id k f.over inside ∙ ap (λ x. Some x) (get_or-set_same hints (id - 1) k k f.inside))
+    ∙ (ap (option_and_then delivery_of) (kept_there (set hints (id - 1) k) id k f.over inside
+    ∙ ap (λ x. Some x) (get_or-set_same hints (id - 1) k k f.inside))
     ∙ delivery_back f.kept.hint d f.answered.same_owner f.answered.same_key f.answered.same_version)
 
 answered-same_id : (id : ℕ) (d : Delivery) (k : Kept) → (answered id d k).hint ≡ k.hint
-answered-same_id id d k = elim (nat_eq k.hint.id id) as (λ b. (cond b (record { hint = k.hint; fate = fate_of d }) k).hint ≡ k.hint) [ true ↦ refl | false ↦ refl ]
+answered-same_id id d k =
+    elim (nat_eq k.hint.id id) as (λ b. (cond b (record { hint = k.hint; fate = fate_of d }) k).hint ≡ k.hint) [ true ↦ refl | false ↦ refl ]
 
 pub AreNumberedFrom-confirmed : (n id : ℕ) (hints : List Kept) (d : Delivery) → HaveIdsFrom n hints → HaveIdsFrom n (confirmed hints id d)
 AreNumberedFrom-confirmed n id [] d a = tt
@@ -368,12 +418,15 @@ full_of_pending hints n is many =
     ap (λ b. cond (b && nat_lt (length hints + 1) (2 ^ 32)) None (Some HintsFull)) (le-ltb (pending_count hints) 10000 (omega arith))
     ∙ ap (λ b. cond b (Some HintsFull) None) (sym (le-leb 10000 n many))
 
-pub full_of_ids : (hints : List Kept) (n : ℕ) → n ≡ length hints → pending_count hints < 10000 → keep_fault hints ≡ cond (leb 4294967295 n) (Some HintsFull) None
+pub full_of_ids : (hints : List Kept) (n : ℕ) → n ≡ length hints → pending_count hints < 10000
+    → keep_fault hints ≡ cond (leb 4294967295 n) (Some HintsFull) None
 full_of_ids hints n is few =
     ap (λ b. cond (b && nat_lt (length hints + 1) (2 ^ 32)) None (Some HintsFull)) (lt-ltb (pending_count hints) 10000 few)
     ∙ elim (cases_lt n 4294967295) [
-      | inl less ↦ ap (λ b. cond b None (Some HintsFull)) (lt-ltb (length hints + 1) (2 ^ 32) (omega arith)) ∙ ap (λ b. cond b (Some HintsFull) None) (sym (lt-leb 4294967295 n less))
-      | inr last ↦ ap (λ b. cond b None (Some HintsFull)) (le-ltb (length hints + 1) (2 ^ 32) (omega arith)) ∙ ap (λ b. cond b (Some HintsFull) None) (sym (le-leb 4294967295 n last))
+      | inl less ↦ ap (λ b. cond b None (Some HintsFull)) (lt-ltb (length hints + 1) (2 ^ 32) (omega arith))
+          ∙ ap (λ b. cond b (Some HintsFull) None) (sym (lt-leb 4294967295 n less))
+      | inr last ↦ ap (λ b. cond b None (Some HintsFull)) (le-ltb (length hints + 1) (2 ^ 32) (omega arith))
+          ∙ ap (λ b. cond b (Some HintsFull) None) (sym (le-leb 4294967295 n last))
     ]
 
 -- a delivery that was confirmed: the hints after it

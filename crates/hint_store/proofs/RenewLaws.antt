@@ -1,5 +1,6 @@
 -- Laws of stores that are numbered anew.
-use Rattle.std.proofs.Common.{◌≡◌, ℕ, ◌+◌, ◌<◌, ◌≤◌, ◌^◌, Bool, true, false, cond, List, [], ◌∷◌, ◌++◌, length, get_or, take, Some, None, refl, ap, sym, ◌∙◌, inl, inr, arith, add-zero}
+use Rattle.std.proofs.Common.{◌≡◌, ℕ, ◌+◌, ◌<◌, ◌≤◌, ◌^◌, Bool, true, false, cond, List, [], ◌∷◌, ◌++◌, length, get_or, take, Some, None, refl, ap}
+use Rattle.std.proofs.Common.{sym, ◌∙◌, inl, inr, arith, add-zero}
 use Rattle.std.specs.Prelude.{filter, not, nat_lt, IsTrue, ◌⊎◌, Option}
 use Rattle.std.proofs.lemmas.Bool.{and_from, lt-ltb}
 use Rattle.std.proofs.lemmas.List.{append-nil}
@@ -41,11 +42,14 @@ pending_more : (hints : List Kept) (i : ℕ) (k : Kept) (b : Bool) → i < lengt
     → filter is_pending (take (i + 1) hints) ≡ filter is_pending (take i hints) ++ cond b (k ∷ []) []
 pending_more hints i k b h is pending =
     filter_more is_pending hints i k h
-    ∙ (ap (λ (x : Kept). filter is_pending (take i hints) ++ cond (is_pending x) (x ∷ []) []) (sym is) ∙ ap (λ c. filter is_pending (take i hints) ++ cond c (k ∷ []) []) pending)
+    ∙ (ap (λ (x : Kept). filter is_pending (take i hints) ++ cond (is_pending x) (x ∷ []) []) (sym is)
+    ∙ ap (λ c. filter is_pending (take i hints) ++ cond c (k ∷ []) []) pending)
 
 -- a hint that is not pending adds nothing
-pub renewed-same : (hints : List Kept) (i : ℕ) (k : Kept) → i < length hints → k ≡ get_or hints i k → is_pending k ≡ false → renewed (take (i + 1) hints) ≡ renewed (take i hints)
-renewed-same hints i k h is not_pending = ap (numbered_from 1) (pending_more hints i k false h is not_pending ∙ append-nil (filter is_pending (take i hints)))
+pub renewed-same : (hints : List Kept) (i : ℕ) (k : Kept) → i < length hints → k ≡ get_or hints i k → is_pending k ≡ false
+    → renewed (take (i + 1) hints) ≡ renewed (take i hints)
+renewed-same hints i k h is not_pending =
+    ap (numbered_from 1) (pending_more hints i k false h is not_pending ∙ append-nil (filter is_pending (take i hints)))
 
 -- a pending hint is kept anew
 pub renewed-more : (hints : List Kept) (i : ℕ) (k : Kept) → i < length hints → k ≡ get_or hints i k → is_pending k ≡ true
@@ -53,37 +57,55 @@ pub renewed-more : (hints : List Kept) (i : ℕ) (k : Kept) → i < length hints
 renewed-more hints i k h is pending =
     let before = filter is_pending (take i hints) in
     let number : 1 + length before ≡ length (numbered_from 1 before) + 1 = omega (arith, length-numbered 1 before) in
-    ap (numbered_from 1) (pending_more hints i k true h is pending) ∙ (numbered-push 1 before k ∙ ap (λ m. numbered_from 1 before ++ again m k ∷ []) number)
+    ap (numbered_from 1) (pending_more hints i k true h is pending)
+    ∙ (numbered-push 1 before k ∙ ap (λ m. numbered_from 1 before ++ again m k ∷ []) number)
 
 -- there is room for each pending hint
-pub renewed-room : (hints : List Kept) (i : ℕ) (k : Kept) → AreHints hints → i < length hints → k ≡ get_or hints i k → is_pending k ≡ true → keep_fault (renewed (take i hints)) ≡ None
+pub renewed-room : (hints : List Kept) (i : ℕ) (k : Kept) → AreHints hints → i < length hints → k ≡ get_or hints i k → is_pending k ≡ true
+    → keep_fault (renewed (take i hints)) ≡ None
 renewed-room hints i k are h is pending =
     let before = filter is_pending (take i hints) in
-    let one : cond {A = ℕ} (is_pending (get_or hints i k)) 1 0 ≡ 1 = ap (λ (x : Kept). cond {A = ℕ} (is_pending x) 1 0) (sym is) ∙ ap (λ b. cond {A = ℕ} b 1 0) pending in
+    let one : cond {A = ℕ} (is_pending (get_or hints i k)) 1 0 ≡ 1 = ap (λ (x : Kept). cond {A = ℕ} (is_pending x) 1 0) (sym is)
+    ∙ ap (λ b. cond {A = ℕ} b 1 0) pending in
     let most : length before + 1 ≤ pending_count hints =
-    omega (arith, length-filter_more is_pending hints i k h, one, length-filter is_pending (take (i + 1) hints), length-filter is_pending hints, sum_by-take-le (λ (x : Kept). cond (is_pending x) 1 0) hints (i + 1)) in
+    omega (
+      arith,
+      length-filter_more is_pending hints i k h,
+      one,
+      length-filter is_pending (take (i + 1) hints),
+      length-filter is_pending hints,
+      sum_by-take-le (λ (x : Kept). cond (is_pending x) 1 0) hints (i + 1),
+    ) in
     let count : pending_count (renewed (take i hints)) < 10000 = omega (arith, pending-numbered 1 before, most, are.few) in
     let id : length (renewed (take i hints)) + 1 < 2 ^ 32 = omega (arith, length-numbered 1 before, most, are.few) in
     ap (λ b. cond b None (Some HintsFull))
-    (and_from (nat_lt (pending_count (renewed (take i hints))) 10000) (nat_lt (length (renewed (take i hints)) + 1) (2 ^ 32)) (lt-ltb (pending_count (renewed (take i hints))) 10000 count) (lt-ltb (length (renewed (take i hints)) + 1) (2 ^ 32) id))
+    (and_from (nat_lt (pending_count (renewed (take i hints))) 10000) (nat_lt (length (renewed (take i hints)) + 1) (2 ^ 32))
+    (lt-ltb (pending_count (renewed (take i hints))) 10000 count) (lt-ltb (length (renewed (take i hints)) + 1) (2 ^ 32) id))
 
 -- the outcome of keeping a hint for which there is room
-keep-given : (hints : List Kept) (o : ℕ) (key : List ℕ) (v : Version) → keep_fault hints ≡ None → keep hints o key v ≡ gives (length hints + 1) (with_hint hints o key v)
+keep-given : (hints : List Kept) (o : ℕ) (key : List ℕ) (v : Version) → keep_fault hints ≡ None
+    → keep hints o key v ≡ gives (length hints + 1) (with_hint hints o key v)
 keep-given hints o key v free = ap (λ (f : Option Refusal). f >> gives (length hints + 1) (with_hint hints o key v)) free
 
-pub kept-ok : (id : ℕ) (old new : List Kept) (o : ℕ) (key : List ℕ) (v : Version) → keep_fault old ≡ None → keep old o key v ≡ gives id new → new ≡ with_hint old o key v
+pub kept-ok : (id : ℕ) (old new : List Kept) (o : ℕ) (key : List ℕ) (v : Version) → keep_fault old ≡ None → keep old o key v ≡ gives id new
+    → new ≡ with_hint old o key v
 kept-ok id old new o key v free does =
-    let same : ◌≡◌ {A = Outcome ℕ (List Kept)} (gives (length old + 1) (with_hint old o key v)) (gives id new) = sym (keep-given old o key v free) ∙ does in
+    let same : ◌≡◌ {A = Outcome ℕ (List Kept)} (gives (length old + 1) (with_hint old o key v)) (gives id new) = sym (keep-given old o key v free)
+    ∙ does in
     cc
 
-pub kept-err : (e : Refusal) (old : List Kept) (o : ℕ) (key : List ℕ) (v : Version) → keep_fault old ≡ None → ((e ≡ NoMemory) × IsTrue (is_given (keep old o key v))) ⊎ (keep old o key v ≡ refuses e) → e ≡ NoMemory
+pub kept-err : (e : Refusal) (old : List Kept) (o : ℕ) (key : List ℕ) (v : Version) → keep_fault old ≡ None
+    → ((e ≡ NoMemory) × IsTrue (is_given (keep old o key v))) ⊎ (keep old o key v ≡ refuses e) → e ≡ NoMemory
 kept-err e old o key v free does = elim does [
   | inl memory ↦ memory.0
-  | inr refused ↦ absurd (let same : ◌≡◌ {A = Outcome ℕ (List Kept)} (gives (length old + 1) (with_hint old o key v)) (refuses e) = sym (keep-given old o key v free) ∙ refused in cc)
+  | inr refused ↦ absurd (let same : ◌≡◌ {A = Outcome ℕ (List Kept)} (gives (length old + 1) (with_hint old o key v)) (refuses e) = sym
+      (keep-given old o key v free) ∙ refused in cc)
 ]
 
 -- the counts from the number of pending hints and the rest
-pub counts-from : (hints : List Kept) (p d : ℕ) → p ≡ pending_count hints → d + pending_count hints ≡ length hints → (let c : HintCounts = record { pending = p; delivered = d } in c) ≡ counts_of hints
+pub counts-from : (hints : List Kept) (p d : ℕ) → p ≡ pending_count hints → d + pending_count hints ≡ length hints
+    → (let c : HintCounts = record { pending = p; delivered = d } in c) ≡ counts_of hints
 counts-from hints p d pending all =
-    let delivered : d ≡ length (filter (λ k. not (is_pending k)) hints) = omega (arith, all, length-filter_both is_pending (λ k. not (is_pending k)) (λ k. refl) hints) in
+    let delivered : d ≡ length (filter (λ k. not (is_pending k)) hints) = omega
+    (arith, all, length-filter_both is_pending (λ k. not (is_pending k)) (λ k. refl) hints) in
     λ i. record { pending = pending i; delivered = delivered i }

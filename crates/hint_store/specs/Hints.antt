@@ -1,4 +1,4 @@
--- Hinted handoff: the paper of 2007, section 4.6. The hints of a carrier are a list: hint n is its n-th item.
+-- Hinted handoff: section 4.6 of the Dynamo paper. The hints of a carrier are a list: hint n is its n-th item.
 use Rattle.std.specs.Prelude.{◌≡◌, ℕ, ◌+◌, ◌-◌, ◌^◌, ◌<◌, ◌≤◌, Bool, true, false, ◌&&◌, List, [], ◌∷◌, ◌++◌, length, map, filter, find, nat_lt, nat_eq, slice_get, Option, Some, None, if◌then◌else◌}
 use Rattle.std.specs.Option.{option_map}
 use Rattle.std.specs.List.{list_any}
@@ -71,11 +71,11 @@ is_due owners after k = is_pending k && nat_lt after k.hint.id && list_any (nat_
 abbrev pub next_hint : List ℕ → ℕ → List Kept → Option Hint
 next_hint owners after hints = option_map (λ k. k.hint) (find (is_due owners after) hints)
 
--- a delivery is that of a hint: owner, key and version are equal
+-- a delivery matches a hint: owner, key and version are equal
 abbrev pub delivers_hint : Delivery → Hint → Bool
 delivers_hint d h = nat_eq h.owner d.owner && bytes_eq h.key d.key && is_same h.version d.version
 
--- a hint is pending, has that number, and the delivery is that of the hint
+-- a hint is pending, has that number, and matches the delivery
 abbrev pub is_answered : ℕ → Delivery → Kept → Bool
 is_answered id d k = is_pending k && nat_eq k.hint.id id && delivers_hint d k.hint
 

@@ -1,4 +1,4 @@
--- Stores that are numbered anew.
+-- Stores whose hints are numbered again from 1.
 use Rattle.std.specs.Prelude.{ℕ, ◌+◌, List, [], ◌∷◌, filter}
 use Rattle.hint_store.specs.declared.hint.Fate.TheVariants.{Pending}
 use Rattle.hint_store.specs.declared.hint.Kept.{Kept}

@@ -4,7 +4,7 @@ use Rattle.std.specs.List.{sum_by}
 use Rattle.version_set.specs.Sizes.{payload_len}
 use Rattle.hint_store.specs.declared.hint.Kept.{Kept}
 
--- the bytes of a hint: those of its key, and of its version's value and clock
+-- the bytes of a hint: its key, and its version's value and clock
 abbrev pub hint_len : Kept → ℕ
 hint_len k = payload_len k.hint.key k.hint.version
 

@@ -65,7 +65,7 @@ impl Hint {
 /// ```
 #[derive(Debug, Drop)]
 pub struct Delivery {
-    /// The replica that took the hint or knew its version.
+    /// The replica that accepted the hint or knew its version.
     pub owner: u16,
     /// The key.
     pub key: Bytes,

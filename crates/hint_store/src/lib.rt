@@ -1,4 +1,4 @@
-//! Hinted handoff (the paper of 2007, section 4.6): the versions that a carrier keeps for replicas that are down, and
+//! Hinted handoff (section 4.6 of the Dynamo paper): the versions that a carrier keeps for replicas that are down, and
 //! their fates. Use it to keep hints and to record their deliveries.
 //!
 //! - [`hint`]: a hint, its delivery and its fate.

@@ -31,8 +31,8 @@ struct Waiting {
     id: u32,
 }
 
-/// The hints that a carrier keeps for replicas that are down, as in section 4.6 of the Dynamo paper of 2007: each with
-/// its owner, its key, its version and its fate.
+/// The hints that a carrier keeps for replicas that are down, as in section 4.6 of the Dynamo paper: each with its
+/// owner, its key, its version and its fate.
 ///
 /// Their ids count from 1 to 2^32 - 1. At most 10,000 hints are pending. A delivered hint is never removed, and keeps
 /// its fate. On error a store is unchanged.
@@ -103,8 +103,8 @@ impl HintStore {
         }
     }
 
-    /// Returns the number of bytes of the hints' keys, values and clocks, pending or delivered, at most 2^64 - 1: 10 bytes
-    /// for each pair of a clock. Reads no hint.
+    /// Returns the number of bytes of the hints' keys, values and clocks, pending or delivered, at most 2^64 - 1: 10
+    /// bytes for each pair of a clock. Reads no hint.
     pub fn bytes(&self) -> u64
         ensures { result ≡ min (hints_len self.now) (2 ^ 64 - 1) }
     {
@@ -210,8 +210,8 @@ impl HintStore {
         Ok(())
     }
 
-    /// Records that a pending hint was delivered to its owner, who knew its version or took it, as `confirm` does with
-    /// the owner, the key and the version that the hint has. Doesn't allocate.
+    /// Records that a pending hint was delivered to its owner, who knew its version or accepted it, like `confirm` with
+    /// the hint's owner, key and version. Doesn't allocate.
     ///
     /// Refused: UnknownHint (no pending hint has this id).
     pub fn settle(&mut self, id: u32, known: bool) -> Result<(), Refusal>
@@ -224,7 +224,7 @@ impl HintStore {
         Ok(())
     }
 
-    /// Returns a store with the pending hints alone, in order, numbered anew from 1. This store is unchanged.
+    /// Returns a store with only the pending hints, in order, numbered again from 1. This store is unchanged.
     ///
     /// Refused: NoMemory.
     pub fn renewed(&self, alloc: Global) -> Result<HintStore, Refusal>
@@ -248,7 +248,7 @@ impl HintStore {
         self.pending() >= PENDING_HINTS_MAX || self.len() >= LAST_ID
     }
 
-    /// Returns true if the delivery is that of a pending hint with this id.
+    /// Returns true if the delivery matches a pending hint with this id.
     fn awaits(&self, id: u32, delivery: &Delivery) -> bool
         ensures { result ≡ list_any (is_answered id delivery.now) self.now }
     {
@@ -271,7 +271,7 @@ impl HintStore {
         self.hints[last as usize].fate = fate_of(known);
     }
 
-    /// Returns the owner of the pending hint with an id, if there is one.
+    /// Returns the owner of the pending hint with an id, if any.
     fn waiting_owner(&self, id: u32) -> Option<u16>
         ensures { result ≡ option_and_then waiting_owner (kept_at self.now id) }
     {
@@ -283,7 +283,7 @@ impl HintStore {
         }
     }
 
-    /// Returns a copy of the hint with an id, if there is one. Refused: NoMemory.
+    /// Returns a copy of the hint with an id, if any. Refused: NoMemory.
     fn copy_of(&self, alloc: Global, id: Option<u32>) -> Result<Option<Hint>, Refusal>
         ensures { Answers result None (λ found. found ≡ option_map (λ k. k.hint) (option_and_then (kept_at self.now) id)) }
     {
@@ -314,7 +314,7 @@ fn renewed_from(alloc: Global, hints: &[Kept]) -> Result<HintStore, Refusal>
     Ok(store)
 }
 
-/// Returns the id of the entry at a place, if there is one and it is of this owner.
+/// Returns the id of the entry at a place, or `None` if it is missing or belongs to another owner.
 fn id_at(pending: &[Waiting], place: usize, owner: u16) -> Option<u32>
     ensures { result ≡ id_of owner (slice_get pending.now place) }
 {
@@ -346,7 +346,7 @@ fn is_at_most(waiting: &Waiting, owner: u16, id: u32) -> bool
     waiting.owner < owner || (waiting.owner == owner && waiting.id <= id)
 }
 
-/// Returns true if a fate is that of a pending hint.
+/// Returns true if this is the fate of a pending hint.
 fn is_open(fate: Fate) -> bool
     ensures { result ≡ is_undelivered fate }
 {
@@ -372,7 +372,7 @@ fn is_delivery_of(delivery: &Delivery, hint: &Hint) -> bool
         && hint.version.text_order(&delivery.version) == Ordering::Equal
 }
 
-/// Returns the lesser of two ids, either of which may be missing.
+/// Returns the lesser of two ids if both are present, otherwise the one that is, if any.
 fn lesser(one: Option<u32>, other: Option<u32>) -> Option<u32>
     ensures { result ≡ earliest one other }
 {

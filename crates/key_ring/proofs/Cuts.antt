@@ -1,5 +1,6 @@
 -- The first bits of a long number are those of its first three bytes.
-use Rattle.std.proofs.Common.{◌≡◌, ℕ, zero, suc, ◌+◌, ◌-◌, ◌*◌, ◌/◌, ◌%◌, ◌^◌, ◌<◌, ◌≤◌, List, [], ◌∷◌, ◌++◌, length, get_or, sym, ap, subst, ◌∙◌, arith}
+use Rattle.std.proofs.Common.{◌≡◌, ℕ, zero, suc, ◌+◌, ◌-◌, ◌*◌, ◌/◌, ◌%◌, ◌^◌, ◌<◌, ◌≤◌, List, [], ◌∷◌, ◌++◌, length, get_or, sym, ap, subst, ◌∙◌}
+use Rattle.std.proofs.Common.{arith}
 use Rattle.std.specs.Prelude.{slice_index}
 use Rattle.std.proofs.Math.Nat.{pow-suc, pow-le-pow_right}
 use Rattle.std.proofs.lemmas.Nat.{and_mask, shr-shr, shr_below, mul-add-lt}
@@ -30,7 +31,8 @@ four_bytes n (suc (suc (suc (suc i)))) = omega arith
 digest_bytes_fit : (h : List ℕ) (n : ℕ) → IsBytes (digest_bytes h n)
 unfolding digest_bytes
 digest_bytes_fit h zero i = omega arith
-digest_bytes_fit h (suc n) i = IsBytes-append (digest_bytes h n) (to_le_bytes w32 (slice_index h n)) (digest_bytes_fit h n) (four_bytes (slice_index h n)) i
+digest_bytes_fit h (suc n) i =
+    IsBytes-append (digest_bytes h n) (to_le_bytes w32 (slice_index h n)) (digest_bytes_fit h n) (four_bytes (slice_index h n)) i
 
 -- a digest is a list of bytes
 md5_fits : (m : List ℕ) → IsBytes (md5 m)
@@ -42,16 +44,19 @@ number_below : (bytes : List ℕ) → IsBytes bytes → number_from bytes < 256 
 number_below [] fits = omega arith
 number_below (byte ∷ bytes) fits =
     let rest : number_from bytes < 256 ^ length bytes = number_below bytes (λ i. fits (suc i)) in
-    let here : byte * 256 ^ length bytes + number_from bytes < 256 ^ length bytes * 256 = mul-add-lt byte (256 ^ length bytes) (number_from bytes) 256 (fits 0) rest in
+    let here : byte * 256 ^ length bytes + number_from bytes < 256 ^ length bytes * 256 = mul-add-lt byte (256 ^ length bytes) (number_from bytes) 256
+    (fits 0) rest in
     rw (pow-suc 256 (length bytes)) here
 
 -- the first eight bytes
 abbrev pub first_eight : List ℕ → List ℕ
-first_eight digest = get_or digest 0 0 ∷ get_or digest 1 0 ∷ get_or digest 2 0 ∷ get_or digest 3 0 ∷ get_or digest 4 0 ∷ get_or digest 5 0 ∷ get_or digest 6 0 ∷ get_or digest 7 0 ∷ []
+first_eight digest = get_or digest 0 0 ∷ get_or digest 1 0 ∷ get_or digest 2 0 ∷ get_or digest 3 0 ∷ get_or digest 4 0 ∷ get_or digest 5 0
+    ∷ get_or digest 6 0 ∷ get_or digest 7 0 ∷ []
 
 -- the number without its last 8 bytes
 eight_left : (a b c d e f g h : ℕ) (rest : List ℕ) → length rest ≡ 8 → IsBytes rest
-    → number_from (a ∷ b ∷ c ∷ d ∷ e ∷ f ∷ g ∷ h ∷ rest) / 2 ^ 64 ≡ a * 2 ^ 56 + b * 2 ^ 48 + c * 2 ^ 40 + d * 2 ^ 32 + e * 2 ^ 24 + f * 2 ^ 16 + g * 2 ^ 8 + h
+    → number_from (a ∷ b ∷ c ∷ d ∷ e ∷ f ∷ g ∷ h ∷ rest) / 2 ^ 64 ≡ a * 2 ^ 56 + b * 2 ^ 48 + c * 2 ^ 40 + d * 2 ^ 32 + e * 2 ^ 24 + f * 2 ^ 16 + g
+    * 2 ^ 8 + h
 eight_left a b c d e f g h rest len fits =
     let low : number_from rest < 256 ^ 8 = subst (λ n. number_from rest < 256 ^ n) len (number_below rest fits) in
     rw len (omega (arith, low))
@@ -66,7 +71,8 @@ first_bits (a ∷ b ∷ c ∷ d ∷ []) len fits = absurd (omega arith)
 first_bits (a ∷ b ∷ c ∷ d ∷ e ∷ []) len fits = absurd (omega arith)
 first_bits (a ∷ b ∷ c ∷ d ∷ e ∷ f ∷ []) len fits = absurd (omega arith)
 first_bits (a ∷ b ∷ c ∷ d ∷ e ∷ f ∷ g ∷ []) len fits = absurd (omega arith)
-first_bits (a ∷ b ∷ c ∷ d ∷ e ∷ f ∷ g ∷ h ∷ rest) len fits = omega (arith, eight_left a b c d e f g h rest (omega arith) (λ i. fits (suc (suc (suc (suc (suc (suc (suc (suc i))))))))))
+first_bits (a ∷ b ∷ c ∷ d ∷ e ∷ f ∷ g ∷ h ∷ rest) len fits =
+    omega (arith, eight_left a b c d e f g h rest (omega arith) (λ i. fits (suc (suc (suc (suc (suc (suc (suc (suc i))))))))))
 
 -- the first eight bytes of a key's digest are the first 64 bits of its number
 pub front_is : (key digest : List ℕ) → digest ≡ md5 key → key_front key ≡ from_be_bytes w64 (first_eight digest)
@@ -77,7 +83,8 @@ front_is key digest e = rw (← e) (first_bits digest (ap length e ∙ length-md
 key_number_below : (key : List ℕ) → key_number key < 2 ^ 128
 unfolding key_number
 key_number_below key =
-    let whole : number_from (md5 key) < 256 ^ 16 = subst (λ n. number_from (md5 key) < 256 ^ n) (length-md5 key) (number_below (md5 key) (md5_fits key)) in
+    let whole : number_from (md5 key) < 256 ^ 16 = subst (λ n. number_from (md5 key) < 256 ^ n) (length-md5 key)
+    (number_below (md5 key) (md5_fits key)) in
     whole
 
 -- the first `keep` bits of a number are those of its first 24
@@ -92,7 +99,8 @@ unfolding range_at
 range_is bits key le = cut_at (key_number key) bits (omega arith)
 
 -- a leaf by the first three bytes
-pub leaf_is : (format : Format) (bits : ℕ) (key : List ℕ) → bits ≤ 8 → leaf_at format bits key ≡ key_number key / 2 ^ 104 / 2 ^ (24 - bits - leaf_bits format) % 2 ^ leaf_bits format
+pub leaf_is : (format : Format) (bits : ℕ) (key : List ℕ) → bits ≤ 8
+    → leaf_at format bits key ≡ key_number key / 2 ^ 104 / 2 ^ (24 - bits - leaf_bits format) % 2 ^ leaf_bits format
 unfolding leaf_at
 leaf_is One bits key le =
     let j : 24 - bits - 8 ≡ 24 - (bits + 8) = omega arith in

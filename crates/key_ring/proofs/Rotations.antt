@@ -1,10 +1,12 @@
 -- A preference list is the node list, rotated.
-use Rattle.std.proofs.Common.{◌≡◌, ℕ, zero, suc, true, [], ◌∷◌, ◌+◌, ◌-◌, ◌%◌, ◌<◌, ◌≤◌, List, ◌++◌, length, get_or, take, drop, sym, ap, subst, ◌∙◌, arith, inl, inr}
+use Rattle.std.proofs.Common.{◌≡◌, ℕ, zero, suc, true, [], ◌∷◌, ◌+◌, ◌-◌, ◌%◌, ◌<◌, ◌≤◌, List, ◌++◌, length, get_or, take, drop, sym, ap, subst, ◌∙◌}
+use Rattle.std.proofs.Common.{arith, inl, inr}
 use Rattle.std.specs.Prelude.{slice_get, Some, IsPermutation}
 use Rattle.std.proofs.Math.Nat.{mod-add-mod, mod-eq_of_lt, mod-lt, add-mod_right}
 use Rattle.std.proofs.lemmas.Bool.{cases_order, and_parts, ltb-true}
 use Rattle.std.specs.List.{list_all}
-use Rattle.std.proofs.lemmas.List.{get_or-drop, get_or_append_left, get_or-append_right, get_or-take, length-drop, length-append, length-take, take-append-drop}
+use Rattle.std.proofs.lemmas.List.{get_or-drop, get_or_append_left, get_or-append_right, get_or-take, length-drop, length-append, length-take}
+use Rattle.std.proofs.lemmas.List.{take-append-drop}
 use Rattle.std.proofs.lemmas.List.Sorted.{IsPermutation-append_comm}
 use Rattle.std.proofs.lemmas.Option.{slice_get-get_or}
 use Rattle.key_ring.specs.Ring.{Places, preference_list, is_node_number, is_ring}
@@ -14,10 +16,12 @@ read_before : (nodes : List ℕ) (k i d : ℕ) → k + i < length nodes → get_
 read_before nodes k i d h = get_or_append_left (drop k nodes) (take k nodes) d i (omega (arith, length-drop k nodes)) ∙ get_or-drop k nodes i d
 
 -- past the end of the node list, it is read from the start
-read_past : (nodes : List ℕ) (k i d : ℕ) → i < length nodes → k < length nodes → length nodes ≤ k + i → get_or (drop k nodes ++ take k nodes) i d ≡ get_or nodes (k + i - length nodes) d
+read_past : (nodes : List ℕ) (k i d : ℕ) → i < length nodes → k < length nodes → length nodes ≤ k + i
+    → get_or (drop k nodes ++ take k nodes) i d ≡ get_or nodes (k + i - length nodes) d
 read_past nodes k i d small within h =
     let e : i - (length nodes - k) ≡ k + i - length nodes = omega arith in
-    get_or-append_right (drop k nodes) (take k nodes) (length nodes - k) i d (length-drop k nodes) (omega arith) ∙ rw e (get_or-take k nodes (k + i - length nodes) d (omega arith))
+    get_or-append_right (drop k nodes) (take k nodes) (length nodes - k) i d (length-drop k nodes) (omega arith)
+    ∙ rw e (get_or-take k nodes (k + i - length nodes) d (omega arith))
 
 -- a number below twice n, divided by n, leaves itself less n
 mod_past : (m n : ℕ) → n ≤ m → m < n + n → m % n ≡ m - n
@@ -26,21 +30,26 @@ mod_past m n le lt =
     ap (λ k. k % n) e ∙ add-mod_right (m - n) n ∙ mod-eq_of_lt (omega arith)
 
 -- a place of a list that is rotated by k
-rotated_at : (nodes : List ℕ) (k i d : ℕ) → k < length nodes → i < length nodes → get_or (drop k nodes ++ take k nodes) i d ≡ get_or nodes ((k + i) % length nodes) d
+rotated_at : (nodes : List ℕ) (k i d : ℕ) → k < length nodes → i < length nodes
+    → get_or (drop k nodes ++ take k nodes) i d ≡ get_or nodes ((k + i) % length nodes) d
 rotated_at nodes k i d hk hi =
     elim (cases_order (k + i) (length nodes)) [
-      | inl h ↦ read_past nodes k i d hi hk (omega arith) ∙ ap (λ m. get_or nodes m d) (sym (mod_past (k + i) (length nodes) (omega arith) (omega arith)))
+      | inl h ↦ read_past nodes k i d hi hk (omega arith)
+          ∙ ap (λ m. get_or nodes m d) (sym (mod_past (k + i) (length nodes) (omega arith) (omega arith)))
       | inr (inl h) ↦ read_before nodes k i d h ∙ ap (λ m. get_or nodes m d) (sym (mod-eq_of_lt h))
-      | inr (inr h) ↦ read_past nodes k i d hi hk (omega arith) ∙ ap (λ m. get_or nodes m d) (sym (mod_past (k + i) (length nodes) (omega arith) (omega arith)))
+      | inr (inr h) ↦ read_past nodes k i d hi hk (omega arith)
+          ∙ ap (λ m. get_or nodes m d) (sym (mod_past (k + i) (length nodes) (omega arith) (omega arith)))
     ]
 
 -- the node at a place of a preference list, counted round the ring
-pub preference_at : (nodes : List ℕ) (r i d : ℕ) → i < length nodes → slice_get (preference_list nodes r) i ≡ Some (get_or nodes ((r + i) % length nodes) d)
+pub preference_at : (nodes : List ℕ) (r i d : ℕ) → i < length nodes
+    → slice_get (preference_list nodes r) i ≡ Some (get_or nodes ((r + i) % length nodes) d)
 preference_at nodes r i d h =
     let k = r % length nodes in
     let within : k < length nodes = mod-lt r (omega arith) in
     let long : length (drop k nodes ++ take k nodes) ≡ length nodes = simp (length-append, length-drop, length-take) (omega arith) in
-    slice_get-get_or (drop k nodes ++ take k nodes) i d (omega arith) ∙ ap Some (rotated_at nodes k i d within h ∙ ap (λ m. get_or nodes m d) (mod-add-mod r (length nodes) i))
+    slice_get-get_or (drop k nodes ++ take k nodes) i d (omega arith)
+    ∙ ap Some (rotated_at nodes k i d within h ∙ ap (λ m. get_or nodes m d) (mod-add-mod r (length nodes) i))
 
 -- a preference list has each node of the ring once
 pub preference_once : (nodes : List ℕ) (r : ℕ) → IsPermutation (preference_list nodes r) nodes

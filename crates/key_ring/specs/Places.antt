@@ -1,4 +1,4 @@
--- The range and the leaf of a key: the paper of 2007, sections 4.2, 4.7 and 6.2 (equal ranges), by the number that its
+-- The range and the leaf of a key: sections 4.2, 4.7 and 6.2 (equal ranges) of the Dynamo paper, by the number that its
 -- MD5 digest spells (RFC 1321).
 use Rattle.std.specs.Prelude.{ℕ, ◌+◌, ◌-◌, ◌*◌, ◌/◌, ◌%◌, ◌^◌, List, [], ◌∷◌, length}
 use Rattle.md5.specs.Md5.{md5}
@@ -27,6 +27,6 @@ abbrev pub leaf_bits : Format → ℕ
 leaf_bits One = 8
 leaf_bits Two = 12
 
--- the leaf of a key: the bits after those of the range
+-- the leaf of a key: the bits after the range's bits
 unfoldable pub leaf_at : Format → ℕ → List ℕ → ℕ
 leaf_at format bits key = key_number key / 2 ^ (128 - (bits + leaf_bits format)) % 2 ^ leaf_bits format

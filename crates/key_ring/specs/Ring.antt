@@ -1,4 +1,4 @@
--- Rings, and the nodes that keep each range: the paper of 2007, sections 4.2, 4.3 and 6.2.
+-- Rings, and the nodes that keep each range: sections 4.2, 4.3 and 6.2 of the Dynamo paper.
 use Rattle.std.specs.Prelude.{ℕ, ◌%◌, ◌++◌, Bool, false, not, ◌&&◌, ◌||◌, ◌==◌, nat_lt, nat_le, List, [], ◌∷◌, length, take, drop, Option, Some, None, if◌then◌else◌}
 use Rattle.std.specs.List.{list_all, list_any}
 use Rattle.vclock.specs.declared.refusal.Refusal.{Refusal}
@@ -26,6 +26,6 @@ is_ring p = nat_le p.bits 8 && nat_lt 0 (length p.nodes) && nat_le (length p.nod
 abbrev pub ring_fault : Places → Option Refusal
 ring_fault p = if is_ring p then None else Some BadRing
 
--- the nodes in the order in which they are to keep range r: the node list, rotated left by r
+-- the nodes in the order of preference for range r: the node list, rotated left by r
 abbrev pub preference_list : List ℕ → ℕ → List ℕ
 preference_list nodes r = drop (r % length nodes) nodes ++ take (r % length nodes) nodes

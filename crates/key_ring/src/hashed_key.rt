@@ -9,9 +9,9 @@ use std::hash::{FoldHasher, Hasher};
 use std::marker::Model;
 use vclock::Format;
 
-/// A key with a fast hash of it, and maybe with the first 64 bits of its MD5 digest (RFC 1321), which give its range and
-/// its leaf in either format. Whoever knows the leaf of a key needs no digest; a caller that may need one computes it
-/// before a lock is taken, by `placed`.
+/// A key with a fast hash of it, and maybe with the first 64 bits of its MD5 digest (RFC 1321), which give its range
+/// and its leaf in either format. A caller that knows the leaf of a key needs no digest; a caller that may need one
+/// computes it by `placed` before a lock is taken.
 ///
 /// ```
 /// let key = HashedKey::new(key);
@@ -37,7 +37,7 @@ impl<'a> Model for HashedKey<'a> {
 }
 
 impl<'a> HashedKey<'a> {
-    /// Hashes a key of any length by the fast hash alone. Doesn't allocate.
+    /// Hashes a key of any length by the fast hash only. Doesn't allocate.
     pub fn new(key: &'a [u8]) -> HashedKey<'a>
         ensures { result ≡ key.now }
     {

@@ -1,5 +1,5 @@
-//! The ring of equal ranges (the paper of 2007, sections 4.2, 4.3 and 6.2): the range and the leaf of each key, and the
-//! nodes that keep each range. Use it to find the replicas of a key.
+//! The ring of equal ranges (sections 4.2, 4.3 and 6.2 of the Dynamo paper): the range and the leaf of each key, and
+//! the nodes that keep each range. Use it to find the replicas of a key.
 //!
 //! - [`hashed_key`]: a key with its hashes.
 //! - [`places`]: the range and the leaf of a key, by its MD5 digest.

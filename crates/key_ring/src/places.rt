@@ -1,4 +1,4 @@
-//! The range and the leaf of a key (the paper of 2007, sections 4.2, 4.7 and 6.2), by the 128 bits of its MD5 digest
+//! The range and the leaf of a key (sections 4.2, 4.7 and 6.2 of the Dynamo paper), by the 128 bits of its MD5 digest
 //! (RFC 1321), the first byte of the digest highest.
 ghost use Rattle.std.specs.Prelude.{◌≡◌, ◌<◌, ◌≤◌, ◌^◌};
 ghost use Rattle.key_ring.specs.Places.{leaf_at, leaf_bits, range_at};

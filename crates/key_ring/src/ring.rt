@@ -1,4 +1,4 @@
-//! The ring: the nodes that keep each range, and their order (the paper of 2007, sections 4.2, 4.3 and 6.2).
+//! The ring: the nodes that keep each range, and their order (sections 4.2, 4.3 and 6.2 of the Dynamo paper).
 ghost use Rattle.std.specs.Prelude.{◌≡◌, ◌==◌, ◌<◌, ◌≤◌, ◌^◌, ◌&&◌, nat_le, nat_lt, not, length, slice_get, IsTrue, Some};
 ghost use Rattle.std.specs.List.{list_all, list_any};
 ghost use Rattle.std.specs.List.Sorted.{IsPermutation};
@@ -12,7 +12,7 @@ use std::marker::Model;
 use vclock::limits::{NODE_MAX, RING_BITS_MAX, RING_NODES_MAX};
 use vclock::{Format, Refusal};
 
-/// A ring (the paper of 2007, sections 4.2, 4.3 and 6.2): 2^bits equal ranges of keys by their digests, 1 to 256; the
+/// A ring (sections 4.2, 4.3 and 6.2 of the Dynamo paper): 2^bits equal ranges of keys by their digests, 1 to 256; the
 /// nodes in the order of the ring, 1 to 32, each once; and the number of nodes that keep a range.
 ///
 /// ```
@@ -50,7 +50,7 @@ impl Ring {
     /// number of nodes that keep a range, 1 to `nodes.len()`.
     ///
     /// Refused, in order: BadRing (an argument is outside these limits), NoMemory. A list that is too long is refused
-    /// by its length alone.
+    /// by its length only.
     pub fn new(alloc: Global, bits: u64, nodes: &[u64], copies: u64) -> Result<Ring, Refusal>
         ensures { Answers result (ring_fault (record { bits = bits; nodes = nodes.now; copies = copies })) (λ ring. ring ≡ record { bits = bits; nodes = nodes.now; copies = copies }) }
     {
@@ -81,8 +81,8 @@ impl Ring {
         place(Format::One, self.bits, key).range
     }
 
-    /// Returns the leaf of a key in its range's tree, from 0: the 8 bits of its digest after those of the range, or 12
-    /// in format 2. Doesn't allocate.
+    /// Returns the leaf of a key in its range's tree, from 0: the 8 bits of its digest after the range's bits, or 12
+    /// bits in format 2. Doesn't allocate.
     pub fn leaf_of(&self, format: Format, key: &[u8]) -> u16
         ensures { result ≡ leaf_at format self.now.bits key.now }
     {
@@ -152,7 +152,7 @@ fn is_node_list(nodes: &[u64]) -> bool
     !nodes.is_empty() && nodes.len() <= RING_NODES_MAX && are_nodes(nodes) && !has_repeat(nodes)
 }
 
-/// Returns true if each number is that of a node.
+/// Returns true if each number can be a node's.
 fn are_nodes(nodes: &[u64]) -> bool
     ensures { result ≡ list_all is_node_number nodes.now }
 {

@@ -1,6 +1,6 @@
-//! Makes each library call that takes memory and no lock, and prints its result. `examples/check` refuses the growths
-//! of memory in turn. Each call then returns NoMemory, or its result with ample memory. After NoMemory the value that
-//! was to be changed is unchanged; a call of many steps keeps the steps that are done.
+//! Makes each library call that takes memory and no lock, and prints its result. `tests/check` refuses the growths
+//! of memory in turn. Each call returns NoMemory, or its result with ample memory. After NoMemory the call's value is
+//! unchanged, except that a call of many steps keeps the completed ones.
 mod catch_ups;
 mod events;
 mod exchanges;

@@ -2,7 +2,7 @@
 use std::io;
 use vclock::Refusal;
 
-/// Prints the result of a call: a number that stands for it, or the name of its refusal.
+/// Prints the result of a call: a number for it, or the name of its refusal.
 pub(crate) fn show(rt: &impl Print, call: &str, returned: Result<u64, Refusal>) -> io::Result<()> {
     match returned {
         Ok(number) => println!(rt; "{call}: {number}"),
@@ -10,8 +10,7 @@ pub(crate) fn show(rt: &impl Print, call: &str, returned: Result<u64, Refusal>) 
     }
 }
 
-/// Returns the refusal if the value that was to be changed is unchanged, and otherwise Dirty, which no call here
-/// returns.
+/// Returns the refusal if the call's value is unchanged, otherwise Dirty, which no call here returns.
 pub(crate) fn unchanged(refusal: Refusal, is_as_it_was: Result<bool, Refusal>) -> Refusal {
     match is_as_it_was {
         Ok(true) => refusal,

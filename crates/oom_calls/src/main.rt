@@ -1,9 +1,8 @@
-//! Makes each library call that takes memory, and prints its result. `examples/check` refuses the growths of memory in
-//! turn. Each call then returns NoMemory, or its result with ample memory. The word on the command line chooses the
-//! calls:
+//! Makes each library call that takes memory, and prints its result. `tests/check` refuses the growths of memory in
+//! turn. Each call returns NoMemory, or its result with ample memory. The argument chooses the calls:
 //!
-//! - `core`: those that take no lock.
-//! - `threads`: those of locked and shared ranges, and of the other values that threads share.
+//! - `core`: the calls that take no lock.
+//! - `threads`: the calls of locked and shared ranges, and of the other values that threads share.
 #![tactic(auto)]
 
 mod core_calls;
@@ -18,7 +17,7 @@ use std::process::ExitCode;
 /// The usage line.
 const USAGE: &str = "usage: oom_calls core|threads";
 
-/// The calls that are made.
+/// The calls to make.
 #[derive(Clone, Copy)]
 enum Calls {
     Core,
@@ -41,7 +40,7 @@ fn main(rt: HostRuntime) -> ExitCode {
     }
 }
 
-/// Returns the calls that the word on the command line names. Takes no memory, so that each growth belongs to a call.
+/// Returns the calls named by the argument. Takes no memory, so that each growth belongs to a call.
 fn read_word(rt: &impl Env) -> Option<Calls> {
     let mut bytes = [0u8; 8];
     let length = rt.arg(1, &mut bytes).ok()?;

@@ -11,7 +11,7 @@ pub(crate) fn is_same_session(session: &Session, other: &Session) -> bool {
         && has_taken_first(session, other)
 }
 
-/// Returns true if a session was cancelled before it took all that another one took.
+/// Returns true if a session was cancelled before it took all texts of another one.
 pub(crate) fn is_cancelled(session: &Session, whole: &Session) -> bool {
     let mut asked = session.asked().iter().zip(whole.asked());
     is_of_same_walk(session, whole)
@@ -27,7 +27,7 @@ fn is_of_same_walk(session: &Session, other: &Session) -> bool {
     session.root() == other.root() && session.own().root() == other.own().root()
 }
 
-/// Returns true if the texts that a session took are the first ones that another session took.
+/// Returns true if a session took the first texts that another session took, and no others.
 fn has_taken_first(session: &Session, other: &Session) -> bool {
     let mut pairs = session.taken().iter().zip(other.taken());
     session.taken().len() <= other.taken().len()

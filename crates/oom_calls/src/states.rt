@@ -8,9 +8,9 @@ use version_set::Version;
 /// The maximum number of nodes of a tree at one depth.
 const NODES_MAX: u16 = 4_096;
 
-/// Returns true if a state is between two others: its entries are those before and the first few of those after, its
-/// rows and digests are each those of before or after, and a session that is new after may be there, cancelled halfway.
-/// If `before` and `after` are equal, the state equals both.
+/// Returns true if a state is between two others: its entries are the entries of `before` and the first few new ones of
+/// `after`, each row and digest is the one of `before` or of `after`, and a new session of `after` may be there,
+/// cancelled halfway. If `before` and `after` are equal, the state equals both.
 pub(crate) fn is_between(state: &RangeState, before: &RangeState, after: &RangeState) -> bool {
     let entries = state.journal().entries();
     state.store().config() == before.store().config()
@@ -26,7 +26,7 @@ pub(crate) fn is_same(state: &RangeState, other: &RangeState) -> bool {
     is_between(state, other, other)
 }
 
-/// Returns true if entries begin with others, word for word.
+/// Returns true if entries begin with the others, unchanged.
 pub(crate) fn begins(entries: &[Entry], others: &[Entry]) -> bool {
     others.len() <= entries.len()
         && entries
@@ -35,8 +35,8 @@ pub(crate) fn begins(entries: &[Entry], others: &[Entry]) -> bool {
             .all(|(entry, other)| entry.same(other))
 }
 
-/// Returns true if each key has the versions of before or of after. The keys are those of one byte, and those of the
-/// journal after.
+/// Returns true if each key has its versions of `before` or of `after`. The keys are all keys of one byte, and the keys
+/// in the journal of `after`.
 fn are_rows_between(state: &RangeState, before: &RangeState, after: &RangeState) -> bool {
     let mut keys = after.journal().entries().iter();
     (0..=255u8).all(|key| is_row_between(&[key], state, before, after))
@@ -57,7 +57,8 @@ fn are_same_versions(versions: &[Version], others: &[Version]) -> bool {
             .all(|(version, other)| version.same(other))
 }
 
-/// Returns true if each node has the digest of before or of after, or no digest if before or after has none there.
+/// Returns true if each node has its digest of `before` or of `after`, or no digest if `before` or `after` doesn't have
+/// one for it.
 fn are_digests_between(state: &RangeState, before: &RangeState, after: &RangeState) -> bool {
     for depth in 0..4u8 {
         for index in 0..NODES_MAX {
@@ -87,7 +88,7 @@ pub(crate) fn clean_nodes(state: &RangeState) -> u64 {
     count
 }
 
-/// Returns true if the records are those before, possibly with a session of after that is cancelled.
+/// Returns true if the records equal `before`, possibly with one more session, of `after`, that is cancelled.
 fn are_records_between(records: &[Record], before: &[Record], after: &[Record]) -> bool {
     let old = before.len();
     let mut pairs = records.iter().zip(before);

@@ -1,7 +1,7 @@
 //! Makes each call that takes memory of locked and shared ranges, and of the other values that threads share, and
-//! prints its result. `examples/check` refuses the growths of memory in turn. Each call then returns NoMemory, or its
-//! result with ample memory. After NoMemory everything is unchanged, except that a worker keeps the steps it has done;
-//! and the ranges close.
+//! prints its result. `tests/check` refuses the growths of memory in turn. Each call returns NoMemory, or its result
+//! with ample memory. After NoMemory everything is unchanged, except that a worker keeps the steps it has done, and the
+//! ranges can be closed.
 mod books;
 mod calls;
 mod channels;

@@ -1,5 +1,6 @@
 -- What one more step of a loop over a list does.
-use Rattle.std.proofs.Common.{◌≡◌, ℕ, zero, suc, ◌+◌, ◌<◌, ◌≤◌, Bool, true, false, cond, List, [], ◌∷◌, ◌++◌, length, take, drop, get_or, refl, ap, sym, ◌∙◌, arith, Some, None, add-one}
+use Rattle.std.proofs.Common.{◌≡◌, ℕ, zero, suc, ◌+◌, ◌<◌, ◌≤◌, Bool, true, false, cond, List, [], ◌∷◌, ◌++◌, length, take, drop, get_or, refl, ap}
+use Rattle.std.proofs.Common.{sym, ◌∙◌, arith, Some, None, add-one}
 use Rattle.std.specs.Prelude.{find, position, slice_get, replicate, ◌||◌}
 use Rattle.std.specs.List.{list_any, position_from}
 use Rattle.std.proofs.lemmas.Iterator.Adapters.{position_from-zero}
@@ -11,12 +12,14 @@ find_here p [] i x e t = cc
 find_here p (y ∷ xs) zero x e t = let same : y ≡ x = cc in rw (same, t) refl
 find_here p (y ∷ xs) (suc i) x e t = find_here p xs i x e t
 
-find_suc : {X : Type 0} (p : X → Bool) (xs : List X) (i : ℕ) (x : X) → slice_get xs i ≡ Some x → p x ≡ false → find p (drop i xs) ≡ find p (drop (suc i) xs)
+find_suc : {X : Type 0} (p : X → Bool) (xs : List X) (i : ℕ) (x : X) → slice_get xs i ≡ Some x → p x ≡ false
+    → find p (drop i xs) ≡ find p (drop (suc i) xs)
 find_suc p [] i x e t = cc
 find_suc p (y ∷ xs) zero x e t = let same : y ≡ x = cc in rw (same, t) refl
 find_suc p (y ∷ xs) (suc i) x e t = find_suc p xs i x e t
 
-pub find_next : {X : Type 0} (p : X → Bool) (xs : List X) (i : ℕ) (x : X) → slice_get xs i ≡ Some x → p x ≡ false → find p (drop i xs) ≡ find p (drop (i + 1) xs)
+pub find_next : {X : Type 0} (p : X → Bool) (xs : List X) (i : ℕ) (x : X) → slice_get xs i ≡ Some x → p x ≡ false
+    → find p (drop i xs) ≡ find p (drop (i + 1) xs)
 find_next p xs i x e t = rw (add-one) (find_suc p xs i x e t)
 
 pub find_end : {X : Type 0} (p : X → Bool) (xs : List X) (i : ℕ) → length xs ≤ i → find p (drop i xs) ≡ None
@@ -40,7 +43,8 @@ placed_from : {X : Type 0} (p : X → Bool) (xs : List X) (i : ℕ) → list_any
 placed_from p [] i t e = cc
 placed_from p (x ∷ xs) i t e = pick (placed_from p xs (i + 1)) (p x) t e
   where
-    pick : (list_any p xs ≡ true → position_from p (i + 1) xs ≡ None → ⊥) → (b : Bool) → (b || list_any p xs) ≡ true → cond b (Some i) (position_from p (i + 1) xs) ≡ None → ⊥
+    pick : (list_any p xs ≡ true → position_from p (i + 1) xs ≡ None → ⊥) → (b : Bool) → (b || list_any p xs) ≡ true
+        → cond b (Some i) (position_from p (i + 1) xs) ≡ None → ⊥
     pick more true t e = cc
     pick more false t e = more t e
 

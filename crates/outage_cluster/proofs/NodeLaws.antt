@@ -24,7 +24,8 @@ few Two (suc (suc (suc (suc d)))) h = absurd (omega (arith, h))
 
 -- no tree has so many nodes of a depth
 pub too_wide : (format : Format) (depth index : ℕ) → depth ≤ tree_depth format → 65535 < index → is_tree_node format depth index ≡ false
-too_wide format depth index low h = and_right (nat_le depth (tree_depth format)) (nat_lt index (16 ^ depth)) (le-ltb index (16 ^ depth) (omega (arith, few format depth low, h)))
+too_wide format depth index low h =
+    and_right (nat_le depth (tree_depth format)) (nat_lt index (16 ^ depth)) (le-ltb index (16 ^ depth) (omega (arith, few format depth low, h)))
 
 -- a range that has accepted nothing shows no digest
 pub shows_none : (c : Config) (h : range.Store) (depth index : ℕ) → h ≡ range.fresh c → shown_digest depth index h ≡ None

@@ -1,6 +1,7 @@
 -- Replicas: which of them is a node's, and what a loop over them does.
 use mir.Val.{bool_byte}
-use Rattle.std.proofs.Common.{◌≡◌, ℕ, zero, suc, ◌+◌, ◌<◌, ◌≤◌, Bool, true, false, cond, set, List, [], ◌∷◌, ◌++◌, length, map, filter, take, drop, get_or, refl, ap, sym, subst, ◌∙◌, arith, Some, add-one, drop-cons}
+use Rattle.std.proofs.Common.{◌≡◌, ℕ, zero, suc, ◌+◌, ◌<◌, ◌≤◌, Bool, true, false, cond, set, List, [], ◌∷◌, ◌++◌, length, map, filter, take, drop}
+use Rattle.std.proofs.Common.{get_or, refl, ap, sym, subst, ◌∙◌, arith, Some, add-one, drop-cons}
 use Rattle.std.specs.Prelude.{nat_eq, slice_get, option_map, IsTrue, ◌%◌}
 use Rattle.std.specs.List.{list_all, range_with_len}
 use Rattle.std.proofs.lemmas.List.{length-map, map_push}
@@ -30,12 +31,14 @@ pub record NotYet (n : ℕ) (reps : List Replica) (i : ℕ) : Type 0 where
 is_it : (r : Replica) (n : ℕ) → r.node ≡ n → nat_eq r.node n ≡ true
 is_it r n e = grind (arith, nat_tests, e)
 
-changes_here : (reps : List Replica) (i n : ℕ) (f : Replica → Replica) (d : Replica) → i < length reps → (get_or reps i d).node ≡ n → take i reps ++ at_node n f (drop i reps) ≡ set reps i (f (get_or reps i d))
+changes_here : (reps : List Replica) (i n : ℕ) (f : Replica → Replica) (d : Replica) → i < length reps → (get_or reps i d).node ≡ n
+    → take i reps ++ at_node n f (drop i reps) ≡ set reps i (f (get_or reps i d))
 changes_here [] i n f d lt e = absurd (omega arith)
 changes_here (r ∷ reps) zero n f d lt e = rw (is_it r n e) refl
 changes_here (r ∷ reps) (suc i) n f d lt e = ap (λ t. r ∷ t) (changes_here reps i n f d (omega arith) e)
 
-is_here : (reps : List Replica) (i n : ℕ) (d : Replica) → i < length reps → (get_or reps i d).node ≡ n → replica_at n (drop i reps) ≡ Some (get_or reps i d)
+is_here : (reps : List Replica) (i n : ℕ) (d : Replica) → i < length reps → (get_or reps i d).node ≡ n
+    → replica_at n (drop i reps) ≡ Some (get_or reps i d)
 is_here [] i n d lt e = absurd (omega arith)
 is_here (r ∷ reps) zero n d lt e = rw (is_it r n e) refl
 is_here (r ∷ reps) (suc i) n d lt e = is_here reps i n d (omega arith) e
@@ -46,11 +49,13 @@ same_default (r ∷ reps) zero d e h = refl
 same_default (r ∷ reps) (suc i) d e h = same_default reps i d e (omega arith)
 
 -- it is found at i
-pub found_here : (reps : List Replica) (i n : ℕ) (r : Replica) → i < length reps → r ≡ get_or reps i r → r.node ≡ n → NotYet n reps i → IsHome n reps i
+pub found_here : (reps : List Replica) (i n : ℕ) (r : Replica) → i < length reps → r ≡ get_or reps i r → r.node ≡ n → NotYet n reps i
+    → IsHome n reps i
 found_here reps i n r lt there e so =
     let node : (d : Replica) → (get_or reps i d).node ≡ n = λ d. subst (λ (x : Replica). x.node ≡ n) (there ∙ same_default reps i r d lt) e in
     let is : (d : Replica) → replica_at n reps ≡ Some (get_or reps i d) = λ d. sym so.is ∙ is_here reps i n d lt (node d) in
-    let changes : (f : Replica → Replica) (d : Replica) → at_node n f reps ≡ set reps i (f (get_or reps i d)) = λ f d. so.changes f ∙ changes_here reps i n f d lt (node d) in
+    let changes : (f : Replica → Replica) (d : Replica) → at_node n f reps ≡ set reps i (f (get_or reps i d)) = λ f d. so.changes f
+    ∙ changes_here reps i n f d lt (node d) in
     record {
       within = lt;
       node = node;
@@ -61,7 +66,8 @@ found_here reps i n r lt there e so =
     }
 
 -- it is not at i
-pub not_here : (reps : List Replica) (i n : ℕ) (r : Replica) → i < length reps → r ≡ get_or reps i r → nat_eq r.node n ≡ false → NotYet n reps i → NotYet n reps (i + 1)
+pub not_here : (reps : List Replica) (i n : ℕ) (r : Replica) → i < length reps → r ≡ get_or reps i r → nat_eq r.node n ≡ false → NotYet n reps i
+    → NotYet n reps (i + 1)
 not_here reps i n r lt is other so =
     let here : drop i reps ≡ r ∷ drop (suc i) reps = drop-cons reps i r lt ∙ ap (λ x. x ∷ drop (suc i) reps) (sym is) in
     rw (add-one) (record {
@@ -70,26 +76,31 @@ not_here reps i n r lt is other so =
       is = sym (ap (replica_at n) here ∙ rw other refl) ∙ so.is;
     })
   where
-    kept : (xs : List Replica) (j : ℕ) (f : Replica → Replica) → j < length xs → take j xs ++ (get_or xs j r ∷ at_node n f (drop (suc j) xs)) ≡ take (suc j) xs ++ at_node n f (drop (suc j) xs)
+    kept : (xs : List Replica) (j : ℕ) (f : Replica → Replica) → j < length xs
+        → take j xs ++ (get_or xs j r ∷ at_node n f (drop (suc j) xs)) ≡ take (suc j) xs ++ at_node n f (drop (suc j) xs)
     kept [] j f l = absurd (omega arith)
     kept (x ∷ xs) zero f l = refl
     kept (x ∷ xs) (suc j) f l = ap (λ t. x ∷ t) (kept xs j f (omega arith))
 
     passes : (f : Replica → Replica) → take i reps ++ at_node n f (r ∷ drop (suc i) reps) ≡ take (suc i) reps ++ at_node n f (drop (suc i) reps)
-    passes f = ap (λ (t : List Replica). take i reps ++ t) (rw other refl) ∙ ap (λ (x : Replica). take i reps ++ (x ∷ at_node n f (drop (suc i) reps))) is ∙ kept reps i f lt
+    passes f = ap (λ (t : List Replica). take i reps ++ t) (rw other refl)
+        ∙ ap (λ (x : Replica). take i reps ++ (x ∷ at_node n f (drop (suc i) reps))) is ∙ kept reps i f lt
 
 -- ---- replicas of one range
 
 -- one that is of the same range as before is put in its place
-pub of_set : (c : Config) (reps : List Replica) (i : ℕ) (new d : Replica) → AreOf c reps → i < length reps → new.range.config ≡ (get_or reps i d).range.config → AreOf c (set reps i new)
-of_set c reps i new d are lt same = all-set (λ (r : Replica). r.range.config ≡ c) reps i new (same ∙ all_get (λ (r : Replica). r.range.config ≡ c) reps i d are lt) are
+pub of_set : (c : Config) (reps : List Replica) (i : ℕ) (new d : Replica) → AreOf c reps → i < length reps
+    → new.range.config ≡ (get_or reps i d).range.config → AreOf c (set reps i new)
+of_set c reps i new d are lt same =
+    all-set (λ (r : Replica). r.range.config ≡ c) reps i new (same ∙ all_get (λ (r : Replica). r.range.config ≡ c) reps i d are lt) are
 
 -- what a node keeps is of that range
 pub home_of : (c : Config) (reps : List Replica) (n : ℕ) (h : range.Store) → AreOf c reps → home n reps ≡ Some h → h.config ≡ c
 home_of c [] n h are e = cc
 home_of c (r ∷ reps) n h are e = by_case (nat_eq r.node n) (home_of c reps n h are.1) e
   where
-    by_case : (b : Bool) → (home n reps ≡ Some h → h.config ≡ c) → option_map (λ (x : Replica). x.range) (cond b (Some r) (replica_at n reps)) ≡ Some h → h.config ≡ c
+    by_case : (b : Bool) → (home n reps ≡ Some h → h.config ≡ c)
+        → option_map (λ (x : Replica). x.range) (cond b (Some r) (replica_at n reps)) ≡ Some h → h.config ≡ c
     by_case true rest found = let same : r.range ≡ h = cc in sym (ap (λ (x : range.Store). x.config) same) ∙ are.0
     by_case false rest found = rest found
 
@@ -123,12 +134,14 @@ changed_get f [] i d h = absurd (omega arith)
 changed_get f (x ∷ xs) zero d h = refl
 changed_get f (x ∷ xs) (suc i) d h = changed_get f xs i d (omega arith)
 
-changed_suc : {X : Type 0} (f : X → X) (xs : List X) (i : ℕ) (y d : X) → i < length xs → y ≡ f (get_or xs i d) → set (changed f i xs) i y ≡ changed f (suc i) xs
+changed_suc : {X : Type 0} (f : X → X) (xs : List X) (i : ℕ) (y d : X) → i < length xs → y ≡ f (get_or xs i d)
+    → set (changed f i xs) i y ≡ changed f (suc i) xs
 changed_suc f [] i y d h e = absurd (omega arith)
 changed_suc f (x ∷ xs) zero y d h e = ap (λ t. t ∷ xs) e
 changed_suc f (x ∷ xs) (suc i) y d h e = ap (λ t. f x ∷ t) (changed_suc f xs i y d (omega arith) e)
 
-pub changed_next : {X : Type 0} (f : X → X) (xs : List X) (i : ℕ) (y d : X) → i < length xs → y ≡ f (get_or xs i d) → set (changed f i xs) i y ≡ changed f (i + 1) xs
+pub changed_next : {X : Type 0} (f : X → X) (xs : List X) (i : ℕ) (y d : X) → i < length xs → y ≡ f (get_or xs i d)
+    → set (changed f i xs) i y ≡ changed f (i + 1) xs
 changed_next f xs i y d h e = rw (add-one) (changed_suc f xs i y d h e)
 
 pub changed_length : {X : Type 0} (f : X → X) (xs : List X) (i : ℕ) → length (changed f i xs) ≡ length xs
@@ -139,7 +152,8 @@ changed_length f (x ∷ xs) (suc i) = ap suc (changed_length f xs i)
 
 -- ---- a loop that counts
 
-one_more : {X : Type 0} (b : Bool) (x : X) (ys zs : List X) (n : ℕ) → length ys ≡ length zs + n → length (cond b (x ∷ ys) ys) ≡ length (cond b (x ∷ zs) zs) + n
+one_more : {X : Type 0} (b : Bool) (x : X) (ys zs : List X) (n : ℕ) → length ys ≡ length zs + n
+    → length (cond b (x ∷ ys) ys) ≡ length (cond b (x ∷ zs) zs) + n
 one_more true x ys zs n e = omega (arith, e)
 one_more false x ys zs n e = e
 
@@ -147,12 +161,14 @@ first_one : {X : Type 0} (b : Bool) (x : X) (none : List X) → none ≡ [] → 
 first_one true x none e = ap (λ t. suc (length t)) e
 first_one false x none e = ap length e
 
-counted_suc : {X : Type 0} (p : X → Bool) (xs : List X) (i : ℕ) (d : X) → i < length xs → length (filter p (take (suc i) xs)) ≡ length (filter p (take i xs)) + cond (p (get_or xs i d)) 1 0
+counted_suc : {X : Type 0} (p : X → Bool) (xs : List X) (i : ℕ) (d : X) → i < length xs
+    → length (filter p (take (suc i) xs)) ≡ length (filter p (take i xs)) + cond (p (get_or xs i d)) 1 0
 counted_suc p [] i d h = absurd (omega arith)
 counted_suc p (x ∷ xs) zero d h = omega (arith, first_one (p x) x [] refl)
 counted_suc p (x ∷ xs) (suc i) d h = one_more (p x) x _ _ _ (counted_suc p xs i d (omega arith))
 
-pub counted_more : {X : Type 0} (p : X → Bool) (xs : List X) (i : ℕ) (d : X) → i < length xs → length (filter p (take (i + 1) xs)) ≡ length (filter p (take i xs)) + cond (p (get_or xs i d)) 1 0
+pub counted_more : {X : Type 0} (p : X → Bool) (xs : List X) (i : ℕ) (d : X) → i < length xs
+    → length (filter p (take (i + 1) xs)) ≡ length (filter p (take i xs)) + cond (p (get_or xs i d)) 1 0
 counted_more p xs i d h = rw (add-one) (counted_suc p xs i d h)
 
 -- ---- the nodes of a preference list
@@ -185,7 +201,8 @@ pub node_some : (ring : Places) (r i n : ℕ) → IsTrue (is_ring ring) → slic
 node_some ring r i n valid e =
     let nodes = are_nodes ring valid in
     let k = r % length ring.nodes in
-    let all = all_append is_node_number (drop k ring.nodes) (take k ring.nodes) (all_drop is_node_number k ring.nodes nodes) (all_take is_node_number k ring.nodes nodes) in
+    let all = all_append is_node_number (drop k ring.nodes) (take k ring.nodes) (all_drop is_node_number k ring.nodes nodes)
+    (all_take is_node_number k ring.nodes nodes) in
     let here : is_node_number n ≡ true = all_at is_node_number (preference_list ring.nodes r) i n all e in
     grind (arith, nat_tests, here)
 

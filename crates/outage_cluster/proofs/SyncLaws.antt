@@ -35,7 +35,8 @@ pub fresh_dirty : (c : Config) → range.dirty_fault (range.fresh c) ≡ Some Di
 fresh_dirty c = ap (λ b. cond b None (Some Dirty)) (none_clean c.format)
 
 -- a replica after a sync
-pub synced_replica : (n : ℕ) (s new : State) (other : RowMap) (a : Synced) → IsSyncedTo s 0 other new a → replica_of n new ≡ synced_with other (replica_of n s)
+pub synced_replica : (n : ℕ) (s new : State) (other : RowMap) (a : Synced) → IsSyncedTo s 0 other new a
+    → replica_of n new ≡ synced_with other (replica_of n s)
 synced_replica n s new other a is = λ i. record { node = n; range = is.store i; sessions = is.sessions i }
 
 -- and what was counted
@@ -49,31 +50,38 @@ counted n s new other a is = record {
 
 -- ---- the range stays the same
 
-leaves_config : (s : range.Store) (seat : ℕ) (other : RowMap) (known : ℕ) (leaves : List Node) → (taken_leaves s seat other known leaves).store.config ≡ s.config
+leaves_config : (s : range.Store) (seat : ℕ) (other : RowMap) (known : ℕ) (leaves : List Node)
+    → (taken_leaves s seat other known leaves).store.config ≡ s.config
 leaves_config s seat other known [] = refl
 leaves_config s seat other known (n ∷ leaves) =
-    by_case (leaf_fault s seat (offers_at other n)) (taken_leaves (taken_in s seat (offers_at other n)) seat other (known + known_in s seat (offers_at other n)) leaves)
-    (leaves_config (taken_in s seat (offers_at other n)) seat other (known + known_in s seat (offers_at other n)) leaves ∙ config_stays s seat Partner (offers_at other n))
+    by_case (leaf_fault s seat (offers_at other n))
+    (taken_leaves (taken_in s seat (offers_at other n)) seat other (known + known_in s seat (offers_at other n)) leaves)
+    (leaves_config (taken_in s seat (offers_at other n)) seat other (known + known_in s seat (offers_at other n)) leaves
+    ∙ config_stays s seat Partner (offers_at other n))
   where
     by_case : (f : Option Refusal) (more : Progress) → more.store.config ≡ s.config → (unless_refused f s known more).store.config ≡ s.config
     by_case None more h = h
     by_case (Some e) more h = refl
 
 -- whatever came of a sync
-pub sync_config : (s new : State) (partner : ℕ) (other : RowMap) (r : Result Synced Refusal) → IfOk r (λ a. IsSyncedTo s 0 other new a) → OnErr r ((new ≡ s) ⊎ IsPartWay s 0 partner other new) → new.store.config ≡ s.store.config
-sync_config s new partner other (Ok a) ok late = ap (λ (x : range.Store). x.config) ok.store ∙ leaves_config s.store 0 other 0 (leaves_between (range.rows_now s.store) other)
+pub sync_config : (s new : State) (partner : ℕ) (other : RowMap) (r : Result Synced Refusal) → IfOk r (λ a. IsSyncedTo s 0 other new a)
+    → OnErr r ((new ≡ s) ⊎ IsPartWay s 0 partner other new) → new.store.config ≡ s.store.config
+sync_config s new partner other (Ok a) ok late = ap (λ (x : range.Store). x.config) ok.store
+    ∙ leaves_config s.store 0 other 0 (leaves_between (range.rows_now s.store) other)
 sync_config s new partner other (Err e) ok late = elim late [
   | inl same ↦ ap (λ (x : State). x.store.config) same
   | inr part ↦ ap (λ (x : range.Store). x.config) part.store ∙ leaves_config s.store 0 other 0 part.leaves
 ]
 
 -- a replica after a sync, if it was not refused
-pub sync_ok : (n : ℕ) (s new : State) (other : RowMap) (r : Result Synced Refusal) → IfOk r (λ a. IsSyncedTo s 0 other new a) → OnOk r (replica_of n new ≡ synced_with other (replica_of n s))
+pub sync_ok : (n : ℕ) (s new : State) (other : RowMap) (r : Result Synced Refusal) → IfOk r (λ a. IsSyncedTo s 0 other new a)
+    → OnOk r (replica_of n new ≡ synced_with other (replica_of n s))
 sync_ok n s new other (Ok a) is = synced_replica n s new other a is
 sync_ok n s new other (Err e) is = tt
 
 -- what is returned
-pub sync_answers : (n : ℕ) (s new : State) (other : RowMap) (fault : Option Refusal) (r : Result Synced Refusal) → Answers r fault (λ _. ⊤) → IfOk r (λ a. IsSyncedTo s 0 other new a) → AnswersOrNoMemory r fault (IsReported (replica_of n s) other)
+pub sync_answers : (n : ℕ) (s new : State) (other : RowMap) (fault : Option Refusal) (r : Result Synced Refusal) → Answers r fault (λ _. ⊤)
+    → IfOk r (λ a. IsSyncedTo s 0 other new a) → AnswersOrNoMemory r fault (IsReported (replica_of n s) other)
 sync_answers n s new other fault (Ok a) answers is = (answers.0, counted n s new other a is)
 sync_answers n s new other fault (Err e) answers is = elim answers [ inl memory ↦ inl memory.1 | inr cause ↦ inr cause ]
 
@@ -85,9 +93,12 @@ walk_is_no_memory (Some h) None e = dirty (are_clean h.marks) e
     dirty : (clean : Bool) → first_fault (cond clean None (Some Dirty)) (Some OtherRange) ≡ Some NoMemory → ⊥
     dirty true e = cc
     dirty false e = cc
-walk_is_no_memory (Some h) (Some r) e = pick (are_clean h.marks) (nat_le 64 (length (filter is_open_state r.sessions)) || nat_le 1024 (length r.sessions)) (are_clean r.range.marks) e
+walk_is_no_memory (Some h) (Some r) e =
+    pick (are_clean h.marks) (nat_le 64 (length (filter is_open_state r.sessions)) || nat_le 1024 (length r.sessions)) (are_clean r.range.marks) e
   where
-    pick : (clean many own : Bool) → first_fault (cond clean None (Some Dirty)) (first_fault (cond many (Some SessionsFull) None) (cond own None (Some Dirty))) ≡ Some NoMemory → ⊥
+    pick : (clean many own : Bool)
+        → first_fault (cond clean None (Some Dirty)) (first_fault (cond many (Some SessionsFull) None) (cond own None (Some Dirty))) ≡ Some NoMemory
+        → ⊥
     pick false many own e = cc
     pick true true own e = cc
     pick true false false e = cc

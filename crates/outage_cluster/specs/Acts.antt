@@ -86,7 +86,7 @@ up_act n s = do
 
 -- ---- a put
 
--- the fault of a put before its range is looked for
+-- the fault of a put before its range is found
 abbrev pub put_fault : Put → Cluster → Option Refusal
 put_fault p s = first_fault (nodes_fault s p.node p.lose) (first_fault (pairs_fault p.context) (first_fault (key_fault p.key) (value_fault s.format p.kind p.value)))
 
@@ -110,7 +110,7 @@ gets_hint down node lose n = is_sent_to node lose n && list_any (λ m. m == n) d
 unfoldable pub copied_to : Entry → Replica → Outcome Accepted Replica
 copied_to e r = in_replica r (range.accept r.range 0 Copy e.key e.version)
 
--- a replica is sent a copy of an entry, and takes it or knows it
+-- a replica is sent a copy of an entry, and accepts it or knows it
 abbrev pub takes : List ℕ → ℕ → List ℕ → Entry → Replica → Bool
 takes down node lose e r = gets_copy down node lose r.node && is_given (copied_to e r)
 
@@ -118,7 +118,7 @@ takes down node lose e r = gets_copy down node lose r.node && is_given (copied_t
 abbrev pub after_copy : List ℕ → ℕ → List ℕ → Entry → Replica → Replica
 after_copy down node lose e r = if gets_copy down node lose r.node then left (copied_to e r) r else r
 
--- a put and its copies: the entry, and the number of replicas that take a copy or know it
+-- a put and its copies: the entry, and the number of replicas that accept a copy or know it
 unfoldable pub put_into : List ℕ → Put → List Replica → Outcome (Entry × ℕ) (List Replica)
 put_into down p reps = do
   at ← at_home p.node (put_by p) reps
@@ -163,7 +163,7 @@ row_answer g h = Answers.Row (held_text h.config.format g.key (held h.entries g.
 abbrev pub range_on : Cluster → ℕ → ℕ → Option range.Store
 range_on s node r = home node (slice_index_or s.replicas r [])
 
--- the digest of a node if it is clean: that of the node's text for the rows now
+-- the digest of a node if it is clean: the digest of the node's text for the rows now
 abbrev pub shown_digest : ℕ → ℕ → range.Store → Option (List ℕ)
 shown_digest depth index h = if is_some (kept_digest h.marks (place_at depth index)) then Some (node_digest h.config.format (range.leaf_in h.config) (rows_of h.entries) (tree_depth h.config.format - depth) index) else None
 
@@ -219,7 +219,7 @@ synced_in node r s (Some h) (Some own) = do
   range.dirty_fault own.range
   gives (Answers.Sync (sync_report own (range.rows_now h))) (with_range s r (at_node node (synced_with (range.rows_now h)) (slice_index_or s.replicas r [])))
 
--- a sync of a node's replica of range r with that of the node `from`
+-- a sync of a node's replica of range r with the replica of the node `from`
 unfoldable pub sync_at : ℕ → ℕ → ℕ → Cluster → Outcome CommandAnswer Cluster
 sync_at node from r s = synced_in node r s (range_on s from r) (replica_in s node r)
 
@@ -232,7 +232,7 @@ in_cluster s done = through (λ c. record s { cluster = c }) done
 abbrev pub in_slots : ClusterState → Outcome CommandAnswer Admission → Outcome CommandAnswer ClusterState
 in_slots s done = through (λ a. record s { slots = a }) done
 
--- background work, with a slot that is given back
+-- background work, with a slot that is returned
 abbrev pub with_slot : ClusterState → Outcome CommandAnswer Cluster → Outcome CommandAnswer ClusterState
 with_slot s work = lend s.slots >>= (λ lent. in_cluster s work)
 
@@ -284,7 +284,7 @@ suits s (Commands.Node q) = is_tree_node s.cluster.format q.depth q.index
 suits s (Commands.Slot x) = is_target s.slots x
 suits s command = true
 
--- the answer of a command: its own, or its refusal
+-- the answer of a command, or its refusal
 abbrev pub replied : {S : Type 0} → Outcome CommandAnswer S → CommandAnswer
 replied (gives answer s) = answer
 replied (refuses refusal) = Refused refusal

@@ -1,4 +1,4 @@
--- Hints in a script: the nodes that keep them, and their delivery: the paper of 2007, section 4.6.
+-- Hints in a script, the nodes that keep them, and their delivery: section 4.6 of the Dynamo paper.
 use Rattle.std.specs.Prelude.{ℕ, ◌+◌, ◌-◌, Bool, true, false, not, ◌&&◌, nat_eq, slice_index_or, slice_set, List, [], length, map, filter, find, fold, drop, if◌then◌else◌, Option, Some, None}
 use Rattle.std.specs.List.{list_any}
 use Rattle.vclock.specs.Outcome.{Outcome, gives, refuses}
@@ -51,7 +51,8 @@ asked hint reps = at_home hint.owner (λ h. range.accept h 0 Sources.Hint hint.k
 abbrev pub asked_in : ℕ → List (List Replica) → Hint → Outcome Accepted (List Replica)
 asked_in bits replicas hint = asked hint (slice_index_or replicas (range_at bits hint.key) [])
 
--- a delivery in progress: the replicas and the carrier's hints now, and the numbers of hints that were taken and known
+-- a delivery in progress: the replicas and the carrier's hints now, and the numbers of hints that were accepted and
+-- known
 pub record Round : Type 0 where
   pub replicas : List (List Replica)
   pub hints : List Kept
@@ -63,7 +64,7 @@ abbrev pub is_known : Accepted → Bool
 is_known Known = true
 is_known (Taken e) = false
 
--- the delivery after an owner took a hint or knew it, with these replicas of the range
+-- the delivery after an owner accepted a hint or knew it, with these replicas of the range
 abbrev pub round_after : ℕ → Round → Hint → Bool → List Replica → Round
 round_after bits r h known reps = record {
   replicas = slice_set r.replicas (range_at bits h.key) reps;
@@ -96,7 +97,7 @@ up_nodes s = filter (λ n. not (is_down s n)) s.ring.nodes
 abbrev pub round_of : Cluster → List Kept → Round
 round_of s hs = fold (offer_one (up_nodes s) s.ring.bits) (first_round s.replicas hs) hs
 
--- the answer of a delivery that is over, and the cluster after it
+-- the answer of a finished delivery, and the cluster after it
 abbrev pub delivered : Cluster → ℕ → Round → Outcome CommandAnswer Cluster
 delivered s n r = gives (Answers.Deliver r.taken r.known (pending_count r.hints)) (with_hints (record s { replicas = r.replicas }) n r.hints)
 

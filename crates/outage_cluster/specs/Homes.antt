@@ -1,4 +1,4 @@
--- The place of a node's replica among those of a range.
+-- The place of a node's replica among the replicas of a range.
 use Rattle.std.specs.Prelude.{◌≡◌, ℕ, ◌<◌, length, List, [], slice_index_or, slice_set, Some}
 use Rattle.std.specs.List.{AllByRecursion}
 use Rattle.snapshot.specs.RowMaps.{RowMap}
@@ -21,7 +21,7 @@ pub record IsHome (n : ℕ) (reps : List Replica) (i : ℕ) : Type 0 where
   pub keeps : (h : range.Store) (d : Replica) → with_home n h reps ≡ slice_set reps i (keeping h (slice_index_or reps i d))
   pub syncs : (other : RowMap) (d : Replica) → at_node n (synced_with other) reps ≡ slice_set reps i (synced_with other (slice_index_or reps i d))
 
--- there is a replica where a home says
+-- the node's replica is at the place that a home names
 abbrev pub IsHomeIn : Cluster → Home → Type 0
 IsHomeIn s h = (h.range < length s.replicas) × IsHome h.node (slice_index_or s.replicas h.range []) h.place
 

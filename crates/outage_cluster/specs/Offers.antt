@@ -16,7 +16,7 @@ pending_of h = record { hint = h; fate = Pending }
 abbrev pub round_at : List (List Replica) → List Kept → ℕ → ℕ → Round
 round_at replicas hints taken known = record { replicas = replicas; hints = hints; taken = taken; known = known }
 
--- the delivery after an offer: it was refused, or the owner took the version or knew it
+-- the delivery after an offer: it was refused, or the owner accepted the version or knew it
 abbrev pub after_offer : Option Bool → List (List Replica) → List Kept → ℕ → ℕ → Round
 after_offer None replicas hints taken known = round_at replicas hints taken known
 after_offer (Some false) replicas hints taken known = round_at replicas hints (taken + 1) known

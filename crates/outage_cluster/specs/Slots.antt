@@ -1,4 +1,4 @@
--- The commands for the slots for background work: the paper of 2007, section 6.5.
+-- The commands for the slots for background work: section 6.5 of the Dynamo paper.
 use Rattle.std.specs.Prelude.{◌-◌, Bool, true, ◌&&◌, nat_le}
 use Rattle.vclock.specs.Outcome.{Outcome, gives, ◌>>=◌}
 use Rattle.admission.specs.Admission.{Admission, allowance_of, free_of, lend, sample, adjust}
@@ -9,11 +9,11 @@ use Rattle.outage_cluster.specs.declared.answer.CommandAnswer.{CommandAnswer}
 use Rattle.outage_cluster.specs.declared.answer.CommandAnswer.TheVariants as Answers
 use Rattle.outage_cluster.specs.declared.answer.SlotCounts.{SlotCounts}
 
--- the controller after a slot is given back: unchanged if no slot is lent
+-- the controller after a slot is returned: unchanged if no slot is lent
 abbrev pub given_back : Admission → Admission
 given_back a = record a { slots = a.slots - 1 }
 
--- the numbers of slots that are lent or could be, that could be lent, that are lent, and that there may be
+-- the numbers of slots that are lent or could be, that could be lent, and that are lent, and the maximum number
 abbrev pub counts : Admission → SlotCounts
 counts a = record { allowance = allowance_of a; free = free_of a; lent = a.slots; target = a.target }
 

@@ -133,7 +133,7 @@ is_member s n = list_any (λ m. m == n) s.ring.nodes
 abbrev pub is_down : Cluster → ℕ → Bool
 is_down s n = list_any (λ m. m == n) s.down
 
--- the cluster after a node went down or came up
+-- the cluster after a node was taken down or up
 abbrev pub taken_down : Cluster → ℕ → Cluster
 taken_down s n = record s { down = if is_down s n then s.down else s.down ++ n ∷ [] }
 
@@ -144,7 +144,7 @@ brought_up s n = record s { down = filter (λ m. not (m == n)) s.down }
 abbrev pub hints_of : Cluster → ℕ → Option (List Kept)
 hints_of s n = option_and_then (slice_get s.hints) (position (λ m. m == n) s.ring.nodes)
 
--- the list with another element at a place, if there is such a place
+-- the list with another element at a place, if the list has the place
 abbrev pub set_at : {A : Type 0} → List A → Option ℕ → A → List A
 set_at xs None x = xs
 set_at xs (Some i) x = slice_set xs i x

@@ -1,4 +1,4 @@
--- The results of a sync, and the state after it: the paper of 2007, section 4.7.
+-- The results of a sync, and the state after it: section 4.7 of the Dynamo paper.
 use Rattle.std.specs.Prelude.{◌≡◌, ◌+◌, ◌-◌, ◌++◌, [], ◌∷◌, length, Option, Some, None}
 use Rattle.vclock.specs.Answer.{first_fault}
 use Rattle.vclock.specs.declared.refusal.Refusal.{Refusal}

@@ -23,7 +23,7 @@ pub enum CommandAnswer {
     Put {
         /// The clock of the new version.
         clock: Clock,
-        /// The number of replicas that took a copy or knew it.
+        /// The number of replicas that accepted a copy or knew it.
         copied: u64,
         /// The number of hints that are kept.
         hinted: u64,
@@ -49,7 +49,7 @@ pub enum CommandAnswer {
     },
     /// A delivery of hints.
     Deliver {
-        /// The number that their owners took.
+        /// The number that their owners accepted.
         delivered: u64,
         /// The number that their owners knew.
         known: u64,
@@ -58,7 +58,7 @@ pub enum CommandAnswer {
     },
     /// The slots.
     Slots(SlotCounts),
-    /// The slots, and the percentile by which their target was adjusted, or `None` if there was no sample.
+    /// The slots, and the percentile that adjusted their target, or `None` without a sample.
     Adjusted(SlotCounts, Option<u32>),
     /// The number of samples that are kept.
     Sample(u32),

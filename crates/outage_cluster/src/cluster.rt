@@ -79,14 +79,14 @@ impl Cluster {
         })
     }
 
-    /// The format of the ring.
+    /// Returns the format of the ring.
     pub(crate) fn format(&self) -> Format
         ensures { result ≡ self.now.format }
     {
         self.format
     }
 
-    /// Puts a value at a node, sends the copies and keeps the hints. Returns the answer with the clock and the number.
+    /// Puts a value at a node, sends the copies and keeps the hints. Returns the clock and the number of the entry.
     pub(crate) fn put(&mut self, alloc: Global, put: Put) -> Result<CommandAnswer, Refusal>
         ensures { DoesOrBreaksOff result self.old self.new (put_act put self.old) }
     {
@@ -198,8 +198,8 @@ impl Cluster {
         self.check_nodes(node, &[])
     }
 
-    /// Offers the hints that a node keeps to their owners. Returns the answer with the numbers of those that were
-    /// taken, known, and still pending.
+    /// Offers the hints that a node keeps to their owners. Returns the numbers of accepted, known and still pending
+    /// hints.
     pub(crate) fn deliver(&mut self, alloc: Global, node: u64) -> Result<CommandAnswer, Refusal>
         requires { nodes_fault self.old node [] ≡ None }
         ensures { DoesOrBreaksOff result self.old self.new (deliver_at self.old node (hints_of self.old node)) }
@@ -217,7 +217,7 @@ impl Cluster {
         })
     }
 
-    /// Returns the answer with the versions that are held for a key.
+    /// Returns the versions that are held for a key.
     #[tactic(auto, unfolding(crate::specs::Acts::key_act))]
     pub(crate) fn get(&self, alloc: Global, get: &Get) -> Result<CommandAnswer, Refusal>
         ensures { DoesOrBreaksOff result self.now self.now (key_act (held_at get.now) get.now self.now) }
@@ -231,7 +231,7 @@ impl Cluster {
         Ok(CommandAnswer::Versions(versions))
     }
 
-    /// Returns the answer with the text of the row of a key.
+    /// Returns the text of the row of a key.
     #[tactic(auto, unfolding(crate::specs::Acts::key_act))]
     pub(crate) fn row(&self, alloc: Global, get: Get) -> Result<CommandAnswer, Refusal>
         ensures { DoesOrBreaksOff result self.now self.now (key_act (row_answer get) get self.now) }
@@ -255,7 +255,7 @@ impl Cluster {
         self.home_in(ask.node, ask.range)
     }
 
-    /// Makes every node of the tree of a replica clean. Returns the answer with the number of those that were dirty.
+    /// Makes every node of the tree of a replica clean. Returns the number of those that were dirty.
     #[tactic(auto, unfolding(crate::specs::Acts::rehash_at))]
     pub(crate) fn rehash(
         &mut self,
@@ -270,7 +270,7 @@ impl Cluster {
         Ok(CommandAnswer::Rehash(hashed))
     }
 
-    /// Finds the homes of both replicas of a sync, if both nodes are up: first that of the node that fetches.
+    /// Finds the homes of both replicas of a sync, if both nodes are up. The node that fetches is first.
     pub(crate) fn homes_of(&self, ask: &SyncFrom) -> Result<(Home, Home), Refusal>
         ensures { AnswersAtOnce result (keepers_fault ask.now self.now)
             (λ homes. IsHomeOf self.now ask.now.node ask.now.range homes.0
@@ -284,7 +284,7 @@ impl Cluster {
         Ok((own, from))
     }
 
-    /// Makes a node fetch the versions of a range that another has. Returns the answer with the report.
+    /// Makes a node fetch the versions of a range that another has, and returns the report.
     #[tactic(auto, unfolding(crate::specs::Acts::sync_at))]
     pub(crate) fn sync(
         &mut self,
@@ -301,7 +301,7 @@ impl Cluster {
         Ok(CommandAnswer::Sync(done))
     }
 
-    /// Returns the answer with the digest of a node of the tree of a range.
+    /// Returns the digest of a node of the tree of a range.
     #[tactic(auto, unfolding(crate::specs::Acts::node_act))]
     pub(crate) fn node(&self, ask: &ShowNode) -> Result<CommandAnswer, Refusal>
         requires { IsTrue (is_tree_node self.now.format ask.now.depth ask.now.index) }

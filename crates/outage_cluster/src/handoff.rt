@@ -18,7 +18,7 @@ use vclock::Refusal;
 /// The outcome of the hints that were offered.
 #[derive(Clone, Copy)]
 pub(crate) struct Delivered {
-    /// The number that their owners took.
+    /// The number that their owners accepted.
     pub(crate) taken: u64,
     /// The number that their owners knew.
     pub(crate) known: u64,
@@ -102,13 +102,13 @@ fn next(alloc: Global, hints: &HintStore, up: &[u16], after: u32) -> Result<Opti
     ensures found { Answers result None (λ found. found ≡ next_hint up.now after hints.now) }
     ensures valid { AreHints hints.now }
 {
-    // Called for its clause `valid` alone: the ids count from 1.
+    // Called only for its clause `valid`: the ids count from 1.
     let _valid = hints.pending();
     hints.next_of(alloc, up, after)
 }
 
-/// Offers a pending hint to its owner, and confirms it if the owner took it or knew it. Returns true if the owner knew
-/// it, and `None` if the owner refused it.
+/// Offers a pending hint to its owner, and confirms it if the owner accepted it or knew it. Returns true if the owner
+/// knew it, and `None` if the owner refused it.
 fn offer(
     alloc: Global,
     ring: &Ring,
@@ -130,7 +130,7 @@ fn offer(
     Ok(Some(known))
 }
 
-/// Asks the owner of a hint to take it. Returns true if the owner knew it, and `None` if the owner refused it.
+/// Asks the owner of a hint to accept it. Returns true if the owner knew it, and `None` if the owner refused it.
 #[tactic(auto, unfolding(crate::specs::Handoff::asked))]
 fn ask_owner(alloc: Global, replicas: &mut Replicas, hint: &Hint) -> Result<Option<bool>, Refusal>
     ensures answer { Answers result None (λ o. o ≡ answer_of (asked hint.now replicas.old)) }

@@ -1,12 +1,12 @@
-//! Where a replica is.
+//! The place of a replica.
 
-/// Where a node's replica of a range is in the cluster.
+/// The place of a node's replica of a range in the cluster.
 #[derive(Clone, Copy)]
 pub(crate) struct Home {
     /// The node.
     pub(crate) node: u16,
     /// The number of the range.
     pub(crate) range: usize,
-    /// The place of the replica among those of the range.
+    /// The index among the replicas of the range.
     pub(crate) place: usize,
 }

@@ -60,28 +60,28 @@ impl Replica {
         }
     }
 
-    /// The node.
+    /// Returns the node.
     pub(crate) fn node(&self) -> u16
         ensures { result ≡ self.now.node }
     {
         self.node
     }
 
-    /// The format of the range's rows.
+    /// Returns the format of the range's rows.
     pub(crate) fn format(&self) -> Format
         ensures { result ≡ self.now.range.config.format }
     {
         self.config.format()
     }
 
-    /// The versions that are held for a key, in order.
+    /// Returns the versions that are held for a key, in order.
     pub(crate) fn versions(&self, key: &[u8]) -> &[Version]
         ensures { result.now ≡ held self.now.range.entries key.now }
     {
         self.find(key).as_slice()
     }
 
-    /// Copies the versions that are held for a key, each of which has a text.
+    /// Copies the versions that are held for a key. Each has a text.
     pub(crate) fn version_set(&self, alloc: Global, key: &[u8]) -> Result<VersionSet, Refusal>
         ensures held { Answers result None (λ set. set ≡ held self.now.range.entries key.now) }
         ensures fit { IfOk result (AllByRecursion (λ v.
@@ -90,7 +90,7 @@ impl Replica {
         self.find(key).to_set(alloc)
     }
 
-    /// Returns the versions that are held for a key, each of which has a text.
+    /// Returns the versions that are held for a key. Each has a text.
     fn find(&self, key: &[u8]) -> Held<'_>
         ensures held { result ≡ held self.now.range.entries key.now }
         ensures fit { AllByRecursion (λ v.
@@ -144,7 +144,7 @@ impl Replica {
         Ok(hashed)
     }
 
-    /// The digest of a node of the range's tree, if the node is clean: that of its text for the rows now.
+    /// Returns the digest of a node of the range's tree, if the node is clean: the digest of its text for the rows now.
     pub(crate) fn digest_at(&self, node: NodeAt) -> Option<Digest>
         ensures { result ≡ shown_digest node.depth node.index self.now.range }
     {
@@ -183,7 +183,7 @@ impl Replica {
         Err(Refusal::Dirty)
     }
 
-    /// Sends the replica a copy of an entry, if it is to get one. Returns true if it took it or knew it.
+    /// Sends the replica a copy of an entry, if it is to have one. Returns true if the replica accepted it or knew it.
     #[tactic(auto, unfolding(crate::specs::Acts::copied_to))]
     pub(crate) fn send(
         &mut self,
@@ -238,7 +238,7 @@ pub(crate) fn gets_hint(down: &[u64], node: u64, lose: &[u64], other: u16) -> bo
     is_sent_to(node, lose, other) && down.contains(&u64::from(other))
 }
 
-/// Returns true if a replica is to have a put: it is another node, and not one that gets no copy.
+/// Returns true if a replica is to have a put: it is another node, and isn't excluded from the copies.
 fn is_sent_to(node: u64, lose: &[u64], other: u16) -> bool
     ensures { result ≡ is_sent_to node lose.now other }
 {

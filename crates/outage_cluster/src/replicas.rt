@@ -48,7 +48,7 @@ impl Model for Replicas {
 pub(crate) struct Sent {
     /// The entry of the put.
     pub(crate) receipt: Receipt,
-    /// The number of replicas that took a copy or knew it.
+    /// The number of replicas that accepted a copy or knew it.
     pub(crate) copied: u64,
     /// The nodes that are to have a hint of it.
     pub(crate) owners: Vec<u16>,
@@ -65,7 +65,7 @@ impl Replicas {
         ensures { IfOk result (λ replicas. replicas ≡ replicas_made ring.now config config.range) }
     {
         let mut replicas = Vec::with_capacity(alloc, ring.copies())?;
-        // Called for its clause `valid` alone: each node is at least 1.
+        // Called only for its clause `valid`: each node is at least 1.
         let _valid = ring.nodes();
         for place in 0..ring.copies() {
             let node = ring.preference(config.range(), place);
@@ -167,8 +167,8 @@ impl Replicas {
         self.replicas[at.place].put(alloc, key, context, kind, value)
     }
 
-    /// Puts a value at a node, and sends a copy to each other replica that is up and is to get one. A replica that
-    /// refuses its copy is passed over.
+    /// Puts a value at a node, and sends a copy to each other replica that is up and is to have one. A replica that
+    /// refuses its copy is skipped.
     pub(crate) fn put(
         &mut self,
         alloc: Global,
@@ -203,7 +203,7 @@ impl Replicas {
     }
 }
 
-/// Sends the replicas a copy of an entry, and returns the number of those that took it or knew it.
+/// Sends the replicas a copy of an entry, and returns the number of those that accepted it or knew it.
 fn send_to(
     alloc: Global,
     replicas: &mut [Replica],

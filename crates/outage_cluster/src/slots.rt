@@ -58,7 +58,7 @@ impl<L: Ledger> Slots<L> {
     pub(crate) fn is_target(&self, command: &SlotCommand) -> bool
         ensures { result ≡ is_target self.now command.now }
     {
-        // Read for the proof alone: the controller has this floor and this ceiling.
+        // Read only for the proof: the controller has this floor and this ceiling.
         let _bounds = &self.controller;
         match command {
             SlotCommand::Target(n) => u64::from(FLOOR) <= *n && *n <= u64::from(CEILING),
@@ -66,7 +66,7 @@ impl<L: Ledger> Slots<L> {
         }
     }
 
-    /// Lends a slot. Makes room for it first.
+    /// Lends a slot. Reserves memory for it first.
     pub(crate) fn lend(&mut self) -> Result<(), Refusal>
         ensures { Does result self.old self.new (lend self.old) }
     {
@@ -128,7 +128,7 @@ impl<L: Ledger> Slots<L> {
         Ok(CommandAnswer::Slots(SlotCounts::of(&self.controller)))
     }
 
-    /// Takes a sample, and returns the number that are kept.
+    /// Records a sample, and returns the number of kept samples.
     #[tactic(auto, unfolding(crate::specs::Slots::sample_act))]
     pub(crate) fn sample(&mut self, sample: NewSample) -> Result<CommandAnswer, Refusal>
         ensures { DoesOrBreaksOff result self.old self.new (sample_act sample self.old) }

@@ -24,7 +24,7 @@ use version_set::Kind;
 pub enum AtEnd {
     /// It is freed.
     Free,
-    /// It is left to the system, which takes back all memory of a process when the process ends.
+    /// It is left to the system, which frees all memory of a process when the process ends.
     Leave,
 }
 
@@ -133,7 +133,7 @@ impl<L: Ledger> World<L> {
         Ok(CommandAnswer::Ring { nodes, ranges })
     }
 
-    /// Delivers the hints that a node keeps, with a slot that is given back.
+    /// Delivers the hints that a node keeps, with a slot that is returned.
     #[tactic(auto, unfolding(crate::specs::Acts::deliver_act))]
     fn deliver(&mut self, alloc: Global, node: u64) -> Result<CommandAnswer, Refusal>
         ensures { DoesOrBreaksOff result self.old self.new (deliver_act node self.old) }
@@ -145,7 +145,7 @@ impl<L: Ledger> World<L> {
         answer
     }
 
-    /// Rehashes a range at a node, with a slot that is given back.
+    /// Rehashes a range at a node, with a slot that is returned.
     #[tactic(auto, unfolding(crate::specs::Acts::rehash_act))]
     fn rehash(
         &mut self,
@@ -162,7 +162,7 @@ impl<L: Ledger> World<L> {
         answer
     }
 
-    /// Makes a node fetch the versions of a range that another has, with a slot that is given back.
+    /// Makes a node fetch the versions of a range that another has, with a slot that is returned.
     #[tactic(auto, unfolding(crate::specs::Acts::sync_act))]
     fn sync(&mut self, alloc: Global, ask: &SyncFrom) -> Result<CommandAnswer, Refusal>
         ensures { DoesOrBreaksOff result self.old self.new (sync_act ask.now self.old) }
@@ -175,7 +175,7 @@ impl<L: Ledger> World<L> {
     }
 }
 
-/// Returns the answer of a command, or that of its refusal. NoMemory has no answer.
+/// Returns the answer of a command or of its refusal. NoMemory has no answer.
 fn answered(answer: Result<CommandAnswer, Refusal>) -> Result<CommandAnswer, AllocError>
     ensures ok { IfOk answer (λ a. result ≡ Ok a) }
     ensures refused { IfErr answer

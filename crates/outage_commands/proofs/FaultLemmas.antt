@@ -26,11 +26,13 @@ of_name (Member wants wrong) line d none read names = absurd none
 of_name (Members members) line d none read names = absurd none
 
 -- the fault of a command's members, if memory sufficed
-pub members_claim : {E : Type 0} (result : Result LineFault E) (line : List ℕ) (d : Data) → IfOk result IsOfMembers → value_of line ≡ Some d → Names true d → IfOk result (λ fault. IsFaultOf fault line)
+pub members_claim : {E : Type 0} (result : Result LineFault E) (line : List ℕ) (d : Data) → IfOk result IsOfMembers → value_of line ≡ Some d
+    → Names true d → IfOk result (λ fault. IsFaultOf fault line)
 members_claim (Ok fault) line d is read names = of_members fault line d is read names
 members_claim (Err e) line d is read names = tt
 
 -- the fault of a command's name, if memory sufficed
-pub name_claim : {E : Type 0} (result : Result LineFault E) (line : List ℕ) (d : Data) → IfOk result IsOfName → value_of line ≡ Some d → Names false d → IfOk result (λ fault. IsFaultOf fault line)
+pub name_claim : {E : Type 0} (result : Result LineFault E) (line : List ℕ) (d : Data) → IfOk result IsOfName → value_of line ≡ Some d → Names false d
+    → IfOk result (λ fault. IsFaultOf fault line)
 name_claim (Ok fault) line d is read names = of_name fault line d is read names
 name_claim (Err e) line d is read names = tt

@@ -1,5 +1,6 @@
 -- JSON values beside what is read of them.
-use Rattle.std.proofs.Common.{◌≡◌, ◌≢◌, ℕ, List, [], ◌∷◌, length, Some, None, Bool, true, false, cond, String, Global, string_bytes, slice_get, refl, sym, ap, ◌∙◌, arith}
+use Rattle.std.proofs.Common.{◌≡◌, ◌≢◌, ℕ, List, [], ◌∷◌, length, Some, None, Bool, true, false, cond, String, Global, string_bytes, slice_get, refl}
+use Rattle.std.proofs.Common.{sym, ap, ◌∙◌, arith}
 use Rattle.std.specs.Prelude.{IsUtf8}
 use Rattle.std.specs.Str.{is_utf8}
 use Rattle.std.proofs.lemmas.Str.{IsUtf8-from_is_utf8, is_utf8-from_IsUtf8}
@@ -33,12 +34,14 @@ unfolding value_of
 tree_read line j text e = rw (is_utf8-from_IsUtf8 line text, e) refl
 
 -- the same in steps: the tokens of the text, all of which are read
-pub tree_value : (line text : List ℕ) (start rest : List Token) (j : json.Json) → IsUtf8 line → text ≡ line → start ≡ tokens text → json.value max_depth start ≡ Some (j, rest) → rest ≡ [] → value_of line ≡ of_json j
+pub tree_value : (line text : List ℕ) (start rest : List Token) (j : json.Json) → IsUtf8 line → text ≡ line → start ≡ tokens text
+    → json.value max_depth start ≡ Some (j, rest) → rest ≡ [] → value_of line ≡ of_json j
 tree_value line text start rest j good same from e none =
     tree_read line j good (ap (json.value max_depth) (sym (from ∙ ap tokens same)) ∙ e ∙ ap (λ r. Some (j, r)) none)
 
 -- the first of one entry is the sole member
-pub one_member : (es : List Entry) (k : String Global) (v : Value) → length es ≡ 1 → slice_get es 0 ≡ Some (k, v) → sole (members_view es) ≡ Some (string_bytes k, view v)
+pub one_member : (es : List Entry) (k : String Global) (v : Value) → length es ≡ 1 → slice_get es 0 ≡ Some (k, v)
+    → sole (members_view es) ≡ Some (string_bytes k, view v)
 one_member [] k v one first = cc
 one_member (e ∷ []) k v one first = let same : e ≡ (k, v) = cc in rw same refl
 one_member (e ∷ f ∷ es) k v one first = absurd (omega arith)

@@ -16,7 +16,7 @@ use Rattle.outage_commands.specs.declared.command.SlotCommand.TheVariants.{Lend,
 use Rattle.outage_commands.specs.declared.command.SyncFrom.{SyncFrom}
 use Rattle.outage_commands.specs.Reading.{◌>>=◌, ◌>>◌, has_only, number_of, bytes_of, numbers_of, pairs_of, payload_of, member_of, default_of, maybe_of, sole_member}
 
--- the ring of these members, if there are no others
+-- the ring of these members, if no other is present
 unfoldable pub ring_of : Data → Option NewRing
 ring_of d = do
   has_only (codes "bits" ∷ codes "copies" ∷ codes "nodes" ∷ codes "limit" ∷ codes "format" ∷ []) d
@@ -27,7 +27,7 @@ ring_of d = do
   format ← default_of 1 number_of (codes "format") d
   Some (record { bits = bits; copies = copies; nodes = nodes; limit = limit; format = format })
 
--- the put of these members, if there are no others
+-- the put of these members, if no other is present
 unfoldable pub put_of : Data → Option Put
 put_of d = do
   has_only (codes "node" ∷ codes "key" ∷ codes "context" ∷ codes "value" ∷ codes "lose" ∷ []) d
@@ -38,7 +38,7 @@ put_of d = do
   lose ← default_of [] numbers_of (codes "lose") d
   Some (record { node = node; key = key; context = context; kind = payload.0; value = payload.1; lose = lose })
 
--- the get or row of these members, if there are no others
+-- the get or row of these members, if no other is present
 unfoldable pub get_of : Data → Option Get
 get_of d = do
   has_only (codes "node" ∷ codes "key" ∷ []) d
@@ -46,7 +46,7 @@ get_of d = do
   key ← member_of bytes_of (codes "key") d
   Some (record { node = node; key = key })
 
--- the rehash of these members, if there are no others
+-- the rehash of these members, if no other is present
 unfoldable pub rehash_of : Data → Option Rehash
 rehash_of d = do
   has_only (codes "node" ∷ codes "range" ∷ []) d
@@ -54,7 +54,7 @@ rehash_of d = do
   range ← member_of number_of (codes "range") d
   Some (record { node = node; range = range })
 
--- the sync of these members, if there are no others
+-- the sync of these members, if no other is present
 unfoldable pub sync_of : Data → Option SyncFrom
 sync_of d = do
   has_only (codes "from" ∷ codes "node" ∷ codes "range" ∷ []) d
@@ -63,7 +63,7 @@ sync_of d = do
   range ← member_of number_of (codes "range") d
   Some (record { from = from; node = node; range = range })
 
--- the node of a tree of these members, if there are no others
+-- the node of a tree of these members, if no other is present
 unfoldable pub node_of : Data → Option ShowNode
 node_of d = do
   has_only (codes "node" ∷ codes "range" ∷ codes "depth" ∷ codes "index" ∷ []) d
@@ -90,7 +90,7 @@ abbrev pub slot_named : List ℕ → Option ℕ → Option SlotCommand
 slot_named word None = plain_slot word
 slot_named word (Some n) = numbered_slot n word
 
--- the command for the slots of these members, if there are no others
+-- the command for the slots of these members, if no other is present
 unfoldable pub slot_of : Data → Option SlotCommand
 slot_of d = do
   has_only (codes "do" ∷ codes "n" ∷ []) d
@@ -102,7 +102,7 @@ slot_of d = do
 abbrev pub short_number_of : Data → Option ℕ
 short_number_of d = option_and_then (λ n. if nat_lt n (2 ^ 32) then Some n else None) (number_of d)
 
--- the sample of these members, if there are no others
+-- the sample of these members, if no other is present
 unfoldable pub sample_of : Data → Option NewSample
 sample_of d = do
   has_only (codes "at" ∷ codes "micros" ∷ []) d

@@ -16,7 +16,7 @@ line_limit = 1048576
 abbrev pub is_command : List ℕ → Bool
 is_command name = list_any (λ (form : Form). bytes_eq name form.0) forms
 
--- an object whose one member's name is that of a command, or is not
+-- an object whose one member names a command, or does not
 abbrev pub Names : Bool → Data → Type 0
 Names known d = (m : List ℕ × Data) × (sole_member d ≡ Some m) × (is_command m.0 ≡ known)
 

@@ -41,7 +41,7 @@ has_only names d = only_named names (as_object d)
 abbrev pub number_of : Data → Option ℕ
 number_of d = option_and_then as_u64 (as_number d)
 
--- the decoded bytes, if the text is right
+-- the decoded bytes, if the text is valid
 abbrev pub right : {A : Type 0} → Result A FromHexError → Option A
 right (Ok a) = Some a
 right (Err e) = None
@@ -84,7 +84,7 @@ member_of f name d = option_and_then f (get name d)
 abbrev pub payload_of : Data → Option (Kind × List ℕ)
 payload_of d = if is_some (as_null d) then Some (Tombstone, []) else option_map (λ value. (Live, value)) (bytes_of d)
 
--- the value read by f, or absent if there is no value
+-- the value read by f, or absent for None
 abbrev pub read_or : {A : Type 0} → A → (Data → Option A) → Option Data → Option A
 read_or absent f None = Some absent
 read_or absent f (Some d) = f d
@@ -93,7 +93,7 @@ read_or absent f (Some d) = f d
 abbrev pub default_of : {A : Type 0} → A → (Data → Option A) → List ℕ → Data → Option A
 default_of absent f name d = read_or absent f (get name d)
 
--- the value read by f, or Some None if there is no value
+-- the value read by f, or Some None for None
 abbrev pub maybe_of : {A : Type 0} → (Data → Option A) → List ℕ → Data → Option (Option A)
 maybe_of f name d = default_of None (λ e. option_map Some (f e)) name d
 

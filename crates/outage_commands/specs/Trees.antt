@@ -25,7 +25,7 @@ abbrev mutual
   items_data json.no_items = no_items
   items_data (json.item j js) = item (data_of j) (items_data js)
 
-  -- the members are put in one after another
+  -- the members are put in order
   pub members_data : json.Members → Members → Members
   members_data json.no_members found = found
   members_data (json.member name j ms) found = members_data ms (put name (data_of j) found)

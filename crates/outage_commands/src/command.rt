@@ -68,7 +68,7 @@ pub struct Rehash {
     pub range: u64,
 }
 
-/// A sync: a node fetches the versions of a range that it lacks and another has.
+/// A sync: a node fetches the versions of a range that another has and it doesn't.
 #[derive(Drop)]
 pub struct SyncFrom {
     /// The node whose rows are taken.

@@ -43,10 +43,10 @@ pub enum LineFault {
     Misspelled {
         /// The name, cut after 40 characters.
         name: String,
-        /// The name of a command that takes the fewest edits: at most half as many as the name has characters.
+        /// The name of a command that takes the fewest edits: at most half the number of the name's characters.
         nearest: &'static str,
     },
-    /// The command lacks a member, has one too many, or one of another kind.
+    /// A member of the command is missing, unknown or of another kind.
     #[error("{wants}; {wrong}")]
     Member {
         /// The members that the command wants.

@@ -62,8 +62,8 @@ const SLOT_OPTIONS: [Member; 1] = [("n", Shape::Number)];
 
 const SAMPLE: [Member; 2] = [("at", Shape::Number), ("micros", Shape::Number)];
 
-/// Returns a sentence about the first wrong member of a command: one that the command doesn't have, one that is missing,
-/// or one of another kind. `None` if each member is right by itself.
+/// Returns a sentence about the first wrong member of a command: one that the command doesn't have, one that is
+/// missing, or one of another kind. `None` if each member is valid by itself.
 pub(crate) fn wrong_member(
     alloc: Global,
     command: &str,
@@ -135,7 +135,7 @@ fn has(members: &[Member], name: &str) -> bool {
     members.iter().any(|member| member.0 == name)
 }
 
-/// Returns true if the value is of this kind.
+/// Returns true if the value has this kind.
 fn fits(shape: Shape, value: &Value) -> bool {
     match shape {
         Shape::Number => value.as_u64().is_some(),

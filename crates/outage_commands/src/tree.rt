@@ -20,7 +20,7 @@ use std::str::from_utf8;
 use vclock::Bytes;
 use version_set::Kind;
 
-/// The maximum depth of nested arrays and objects, that of `serde_json`.
+/// The maximum depth of nested arrays and objects, as in `serde_json`.
 const MAX_DEPTH: usize = 127;
 
 /// Reads the tree of a line, if it is the text of a JSON value.

@@ -1,5 +1,6 @@
 -- The tokens of answers, and their text.
-use Rattle.std.proofs.Common.{◌≡◌, ℕ, suc, ◌+◌, ◌<◌, ◌≤◌, length, List, [], ◌∷◌, ◌++◌, drop, map, get_or, append_assoc, sym, ap, ◌∙◌, add-one, drop-cons}
+use Rattle.std.proofs.Common.{◌≡◌, ℕ, suc, ◌+◌, ◌<◌, ◌≤◌, length, List, [], ◌∷◌, ◌++◌, drop, map, get_or, append_assoc, sym, ap, ◌∙◌, add-one}
+use Rattle.std.proofs.Common.{drop-cons}
 use Rattle.std.proofs.lemmas.List.{drop_all}
 use Rattle.std.specs.Borrow.{Bor}
 use Rattle.json.specs.Print.{print}
@@ -27,7 +28,8 @@ abbrev pub items_left : {A : Type 0} → (A → Data) → List A → List Token
 items_left f list = items_tokens (items_outline (items_of f list))
 
 -- one more element is written
-pub item_written : {A : Type 0} (f : A → Data) (list : List A) (before after : List Token) (i : ℕ) (a : A) → i < length list → a ≡ get_or list i a → after ≡ before ++ tokens_of (f a) → after ++ items_left f (drop (i + 1) list) ≡ before ++ items_left f (drop i list)
+pub item_written : {A : Type 0} (f : A → Data) (list : List A) (before after : List Token) (i : ℕ) (a : A) → i < length list → a ≡ get_or list i a
+    → after ≡ before ++ tokens_of (f a) → after ++ items_left f (drop (i + 1) list) ≡ before ++ items_left f (drop i list)
 item_written f list before after i a within is more =
     ap (λ ts. ts ++ items_left f (drop (i + 1) list)) more ∙ append_assoc before (tokens_of (f a)) (items_left f (drop (i + 1) list))
     ∙ ap (λ (xs : List _). before ++ items_left f xs) (sym (left_at list i a within is))
@@ -50,7 +52,8 @@ abbrev pub members_left : List Member → List Token
 members_left list = members_tokens (members_outline (members_of (map member_of list)))
 
 -- one more member is written
-pub member_written : (list : List Member) (before named after : List Token) (i : ℕ) (m : Member) → i < length list → m ≡ get_or list i m → named ≡ before ++ Token.key m.0.now ∷ [] → after ≡ named ++ tokens_of (part_data m.1)
+pub member_written : (list : List Member) (before named after : List Token) (i : ℕ) (m : Member) → i < length list → m ≡ get_or list i m
+    → named ≡ before ++ Token.key m.0.now ∷ [] → after ≡ named ++ tokens_of (part_data m.1)
     → after ++ members_left (drop (i + 1) list) ≡ before ++ members_left (drop i list)
 member_written list before named after i m within is name value =
     let rest = members_left (drop (i + 1) list) in
@@ -66,7 +69,8 @@ members_end list i past = ap members_left (drop_all i list past)
 -- ---- a version
 
 -- an object of two members is written token by token
-pub two_written : (t t1 t2 t3 t4 t5 t6 first second : List Token) (opened named other closed : Token) → t1 ≡ t ++ opened ∷ [] → t2 ≡ t1 ++ named ∷ [] → t3 ≡ t2 ++ first → t4 ≡ t3 ++ other ∷ [] → t5 ≡ t4 ++ second → t6 ≡ t5 ++ closed ∷ []
+pub two_written : (t t1 t2 t3 t4 t5 t6 first second : List Token) (opened named other closed : Token) → t1 ≡ t ++ opened ∷ [] → t2 ≡ t1 ++ named ∷ []
+    → t3 ≡ t2 ++ first → t4 ≡ t3 ++ other ∷ [] → t5 ≡ t4 ++ second → t6 ≡ t5 ++ closed ∷ []
     → t6 ≡ t ++ opened ∷ named ∷ (first ++ other ∷ (second ++ closed ∷ []))
 two_written t t1 t2 t3 t4 t5 t6 first second opened named other closed e1 e2 e3 e4 e5 e6 =
     let third : t3 ≡ t ++ opened ∷ named ∷ first =

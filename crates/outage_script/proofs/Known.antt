@@ -18,7 +18,8 @@ appends_none (Some a) (Some b) None x p q = absurd q
 appends_none (Some a) (Some b) (Some c) x p q = q ∙ p
 
 -- the next n bytes go onto those before
-pub moved_on : (bytes some rest : List ℕ) (n k : ℕ) → bytes ≡ some ++ rest → n ≤ length rest → k ≡ length rest → bytes ≡ (some ++ take n rest) ++ take (k - n) (drop n rest)
+pub moved_on : (bytes some rest : List ℕ) (n k : ℕ) → bytes ≡ some ++ rest → n ≤ length rest → k ≡ length rest
+    → bytes ≡ (some ++ take n rest) ++ take (k - n) (drop n rest)
 moved_on bytes some rest n k whole within all = grind (arith, common_steps)
 
 -- nothing is appended to begin with

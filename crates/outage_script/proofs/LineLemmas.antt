@@ -1,5 +1,6 @@
 -- Lines, and a run that reads its input in pieces.
-use Rattle.std.proofs.Common.{◌≡◌, ℕ, ◌+◌, ◌<◌, ◌≤◌, length, List, [], ◌∷◌, ◌++◌, refl, sym, ap, ◌∙◌, Bool, not, true, false, Option, Some, None, append_assoc, append-nil, length-append, arith, true≢false}
+use Rattle.std.proofs.Common.{◌≡◌, ℕ, ◌+◌, ◌<◌, ◌≤◌, length, List, [], ◌∷◌, ◌++◌, refl, sym, ap, ◌∙◌, Bool, not, true, false, Option, Some, None}
+use Rattle.std.proofs.Common.{append_assoc, append-nil, length-append, arith, true≢false}
 use Rattle.std.proofs.lemmas.Bool.{lt-ltb, le-leb}
 use Rattle.std.specs.Prelude.{IfNone}
 use Rattle.std.specs.Io.KnownBytes.{Appends}
@@ -72,7 +73,8 @@ unfolding to_come
 bytes_kept p bytes = record { goes = λ rest. ap (λ t. outcome_of p.number p.state (lines_of t)) (sym (append_assoc p.line bytes rest)) }
 
 -- a line was answered
-pub line_done : (p : Place) (text : List ℕ) (next : ClusterState) → Inside p.line → step p.state p.line ≡ Some (text, next) → Moves p (10 ∷ []) (record { number = p.number + 1; state = next; line = []; long = p.long }) text
+pub line_done : (p : Place) (text : List ℕ) (next : ClusterState) → Inside p.line → step p.state p.line ≡ Some (text, next)
+    → Moves p (10 ∷ []) (record { number = p.number + 1; state = next; line = []; long = p.long }) text
 unfolding to_come
 line_done p text next h e = record { goes = λ rest. rw (whole_line p.line rest h, e) refl }
 
@@ -88,17 +90,28 @@ spoils Device p spoiled kept = tt
 spoils NoMemory p spoiled kept = tt
 
 -- a line is bad, and is kept whole
-pub line_bad : (p : Place) (next : ClusterState) (end : ScriptEnd) (some : List ℕ) → Inside p.line → length p.line ≤ line_limit → step p.state p.line ≡ None → Ends end (bad_outcome p.number p.line) some → Stops p (10 ∷ []) (record p { state = next; long = false }) end some
+pub line_bad : (p : Place) (next : ClusterState) (end : ScriptEnd) (some : List ℕ) → Inside p.line → length p.line ≤ line_limit
+    → step p.state p.line ≡ None → Ends end (bad_outcome p.number p.line) some → Stops p (10 ∷ []) (record p { state = next; long = false }) end some
 unfolding to_come
 line_bad p next end some h short e right = record {
   right = λ rest. rw (whole_line p.line rest h, e) right;
-  keeps = λ rest. rw (whole_line p.line rest h, e) (spoils end (record p { state = next; long = false }) (Some p.line) (p.line, refl, (refl, le-leb (length p.line) line_limit short)));
+  keeps = λ rest. rw (whole_line p.line rest h, e)
+      (spoils end (record p { state = next; long = false }) (Some p.line) (p.line, refl, (refl, le-leb (length p.line) line_limit short)));
 }
 
 -- a line's answer was not written whole
-pub line_cut : (p : Place) (text : List ℕ) (next : ClusterState) (some : List ℕ) → Inside p.line → step p.state p.line ≡ Some (text, next) → Begins text some → (q : Place) → Stops p (10 ∷ []) q Device some
+pub line_cut : (p : Place) (text : List ℕ) (next : ClusterState) (some : List ℕ) → Inside p.line → step p.state p.line ≡ Some (text, next)
+    → Begins text some → (q : Place) → Stops p (10 ∷ []) q Device some
 unfolding to_come
-line_cut p text next some h e begins q = record { right = λ rest. rw (whole_line p.line rest h, e) (begins.0 ++ (outcome_of (p.number + 1) next (lines_of rest)).text, ap (λ t. t ++ (outcome_of (p.number + 1) next (lines_of rest)).text) begins.1 ∙ append_assoc some begins.0 _); keeps = λ rest. tt }
+line_cut p text next some h e begins q =
+    record {
+      right = λ rest. rw (whole_line p.line rest h, e) (
+        begins.0 ++ (outcome_of (p.number + 1) next (lines_of rest)).text,
+        ap (λ t. t ++ (outcome_of (p.number + 1) next (lines_of rest)).text) begins.1
+            ∙ append_assoc some begins.0 _,
+      );
+      keeps = λ rest. tt;
+    }
 
 -- nothing was written
 pub no_memory : (p q : Place) (piece : List ℕ) → Stops p piece q NoMemory []
@@ -115,11 +128,14 @@ first_of [] rest some h = absurd (omega arith)
 first_of (b ∷ line) rest some h = first_line b line rest h
 
 -- a line that is to pass the limit is bad, whatever comes after it
-pub line_long : (p : Place) (bytes : List ℕ) (end : ScriptEnd) (some : List ℕ) → Inside (p.line ++ bytes) → line_limit < length p.line + length bytes → ((line : List ℕ) → Ends end (bad_outcome p.number line) some) → Stops p bytes (record p { long = true }) end some
+pub line_long : (p : Place) (bytes : List ℕ) (end : ScriptEnd) (some : List ℕ) → Inside (p.line ++ bytes) → line_limit < length p.line + length bytes
+    → ((line : List ℕ) → Ends end (bad_outcome p.number line) some) → Stops p bytes (record p { long = true }) end some
 unfolding to_come
 line_long p bytes end some h e right = record {
   right = λ rest. rw (is_bad rest (first rest)) (right (whole rest (first rest)));
-  keeps = λ rest. rw (is_bad rest (first rest)) (spoils end (record p { long = true }) (Some (whole rest (first rest))) (whole rest (first rest), refl, lt-ltb line_limit (length (whole rest (first rest))) (is_long rest (first rest))));
+  keeps = λ rest. rw (is_bad rest (first rest))
+      (spoils end (record p { long = true }) (Some (whole rest (first rest)))
+      (whole rest (first rest), refl, lt-ltb line_limit (length (whole rest (first rest))) (is_long rest (first rest))));
 }
   where
     first : (rest : List ℕ) → FirstLine (p.line ++ bytes) rest
@@ -142,7 +158,11 @@ preceded_both x y o = rw (append_assoc x y o.text) refl
 
 -- two pieces are one
 pub moves_both : (a b c : Place) (p q x y : List ℕ) → Moves a p b x → Moves b q c y → Moves a (p ++ q) c (x ++ y)
-moves_both a b c p q x y first second = record { goes = λ rest. ap (to_come a) (append_assoc p q rest) ∙ (first.goes (q ++ rest) ∙ (ap (preceded x) (second.goes rest) ∙ preceded_both x y (to_come c rest))) }
+moves_both a b c p q x y first second =
+    record {
+      goes = λ rest. ap (to_come a) (append_assoc p q rest)
+          ∙ (first.goes (q ++ rest) ∙ (ap (preceded x) (second.goes rest) ∙ preceded_both x y (to_come c rest)));
+    }
 
 -- an early end is right after what was written before
 pub ends_later : (end : ScriptEnd) (whole : ScriptOutcome) (some x : List ℕ) → Ends end whole some → Ends end (preceded x whole) (x ++ some)
@@ -177,7 +197,8 @@ last_as_whole p some h = ap (outcome_of p.number p.state) (by_line p.line some h
   where
     by_line : (line : List ℕ) → 0 < length line → Inside line → lines_of (line ++ []) ≡ lines_of (line ++ 10 ∷ [])
     by_line [] none i = absurd (omega arith)
-    by_line (b ∷ line) none i = ap lines_of (append-nil (b ∷ line)) ∙ (last_line b line i ∙ sym (whole_line (b ∷ line) [] i ∙ ap (λ t. (b ∷ line) ∷ t) no_lines))
+    by_line (b ∷ line) none i = ap lines_of (append-nil (b ∷ line))
+        ∙ (last_line b line i ∙ sym (whole_line (b ∷ line) [] i ∙ ap (λ t. (b ∷ line) ∷ t) no_lines))
 
 -- between two lines, nothing is to come at the end of the input
 pub nothing_to_come : (p : Place) → length p.line ≡ 0 → to_come p [] ≡ record { text = []; bad = None; spoiled = None }
@@ -189,10 +210,15 @@ nothing_to_come p h = ap (outcome_of p.number p.state) (by_line p.line h)
     by_line (b ∷ line) e = absurd (omega arith)
 
 -- the outcome of a last line that was answered
-pub line_ended : (p q : Place) (x : List ℕ) → 0 < length p.line → Inside p.line → Moves p (10 ∷ []) q x → q.line ≡ [] → to_come p [] ≡ record { text = x; bad = None; spoiled = None }
-line_ended p q x some h moves empty = last_as_whole p some h ∙ (moves.goes [] ∙ (ap (preceded x) (nothing_to_come q (ap length empty)) ∙ rw (append-nil x) refl))
+pub line_ended : (p q : Place) (x : List ℕ) → 0 < length p.line → Inside p.line → Moves p (10 ∷ []) q x → q.line ≡ []
+    → to_come p [] ≡ record { text = x; bad = None; spoiled = None }
+line_ended p q x some h moves empty = last_as_whole p some h
+    ∙ (moves.goes [] ∙ (ap (preceded x) (nothing_to_come q (ap length empty)) ∙ rw (append-nil x) refl))
 
 -- the last line, which lacked its line feed, was answered
-pub finished : (p q : Place) (end : Option ScriptEnd) (before after : Option (List ℕ)) → 0 < length p.line → Inside p.line → Feeds p (10 ∷ []) q end before after → IfNone end (q.line ≡ []) → (some : List ℕ) × Appends before after some × Finishes end q (to_come p []) some
+pub finished : (p q : Place) (end : Option ScriptEnd) (before after : Option (List ℕ)) → 0 < length p.line → Inside p.line
+    → Feeds p (10 ∷ []) q end before after → IfNone end (q.line ≡ [])
+    → (some : List ℕ) × Appends before after some × Finishes end q (to_come p []) some
 finished p q None before after some h fed empty = (fed.0, fed.1, line_ended p q fed.0 some h fed.2 empty)
-finished p q (Some end) before after some h fed empty = (fed.0, fed.1, (rw (last_as_whole p some h) (fed.2.right []), rw (last_as_whole p some h) (fed.2.keeps [])))
+finished p q (Some end) before after some h fed empty =
+    (fed.0, fed.1, (rw (last_as_whole p some h) (fed.2.right []), rw (last_as_whole p some h) (fed.2.keeps [])))

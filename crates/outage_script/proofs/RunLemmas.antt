@@ -1,5 +1,6 @@
 -- A whole run, from what the reader gave and the writer took.
-use Rattle.std.proofs.Common.{◌≡◌, ◌⊎◌, inl, inr, ℕ, List, [], ◌++◌, refl, sym, ap, ◌∙◌, false, Option, Some, None, append_assoc, append-nil, length, take, drop, arith}
+use Rattle.std.proofs.Common.{◌≡◌, ◌⊎◌, inl, inr, ℕ, List, [], ◌++◌, refl, sym, ap, ◌∙◌, false, Option, Some, None, append_assoc, append-nil, length}
+use Rattle.std.proofs.Common.{take, drop, arith}
 use Rattle.std.proofs.lemmas.Grind.{common_steps}
 use Rattle.std.specs.Prelude.{unwrap_or}
 use Rattle.std.specs.Io.KnownBytes.{Appends, Keeps, Consumes, IsAtEnd}
@@ -40,7 +41,8 @@ consumes_none (Some a) (Some b) None x p q = absurd q
 consumes_none (Some a) (Some b) (Some c) x p q = p ∙ ap (λ t. x ++ t) (sym q)
 
 -- a piece was read and taken
-progress_next : (found left left' before after after' : Option (List ℕ)) (p q : Place) (piece : List ℕ) → Progress found left before after p → Consumes left left' piece → Feeds p piece q None after after' → Progress found left' before after' q
+progress_next : (found left left' before after after' : Option (List ℕ)) (p q : Place) (piece : List ℕ) → Progress found left before after p
+    → Consumes left left' piece → Feeds p piece q None after after' → Progress found left' before after' q
 progress_next found left left' before after after' p q piece old reads fed = record {
   bytes = old.bytes ++ piece;
   written = old.written ++ fed.0;
@@ -50,7 +52,9 @@ progress_next found left left' before after after' p q piece old reads fed = rec
 }
 
 -- a piece was read and taken, and a flush changed nothing of what was written
-pub progress_flushed : (found left left' before after fed flushed : Option (List ℕ)) (p q : Place) (piece : List ℕ) → Progress found left before after p → Consumes left left' piece → Feeds p piece q None after fed → Keeps fed flushed → Progress found left' before flushed q
+pub progress_flushed : (found left left' before after fed flushed : Option (List ℕ)) (p q : Place) (piece : List ℕ)
+    → Progress found left before after p → Consumes left left' piece → Feeds p piece q None after fed → Keeps fed flushed
+    → Progress found left' before flushed q
 progress_flushed found left left' before after fed flushed p q piece old reads feeds kept =
     let next = progress_next found left left' before after fed p q piece old reads feeds in
     record {
@@ -62,7 +66,8 @@ progress_flushed found left left' before after fed flushed p q piece old reads f
     }
 
 -- what is right for the bytes that were read, and for the whole input, is right
-right_of : (end : ScriptEnd) (bytes left w : List ℕ) → Ends end (script_outcome bytes) w → Ends end (script_outcome (bytes ++ left)) w → IsRightEnd end bytes left w
+right_of : (end : ScriptEnd) (bytes left w : List ℕ) → Ends end (script_outcome bytes) w → Ends end (script_outcome (bytes ++ left)) w
+    → IsRightEnd end bytes left w
 right_of Done bytes left w e f = absurd e
 right_of (BadLine n) bytes left w e f = (e, f)
 right_of Device bytes left w e f = (e, f)
@@ -78,18 +83,22 @@ no_more bytes left e = ap (λ t. bytes ++ t) e ∙ append-nil bytes
 
 -- what is right is right too if the device fails after it
 device_of : (end : ScriptEnd) (bytes left w : List ℕ) → IsRightEnd end bytes left w → IsRightEnd Device bytes left w
-device_of Done bytes left w e = (all_begins (script_outcome bytes).text w e.1.text, rw (no_more bytes left e.0) (all_begins (script_outcome bytes).text w e.1.text))
-device_of (BadLine n) bytes left w e = (all_begins (script_outcome bytes).text w e.0.text, all_begins (script_outcome (bytes ++ left)).text w e.1.text)
+device_of Done bytes left w e =
+    (all_begins (script_outcome bytes).text w e.1.text, rw (no_more bytes left e.0) (all_begins (script_outcome bytes).text w e.1.text))
+device_of (BadLine n) bytes left w e =
+    (all_begins (script_outcome bytes).text w e.0.text, all_begins (script_outcome (bytes ++ left)).text w e.1.text)
 device_of Device bytes left w e = e
 device_of NoMemory bytes left w e = e
 
 -- the end after the flush
-flushed_right : (end result : ScriptEnd) (bytes left w : List ℕ) → (result ≡ end) ⊎ (result ≡ Device) → IsRightEnd end bytes left w → IsRightEnd result bytes left w
+flushed_right : (end result : ScriptEnd) (bytes left w : List ℕ) → (result ≡ end) ⊎ (result ≡ Device) → IsRightEnd end bytes left w
+    → IsRightEnd result bytes left w
 flushed_right end result bytes left w (inl e) right = rw e right
 flushed_right end result bytes left w (inr e) right = rw e (device_of end bytes left w right)
 
 -- a run, from what was read and written
-runs : (end : ScriptEnd) (found left before after : Option (List ℕ)) (bytes written : List ℕ) → Consumes found left bytes → Appends before after written → ((rest : List ℕ) → left ≡ Some rest → IsRightEnd end bytes rest written) → Runs end found left before after
+runs : (end : ScriptEnd) (found left before after : Option (List ℕ)) (bytes written : List ℕ) → Consumes found left bytes
+    → Appends before after written → ((rest : List ℕ) → left ≡ Some rest → IsRightEnd end bytes rest written) → Runs end found left before after
 runs end None left before after bytes written c a r = tt
 runs end (Some input) None before after bytes written c a r = absurd c
 runs end (Some input) (Some left) before after bytes written c a r = (bytes, written, c, a, r left refl)
@@ -103,31 +112,39 @@ pub nothing_read : (found before : Option (List ℕ)) (p : Place) → HasRun NoM
 nothing_read found before p = record { runs = nothing_run found before; holds = tt }
 
 -- the reader failed, or gave no more turns
-pub runs_cut : (found left left' before after : Option (List ℕ)) (p : Place) → Progress found left before after p → Keeps left left' → Runs Device found left' before after
-runs_cut found left left' before after p old kept = runs Device found left' before after old.bytes old.written (consumes_none found left left' old.bytes old.reads kept) old.writes
+pub runs_cut : (found left left' before after : Option (List ℕ)) (p : Place) → Progress found left before after p → Keeps left left'
+    → Runs Device found left' before after
+runs_cut found left left' before after p old kept =
+    runs Device found left' before after old.bytes old.written (consumes_none found left left' old.bytes old.reads kept) old.writes
     (λ rest e. (rw (append-nil old.bytes) at (cut []), cut rest))
   where
     cut : (rest : List ℕ) → Begins (script_outcome (old.bytes ++ rest)).text old.written
     cut rest = ((to_come p rest).text, rw (← starts (old.bytes ++ rest)) (ap (λ o. o.text) (old.moves.goes rest)))
 
 -- the run ended within a piece
-pub runs_stopped : (found left left' before after after' after'' : Option (List ℕ)) (p q : Place) (piece : List ℕ) (end result : ScriptEnd) → Progress found left before after p → Consumes left left' piece → Feeds p piece q (Some end) after after' → Keeps after' after'' → (result ≡ end) ⊎ (result ≡ Device) → Runs result found left' before after''
+pub runs_stopped : (found left left' before after after' after'' : Option (List ℕ)) (p q : Place) (piece : List ℕ) (end result : ScriptEnd)
+    → Progress found left before after p → Consumes left left' piece → Feeds p piece q (Some end) after after' → Keeps after' after''
+    → (result ≡ end) ⊎ (result ≡ Device) → Runs result found left' before after''
 runs_stopped found left left' before after after' after'' p q piece end result old reads fed kept ended =
     runs result found left' before after'' (old.bytes ++ piece) (old.written ++ fed.0)
     (consumes_both found left left' old.bytes piece old.reads reads)
     (appends_none before after' after'' (old.written ++ fed.0) (appends_both before after after' old.written fed.0 old.writes fed.1) kept)
-    (λ rest e. flushed_right end result (old.bytes ++ piece) rest (old.written ++ fed.0) ended (right_of end (old.bytes ++ piece) rest (old.written ++ fed.0) (rw (append-nil (old.bytes ++ piece)) at (cut [])) (cut rest)))
+    (λ rest e. flushed_right end result (old.bytes ++ piece) rest (old.written ++ fed.0) ended
+    (right_of end (old.bytes ++ piece) rest (old.written ++ fed.0) (rw (append-nil (old.bytes ++ piece)) at (cut [])) (cut rest)))
   where
     cut : (rest : List ℕ) → Ends end (script_outcome ((old.bytes ++ piece) ++ rest)) (old.written ++ fed.0)
-    cut rest = rw (← starts ((old.bytes ++ piece) ++ rest)) ((stops_later (script_place 1 start [] false) p q old.bytes piece old.written fed.0 end old.moves fed.2).right rest)
+    cut rest = rw (← starts ((old.bytes ++ piece) ++ rest))
+        ((stops_later (script_place 1 start [] false) p q old.bytes piece old.written fed.0 end old.moves fed.2).right rest)
 
 -- how a run ends, once the end of the input was answered
 abbrev pub end_of : Option ScriptEnd → ScriptEnd
 end_of end = unwrap_or end Done
 
 -- the outcome of what was read, at the end of the input
-at_end_of : (found left before after : Option (List ℕ)) (p : Place) (old : Progress found left before after p) → script_outcome old.bytes ≡ preceded old.written (to_come p [])
-at_end_of found left before after p old = sym (starts old.bytes) ∙ (ap (to_come (script_place 1 start [] false)) (sym (append-nil old.bytes)) ∙ old.moves.goes [])
+at_end_of : (found left before after : Option (List ℕ)) (p : Place) (old : Progress found left before after p)
+    → script_outcome old.bytes ≡ preceded old.written (to_come p [])
+at_end_of found left before after p old = sym (starts old.bytes)
+    ∙ (ap (to_come (script_place 1 start [] false)) (sym (append-nil old.bytes)) ∙ old.moves.goes [])
 
 -- at the end of the input nothing is left
 none_left : (l : Option (List ℕ)) → IsAtEnd l → (rest : List ℕ) → l ≡ Some rest → rest ≡ []
@@ -135,7 +152,9 @@ none_left None h rest e = cc
 none_left (Some l) h rest e = let same : l ≡ rest = cc in sym same ∙ h
 
 -- the input came to its end
-pub runs_finished : (found left left' before after after' after'' : Option (List ℕ)) (p q : Place) (some : List ℕ) (end : Option ScriptEnd) (result : ScriptEnd) → Progress found left before after p → Consumes left left' [] → IsAtEnd left' → Appends after after' some → Finishes end q (to_come p []) some → Keeps after' after'' → (result ≡ end_of end) ⊎ (result ≡ Device) → Runs result found left' before after''
+pub runs_finished : (found left left' before after after' after'' : Option (List ℕ)) (p q : Place) (some : List ℕ) (end : Option ScriptEnd)
+    (result : ScriptEnd) → Progress found left before after p → Consumes left left' [] → IsAtEnd left' → Appends after after' some
+    → Finishes end q (to_come p []) some → Keeps after' after'' → (result ≡ end_of end) ⊎ (result ≡ Device) → Runs result found left' before after''
 runs_finished found left left' before after after' after'' p q some end result old reads at_end wrote last kept ended =
     runs result found left' before after'' old.bytes (old.written ++ some)
     (rw (append-nil old.bytes) at (consumes_both found left left' old.bytes [] old.reads reads))
@@ -145,7 +164,8 @@ runs_finished found left left' before after after' after'' p q some end result o
     whole : script_outcome old.bytes ≡ preceded old.written (to_come p [])
     whole = at_end_of found left before after p old
 
-    by_end : (f : Option ScriptEnd) → Finishes f q (to_come p []) some → (rest : List ℕ) → rest ≡ [] → IsRightEnd (end_of f) old.bytes rest (old.written ++ some)
+    by_end : (f : Option ScriptEnd) → Finishes f q (to_come p []) some → (rest : List ℕ) → rest ≡ []
+        → IsRightEnd (end_of f) old.bytes rest (old.written ++ some)
     by_end None e rest none =
         let is : script_outcome old.bytes ≡ record { text = old.written ++ some; bad = None; spoiled = None } = whole ∙ ap (preceded old.written) e in
         (none, record { text = ap (λ o. o.text) is; bad = ap (λ o. o.bad) is })
@@ -156,7 +176,8 @@ runs_finished found left left' before after after' after'' p q some end result o
 -- ---- the bad line that a run ended at
 
 -- what is kept of the bad line of what was read is kept of the input's
-holds : (end : ScriptEnd) (p : Place) (found left : Option (List ℕ)) (bytes : List ℕ) → Consumes found left bytes → ((rest : List ℕ) → left ≡ Some rest → Spoils end p (script_outcome (bytes ++ rest)).spoiled) → Holds end p found
+holds : (end : ScriptEnd) (p : Place) (found left : Option (List ℕ)) (bytes : List ℕ) → Consumes found left bytes
+    → ((rest : List ℕ) → left ≡ Some rest → Spoils end p (script_outcome (bytes ++ rest)).spoiled) → Holds end p found
 holds Done p found left bytes c h = tt
 holds (BadLine n) p None left bytes c h = tt
 holds (BadLine n) p (Some input) None bytes c h = absurd c
@@ -165,19 +186,25 @@ holds Device p found left bytes c h = tt
 holds NoMemory p found left bytes c h = tt
 
 -- the same after the flush
-holds_flushed : (end result : ScriptEnd) (p : Place) (found : Option (List ℕ)) → (result ≡ end) ⊎ (result ≡ Device) → Holds end p found → Holds result p found
+holds_flushed : (end result : ScriptEnd) (p : Place) (found : Option (List ℕ)) → (result ≡ end) ⊎ (result ≡ Device) → Holds end p found
+    → Holds result p found
 holds_flushed end result p found (inl e) h = rw e h
 holds_flushed end result p found (inr e) h = rw e tt
 
 -- a run that ended within a piece keeps the bad line
-pub holds_stopped : (found left left' before after after' : Option (List ℕ)) (p q : Place) (piece : List ℕ) (end result : ScriptEnd) → Progress found left before after p → Consumes left left' piece → Feeds p piece q (Some end) after after' → (result ≡ end) ⊎ (result ≡ Device) → Holds result q found
+pub holds_stopped : (found left left' before after after' : Option (List ℕ)) (p q : Place) (piece : List ℕ) (end result : ScriptEnd)
+    → Progress found left before after p → Consumes left left' piece → Feeds p piece q (Some end) after after' → (result ≡ end) ⊎ (result ≡ Device)
+    → Holds result q found
 holds_stopped found left left' before after after' p q piece end result old reads fed ended =
     holds_flushed end result q found ended
     (holds end q found left' (old.bytes ++ piece) (consumes_both found left left' old.bytes piece old.reads reads)
-    (λ rest e. rw (← starts ((old.bytes ++ piece) ++ rest)) ((stops_later (script_place 1 start [] false) p q old.bytes piece old.written fed.0 end old.moves fed.2).keeps rest)))
+    (λ rest e. rw (← starts ((old.bytes ++ piece) ++ rest))
+    ((stops_later (script_place 1 start [] false) p q old.bytes piece old.written fed.0 end old.moves fed.2).keeps rest)))
 
 -- a run that ended at the end of the input keeps the bad line
-pub holds_finished : (found left left' before after : Option (List ℕ)) (p q : Place) (some : List ℕ) (end : Option ScriptEnd) (result : ScriptEnd) → Progress found left before after p → Consumes left left' [] → IsAtEnd left' → Finishes end q (to_come p []) some → (result ≡ end_of end) ⊎ (result ≡ Device) → Holds result q found
+pub holds_finished : (found left left' before after : Option (List ℕ)) (p q : Place) (some : List ℕ) (end : Option ScriptEnd) (result : ScriptEnd)
+    → Progress found left before after p → Consumes left left' [] → IsAtEnd left' → Finishes end q (to_come p []) some
+    → (result ≡ end_of end) ⊎ (result ≡ Device) → Holds result q found
 holds_finished found left left' before after p q some None result old reads at_end last ended = holds_flushed Done result q found ended tt
 holds_finished found left left' before after p q some (Some end) result old reads at_end last ended =
     holds_flushed end result q found ended
@@ -201,6 +228,7 @@ right_answer Device bytes left w e = e.1
 right_answer NoMemory bytes left w e = e.1
 
 -- over memory a run is the answer to its whole input
-pub runs_memory : (end : ScriptEnd) (input : List ℕ) (left : Option (List ℕ)) (w : List ℕ) → Runs end (Some input) left (Some []) (Some w) → IsAnswer end input w
+pub runs_memory : (end : ScriptEnd) (input : List ℕ) (left : Option (List ℕ)) (w : List ℕ) → Runs end (Some input) left (Some []) (Some w)
+    → IsAnswer end input w
 runs_memory end input None w r = absurd r
 runs_memory end input (Some left) w r = rw (r.2, r.3) (right_answer end r.0 left r.1 r.4)

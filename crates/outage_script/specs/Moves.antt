@@ -28,7 +28,7 @@ to_come p rest = outcome_of p.number p.state (lines_of (p.line ++ rest))
 pub record Moves (old : Place) (piece : List ℕ) (new : Place) (some : List ℕ) : Type 0 where
   pub goes : (rest : List ℕ) → to_come old (piece ++ rest) ≡ preceded some (to_come new rest)
 
--- the output up to an early end is right for the whole
+-- the output up to an early end is correct for the whole
 abbrev pub Ends : ScriptEnd → ScriptOutcome → List ℕ → Type 0
 Ends Done whole some = ⊥
 Ends (BadLine n) whole some = IsBadAt n some whole
@@ -51,7 +51,8 @@ Spoils (BadLine n) p spoiled = KeepsLine p spoiled
 Spoils Device p spoiled = ⊤
 Spoils NoMemory p spoiled = ⊤
 
--- if a run over this input ended at a bad line, the place keeps it; there is no claim if the reader's bytes are unknown
+-- if a run over this input ended at a bad line, the place keeps it; nothing is claimed if the reader's bytes are
+-- unknown
 abbrev pub Holds : ScriptEnd → Place → Option (List ℕ) → Type 0
 Holds Done p input = ⊤
 Holds (BadLine n) p None = ⊤
@@ -69,7 +70,7 @@ pub record Stops (old : Place) (piece : List ℕ) (new : Place) (end : ScriptEnd
   pub right : (rest : List ℕ) → Ends end (to_come old (piece ++ rest)) some
   pub keeps : (rest : List ℕ) → Spoils end new (to_come old (piece ++ rest)).spoiled
 
--- the piece was read; the run goes on, or ended
+-- the piece was read; the run continues, or ended
 abbrev pub Feeds : Place → List ℕ → Place → Option ScriptEnd → Option (List ℕ) → Option (List ℕ) → Type 0
 Feeds old piece new None before after = (some : List ℕ) × Appends before after some × Moves old piece new some
 Feeds old piece new (Some end) before after = (some : List ℕ) × Appends before after some × Stops old piece new end some

@@ -25,7 +25,7 @@ suited s command = if suits s command then Some command else None
 unfoldable pub step : ClusterState → List ℕ → Turn
 step s line = if nat_lt line_limit (length line) then None else if list_all is_space line then Some ([], s) else option_map (turn_of s) (option_and_then (suited s) (option_and_then command_of (value_of line)))
 
--- the text that answers a bad line
+-- the text written for a bad line
 unfoldable pub bad_line : ℕ → List ℕ
 bad_line n = answer_line (BadLine n)
 

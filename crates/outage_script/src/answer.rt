@@ -173,7 +173,7 @@ fn write_slots(alloc: Global, slots: &SlotCounts, out: &mut Writer) -> Result<()
     )
 }
 
-/// Writes the slots, and the percentile by which their target was adjusted.
+/// Writes the slots, and the percentile that adjusted their target.
 fn write_adjusted(
     alloc: Global,
     slots: &SlotCounts,

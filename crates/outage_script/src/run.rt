@@ -38,9 +38,9 @@ pub fn run_script<T: Threads + Sync, R: Read, W: Write>(
     run_freed::<Brand, T, R, W>(blank, rt, alloc, reader, writer)
 }
 
-/// Runs a reader's script, as the last act of a process: the memory of the replicas is left to the system, which takes
-/// back all memory of a process at once when it ends. Freeing it here would take a quarter of a run. Returns the end,
-/// and the reason why the line is bad, if a bad line ended the run and there is memory to explain it.
+/// Runs a reader's script, as the last act of a process: the memory of the replicas is left to the system, which frees
+/// all memory of a process at once when it ends. Freeing it here would take a quarter of a run. Returns the end, and
+/// the reason why the line is bad, if a bad line ended the run and there is memory to explain it.
 pub fn run_last_script<T: Threads + Sync, R: Read, W: Write>(
     rt: &T,
     alloc: Global,

@@ -65,7 +65,7 @@ impl<L: Ledger> ScriptRun<L> {
         world.close(at_end);
     }
 
-    /// Explains why the line that ended the run isn't a command, if the run ended so and there is memory for it.
+    /// Explains why the line that ended the run isn't a command. `None` if no such line did, or if memory ran out.
     pub(crate) fn fault(&self, alloc: Global, end: ScriptEnd) -> Option<LineFault>
         ensures { (input : Option (List ℕ))
             → Holds end (script_place self.now.number self.now.world self.now.line.items self.now.too_long) input
@@ -104,7 +104,7 @@ impl<L: Ledger> ScriptRun<L> {
         self.take_part(alloc, rest, writer)
     }
 
-    /// Answers the last line, which lacks its line feed, if there is such a line.
+    /// Answers the last line if it has no line feed.
     pub(crate) fn finish<T: Threads + Sync, W: Write>(
         &mut self,
         rt: &T,
@@ -221,7 +221,7 @@ fn refuse<W: Write>(alloc: Global, number: u64, writer: &mut W) -> ScriptEnd
     }
 }
 
-/// Makes the text that answers a bad line.
+/// Makes the text written for a bad line.
 #[tactic(auto, unfolding(crate::specs::Script::bad_line))]
 fn bad_line(alloc: Global, number: u64) -> Result<Vec<u8>, AllocError>
     ensures { IfOk result (λ text. text.items ≡ bad_line number) }
@@ -229,7 +229,7 @@ fn bad_line(alloc: Global, number: u64) -> Result<Vec<u8>, AllocError>
     answer_line(alloc, &CommandAnswer::BadLine(number))
 }
 
-/// Returns the text that answers a line, or `None` if the line is bad, and changes the world.
+/// Acts on a line, and returns the text of its answer, or `None` if the line is bad.
 #[tactic(auto, unfolding(crate::specs::Script::step))]
 fn turn<L: Ledger, T: Threads + Sync>(
     rt: &T,

@@ -1,20 +1,20 @@
-//! Renewals beside the puts, by the definitions: a new range that catches up with what the old one accepted.
+//! Renewals alongside puts, by the definitions: a new range that catches up with the old one.
 
 use crate::plain::{Fault, PlainEntry, PlainRange};
 use crate::trouble::Trouble;
 use range_journal::Source;
 use std::alloc::Global;
 
-/// A new range beside the old one. It began with the rows of a moment.
+/// A new range alongside the old one. It began with the rows of a moment.
 #[derive(Drop)]
 pub struct PlainRenewal {
     pub range: PlainRange,
-    /// The number of the old range's entries that it has.
+    /// The number of the old range's entries that the new one has.
     pub front: usize,
 }
 
 impl PlainRange {
-    /// Returns the range that its first entries made.
+    /// Returns the range made of its first `count` entries.
     pub fn first(&self, count: usize) -> Result<PlainRange, Trouble> {
         let mut range = self.try_clone()?;
         range.entries.truncate(count);
@@ -36,8 +36,8 @@ impl PlainRange {
 }
 
 impl PlainRenewal {
-    /// Accepts the next entries of the old range as copies by a seat, at most this number of them. Returns the number of
-    /// those that are left, or the reason why an entry isn't accepted: those before it are.
+    /// Accepts the next entries of the old range as copies by a seat, at most `most` of them. Returns the number of
+    /// entries left, or the reason why one isn't accepted; those before it are.
     pub fn catch_up(
         &mut self,
         old: &PlainRange,
@@ -61,7 +61,7 @@ impl PlainRenewal {
         Ok(Ok(left))
     }
 
-    /// Returns true if a range can't be the old one: it is in another format or of another part, or has fewer entries.
+    /// Returns true if a range can't be the old one: its format or its part differs, or it has fewer entries.
     fn is_stranger(&self, old: &PlainRange) -> bool {
         let is_same = old.format == self.range.format && old.part == self.range.part;
         !is_same || old.entries.len() < self.front

@@ -6,12 +6,12 @@ use crate::plain::{NODES, PlainVersion};
 use crate::random::Random;
 use version_set::Kind;
 
-/// The greatest number of a crowd's version.
+/// The maximum number of a crowd's version.
 pub const LAST: u64 = 79;
 
 impl Random {
-    /// Returns the limit of a journal: a small one with probability 1 in `times`, and otherwise more entries than a
-    /// list makes.
+    /// Returns the limit of a journal: a small one with probability 1 in `times`, otherwise more entries than a list
+    /// makes.
     pub fn limit(&mut self, times: u64) -> u64
         requires { 0 < times }
     {
@@ -22,7 +22,7 @@ impl Random {
         }
     }
 
-    /// Returns a clock of small counters, rarely with the greatest counter.
+    /// Returns a clock of small counters, rarely with the maximum counter.
     fn counters(&mut self) -> [u64; NODES] {
         let mut counters = [0; NODES];
         for i in 0..NODES {
@@ -51,7 +51,7 @@ impl Random {
     }
 }
 
-/// Returns the crowd's version of a number, up to the last one. None is below another.
+/// Returns a version of the crowd by its number, at most `LAST`. None is below another.
 pub fn crowd_version(number: u64) -> PlainVersion
     requires { number ≤ LAST }
 {

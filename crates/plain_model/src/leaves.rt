@@ -14,7 +14,7 @@ pub struct Taken {
 }
 
 impl Taken {
-    /// Returns the outcome of a text that is not a leaf's.
+    /// Returns the outcome of a text that isn't a leaf's.
     pub fn none(alloc: Global) -> Taken {
         Taken {
             news: Vec::new(alloc),
@@ -24,8 +24,8 @@ impl Taken {
 }
 
 impl PlainRange {
-    /// Returns the outcome of a leaf of a partner's tree, whose versions are accepted one after the other; or the
-    /// reason why they are not all accepted: a version is one too many for its key, or the journal has no room for it.
+    /// Returns the outcome of a leaf of a partner's tree, whose versions are accepted in turn, or the reason why they
+    /// aren't all accepted: a version is one too many for its key, or the journal is full.
     pub fn take_leaf(
         &self,
         alloc: Global,

@@ -1,5 +1,6 @@
-//! A range, its sessions, the messages of its partners and the slots of its workers, by the definitions: the plain program
-//! with which `random_nodes` compares the libraries. It shares no code with them, only the types of their results.
+//! A range, its sessions, the messages of its partners and the slots of its workers, by the definitions: the plain
+//! program that `random_nodes` compares the libraries with. It shares no code with them, only the types of their
+//! results.
 #![tactic(auto)]
 
 pub mod catch_ups;

@@ -67,7 +67,8 @@ pub fn patch_bytes(
     Ok(bytes)
 }
 
-/// Returns the bytes with the kind of an answer, if they are those of a patch: an answer whose text is its steps.
+/// Returns the bytes of a patch with the kind of an answer, or `None` if they aren't a patch: an answer whose text is
+/// its steps.
 pub fn patch_as_answer(alloc: Global, bytes: &[u8]) -> Result<Option<Vec<u8>>, Trouble> {
     if bytes.first() != Some(&PATCH) {
         return Ok(None);
@@ -78,7 +79,7 @@ pub fn patch_as_answer(alloc: Global, bytes: &[u8]) -> Result<Option<Vec<u8>>, T
     Ok(is_patch.then_some(other))
 }
 
-/// Returns the text that steps make of these parts after a first byte, or `None` if they make none.
+/// Returns the text that steps make from these parts after a first byte, or `None` if they don't make one.
 pub fn made_text(
     alloc: Global,
     first: u8,
@@ -113,7 +114,7 @@ pub fn made_text(
     Ok(rest.is_empty().then_some(text))
 }
 
-/// Writes the parts from one number up to another. Returns false if there are fewer.
+/// Writes the parts `start..end`. Returns false if there are fewer.
 fn put_parts(parts: &[Vec<u8>], start: u64, end: u64, text: &mut Vec<u8>) -> Result<bool, Trouble> {
     let Some(copied) = parts.get(start as usize..end as usize) else {
         return Ok(false);
@@ -136,8 +137,8 @@ fn marks_of(alloc: Global, salt: &[u8], parts: &[Vec<u8>]) -> Result<Vec<Mark>, 
     Ok(marks)
 }
 
-/// Chooses the steps for parts with these marks: each is copied from the first place with its mark after the last one
-/// that was copied, or is new.
+/// Chooses the steps for parts with these marks: each part is new, or is copied from the first place with its mark
+/// after the last copied one.
 fn choose(alloc: Global, places: &[u8], marks: &[Mark]) -> Result<Vec<Step>, Trouble> {
     let mut steps = Vec::new(alloc);
     let mut from = 0usize;
@@ -153,7 +154,7 @@ fn choose(alloc: Global, places: &[u8], marks: &[Mark]) -> Result<Vec<Step>, Tro
     Ok(steps)
 }
 
-/// Returns the first place from one on that has a mark. Fewer than 1,024 follow.
+/// Returns the first place with a mark, from `from` on. Fewer than 1,024 places follow.
 fn place_of(places: &[u8], from: usize, mark: &Mark) -> Option<usize> {
     for (place, other) in places.chunks(WIDTH).enumerate() {
         if place >= from && other == mark.as_slice() {
@@ -163,7 +164,7 @@ fn place_of(places: &[u8], from: usize, mark: &Mark) -> Option<usize> {
     None
 }
 
-/// Adds a copy of a part to steps: to the last one, if that is a copy of the parts before it.
+/// Adds a copy of a part to the steps: extends the last one, if it copies the parts just before.
 fn put_copy(steps: &mut Vec<Step>, place: usize) -> Result<(), Trouble> {
     let longer = match steps.last() {
         Some(Step::Copy { first, count }) if first.wrapping_add(*count) == place => {

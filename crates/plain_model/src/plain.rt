@@ -7,17 +7,17 @@ use std::alloc::Global;
 use vclock::{Bytes, Clock, Format, Refusal};
 use version_set::{Kind, Version};
 
-/// The number of nodes that count in clocks: the nodes 1 to 4.
+/// The number of nodes that count in clocks: nodes 1 to 4.
 pub const NODES: usize = 4;
 
-/// The number of keys, which are numbered from 0. Those from 8 on are in the upper half of the ring, and most others in
-/// the lower one.
+/// The number of keys, which are numbered from 0. Keys from 8 on are in the upper half of the ring, most others in the
+/// lower half.
 pub const KEYS: u64 = 14;
 
 /// The maximum number of versions that are held for a key.
 const VERSIONS_MAX: usize = 64;
 
-/// The greatest limit of a journal.
+/// The maximum limit of a journal.
 const ENTRIES_MAX: u64 = 1_000_000;
 
 /// The reason of a refusal.
@@ -76,7 +76,7 @@ impl Fault {
     }
 }
 
-/// Returns the bytes of a key: the keys ascend by number. The key 0 is empty, and several keys are in one leaf.
+/// Returns the bytes of a key. Keys ascend by number. Key 0 is empty, and several keys share a leaf.
 pub fn key_bytes(key: u64) -> &'static [u8] {
     match key {
         0 => b"",
@@ -102,7 +102,7 @@ pub const LONG: u8 = b'l';
 /// The bytes of a long value.
 static LONG_BYTES: [u8; 300] = [LONG; 300];
 
-/// Returns the bytes of the value that a letter stands for.
+/// Returns the bytes of the value for a letter.
 fn value_bytes(letter: Option<u8>) -> &'static [u8] {
     match letter {
         None => b"",
@@ -112,13 +112,13 @@ fn value_bytes(letter: Option<u8>) -> &'static [u8] {
     }
 }
 
-/// Returns the first bits of a key's number, from which a range and a leaf are taken.
+/// Returns the first bits of a key's number, which give its range and its leaf.
 fn front(key: u64) -> u32 {
     let digest = Md5::digest(key_bytes(key));
     u32::from_be_bytes([digest[0], digest[1], digest[2], digest[3]])
 }
 
-/// A version: the counter of each node, 0 if it has not counted, and a value that a letter stands for, or no value.
+/// A version: the counter of each node, 0 if it hasn't counted, and a value, given by a letter, or no value.
 #[derive(Clone, Copy, PartialEq, Eq)]
 pub struct PlainVersion {
     pub counters: [u64; NODES],
@@ -142,7 +142,7 @@ impl PlainVersion {
         self.is_at_most(other) && self.counters != other.counters
     }
 
-    /// Returns true if its counter of a node, which is counted from 0, is greater than the other's.
+    /// Returns true if its counter of a node is greater than the other's. Nodes are numbered from 0 here.
     fn has_more(&self, node: u8, other: &PlainVersion) -> bool {
         for i in 0..NODES {
             if i == usize::from(node) && self.counters[i] > other.counters[i] {
@@ -152,7 +152,7 @@ impl PlainVersion {
         false
     }
 
-    /// Returns true if it equals the other or is below it.
+    /// Returns true if it equals the other version or is below it.
     pub fn is_covered_by(&self, other: &PlainVersion) -> bool {
         self == other || self.is_below(other)
     }
@@ -223,7 +223,7 @@ impl PlainVersion {
         Ok(Bytes::copy_of(alloc, value_bytes(self.value))?)
     }
 
-    /// Returns the version in the range's type.
+    /// Returns the version as the range's type.
     pub fn version(&self, alloc: Global) -> Result<Version, Trouble> {
         Ok(Version {
             clock: self.clock(alloc)?,
@@ -271,7 +271,7 @@ pub fn are_equal(plain: &[PlainVersion], versions: &[Version]) -> bool {
     plain.len() == versions.len()
 }
 
-/// Returns true if these clocks are those of the versions, in order.
+/// Returns true if the versions have these clocks, in order.
 pub fn are_clocks_of(clocks: &[Clock], versions: &[PlainVersion]) -> bool {
     for (version, clock) in versions.iter().zip(clocks) {
         if !version.has_clock(clock) {
@@ -290,7 +290,7 @@ pub struct PlainEntry {
     pub source: Source,
 }
 
-/// Returns true if an entry of a journal is this one, with this number.
+/// Returns true if a journal's entry equals this one and has this number.
 pub fn is_entry(entry: &Entry, number: usize, plain: &PlainEntry) -> bool {
     entry.number == number as u64
         && entry.seat == plain.seat
@@ -299,7 +299,7 @@ pub fn is_entry(entry: &Entry, number: usize, plain: &PlainEntry) -> bool {
         && plain.version.is(&entry.version)
 }
 
-/// The part of the ring that a range has.
+/// The part of the ring that a range covers.
 #[derive(Clone, Copy, PartialEq, Eq)]
 pub enum Part {
     /// All keys.
@@ -342,7 +342,7 @@ pub struct PlainRange {
 }
 
 impl PlainRange {
-    /// Returns the leaf of a key: the 8 or 12 bits after those of the range.
+    /// Returns the leaf of a key: the 8 or 12 bits after the range's bits.
     pub fn leaf_of(&self, key: u64) -> u16 {
         let front = if self.part == Part::Whole {
             front(key)
@@ -356,7 +356,7 @@ impl PlainRange {
         }
     }
 
-    /// Returns the reason why the range can't take a version, if there is one.
+    /// Returns the reason why the range can't take a version, if any.
     fn place_fault(&self, key: u64, version: &PlainVersion) -> Option<Fault> {
         let is_tombstone = version.kind == Kind::Tombstone;
         if key_bytes(key).is_empty() {
@@ -390,7 +390,7 @@ impl PlainRange {
         false
     }
 
-    /// Returns true if some accepted version has seen everything that the clock of this one has.
+    /// Returns true if the clock of some accepted version has seen all that the clock of this one has.
     fn has_seen(&self, key: u64, version: &PlainVersion) -> bool {
         for entry in &self.entries {
             if entry.key == key && version.is_at_most(&entry.version) {
@@ -400,7 +400,7 @@ impl PlainRange {
         false
     }
 
-    /// Returns true if some version that is held has a greater counter of a node than a context.
+    /// Returns true if some held version has a greater counter of a node than a context.
     fn has_more(&self, key: u64, node: u8, context: &PlainVersion) -> bool {
         for entry in &self.entries {
             let is_held = entry.key == key && !self.has_above(key, &entry.version);
@@ -425,8 +425,8 @@ impl PlainRange {
         count >= VERSIONS_MAX
     }
 
-    /// Returns the versions that are held for a key: the accepted ones that are below no other, each once, in the order
-    /// of their texts.
+    /// Returns the versions held for a key: the accepted ones that aren't below another, each once, in the order of
+    /// their texts.
     pub fn held(&self, alloc: Global, key: u64) -> Result<Vec<PlainVersion>, Trouble> {
         let mut held = Vec::new(alloc);
         for entry in &self.entries {
@@ -437,7 +437,7 @@ impl PlainRange {
         Ok(held)
     }
 
-    /// Returns the reason why the range isn't renewed with a limit, if there is one.
+    /// Returns the reason why the range isn't renewed with a limit, if any.
     pub fn renewal_fault(&self, alloc: Global, limit: u64) -> Result<Option<Fault>, Trouble> {
         if limit == 0 || limit > ENTRIES_MAX {
             return Ok(Some(Fault::BadRing));
@@ -450,8 +450,8 @@ impl PlainRange {
         })
     }
 
-    /// Returns the entries with which the range begins when it is renewed: one for each version held, as a copy, leaf by
-    /// leaf and key by key.
+    /// Returns the first entries of the range once it is renewed: one for each held version, as a copy, leaf by leaf
+    /// and key by key.
     pub fn held_entries(&self, alloc: Global, seat: u16) -> Result<Vec<PlainEntry>, Trouble> {
         let mut entries = Vec::new(alloc);
         for (_, key) in self.homes(alloc)? {
@@ -477,12 +477,12 @@ impl PlainRange {
         Ok(homes)
     }
 
-    /// Returns true if there is room for this number of entries more.
+    /// Returns true if the journal has capacity for this number of further entries.
     pub fn has_room(&self, more: usize) -> bool {
         (self.entries.len() as u64).wrapping_add(more as u64) <= self.limit
     }
 
-    /// Returns the reason why a new version has no room among those of its key, or in the journal, if there is one.
+    /// Returns the reason why a new version doesn't fit among its key's versions or in the journal, if any.
     fn room_fault(&self, key: u64, version: &PlainVersion) -> Option<Fault> {
         if self.is_crowded_by(key, version) {
             Some(Fault::Crowded)
@@ -493,7 +493,7 @@ impl PlainRange {
         }
     }
 
-    /// Returns an equal range with a copy of the entries.
+    /// Returns an equal range, with a copy of the entries.
     pub fn try_clone(&self) -> Result<PlainRange, Trouble> {
         Ok(PlainRange {
             format: self.format,
@@ -503,7 +503,7 @@ impl PlainRange {
         })
     }
 
-    /// Returns true if a version that another node sent is new, or the reason of its refusal.
+    /// Returns true if a version from another node is new, or the reason of its refusal.
     pub fn accept(&self, key: u64, version: &PlainVersion) -> Result<bool, Fault> {
         if let Some(fault) = self.place_fault(key, version) {
             return Err(fault);
@@ -517,8 +517,8 @@ impl PlainRange {
         }
     }
 
-    /// Returns the version that a put with this context makes at a node, which is counted from 0, or the reason of its
-    /// refusal. If `is_read` is true, the context must have seen all that the node put.
+    /// Returns the version that a put with this context makes at a node, numbered from 0, or the reason of its refusal.
+    /// If `is_read` is true, the context must have seen all that the node put.
     pub fn put(
         &self,
         key: u64,
@@ -540,7 +540,7 @@ impl PlainRange {
     }
 }
 
-/// Returns the version with a node's counter raised by one, or `None` if that is the greatest.
+/// Returns the version with a node's counter raised by one, or `None` if the counter is at its maximum.
 fn raised(mut version: PlainVersion, node: u8) -> Option<PlainVersion> {
     for i in 0..NODES {
         if i == usize::from(node) {
@@ -550,7 +550,7 @@ fn raised(mut version: PlainVersion, node: u8) -> Option<PlainVersion> {
     Some(version)
 }
 
-/// Inserts a version at its place, unless it is there.
+/// Inserts a version at its place, unless it is already there.
 fn insert(
     alloc: Global,
     format: Format,

@@ -8,10 +8,10 @@ pub const FLOOR: u32 = 1;
 
 pub const CEILING: u32 = 8;
 
-/// The latency over which the target falls, in microseconds.
+/// The latency above which the target falls, in microseconds.
 pub const THRESHOLD: u32 = 50_000;
 
-/// The age at which a sample doesn't count any more, in milliseconds.
+/// The age at which a sample no longer counts, in milliseconds.
 const WINDOW: u64 = 60_000;
 
 /// The latency of a call of the foreground, in microseconds, with its moment in milliseconds.
@@ -21,7 +21,7 @@ struct PlainSample {
     micros: u32,
 }
 
-/// The slots that are lent and may be, with all samples: there are fewer than a controller keeps.
+/// The lent and the free slots, with all samples: there are fewer than a controller keeps.
 #[derive(Drop)]
 pub struct PlainSlots {
     pub target: u32,
@@ -31,7 +31,7 @@ pub struct PlainSlots {
 }
 
 impl PlainSlots {
-    /// Returns slots of which none is lent, without samples.
+    /// Returns slots that are all free, without samples.
     pub fn new(alloc: Global) -> PlainSlots {
         PlainSlots {
             target: CEILING,

@@ -8,7 +8,7 @@ use std::alloc::Global;
 use tree_nodes::{Digest, NodeAt};
 use vclock::Format;
 
-/// A key with the versions that are held for it, and its leaf.
+/// A key with its held versions, and its leaf.
 #[derive(Drop)]
 pub struct PlainRow {
     pub key: u64,
@@ -44,7 +44,7 @@ pub fn width(depth: u8) -> u16 {
     }
 }
 
-/// Returns the nodes where two trees of one format differ, depth by depth and by rising index.
+/// Returns the nodes at which two trees of one format differ, depth by depth and by rising index.
 pub fn differing(alloc: Global, own: &Tree, other: &Tree) -> Result<Vec<NodeAt>, Trouble> {
     let mut nodes = Vec::new(alloc);
     for depth in 0..leaf_depth(own.format) + 1 {
@@ -227,7 +227,7 @@ fn has_leaf(rows: &[PlainRow], leaf: u16) -> bool {
     false
 }
 
-/// Returns the digests of the nodes above a level. A text that equals the one before isn't hashed again.
+/// Returns the digests of the nodes above a level. A text that equals the previous one isn't hashed again.
 fn level_above(alloc: Global, format: Format, below: &[Digest]) -> Result<Vec<Digest>, Trouble> {
     let mut level = Vec::new(alloc);
     let mut last = Vec::new(alloc);

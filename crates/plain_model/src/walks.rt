@@ -91,7 +91,7 @@ impl Walk {
         node.depth == leaf_depth(self.format)
     }
 
-    /// Returns the reason why a text isn't taken, if there is one. `partners` is the partner's text of the node.
+    /// Returns the reason why a text isn't taken, if any. `partners` is the partner's text of the node.
     pub fn fault_of(&self, node: NodeAt, text: &[u8], partners: &[u8]) -> Option<Fault> {
         if !self.outstanding.contains(&node) {
             return Some(Fault::NotAsked);
@@ -112,8 +112,7 @@ impl Walk {
         }
     }
 
-    /// Changes the walk as a taken text does: the node is no longer outstanding, and the children that differ are
-    /// asked.
+    /// Updates the walk for a taken text: the node is no longer outstanding, and the children that differ are asked.
     pub fn take(&mut self, sent: Sent) -> Result<(), Trouble> {
         self.outstanding.retain(|other| *other != sent.node);
         if !self.is_leaf(sent.node) {
@@ -138,7 +137,7 @@ impl Walk {
         Ok(())
     }
 
-    /// Changes the walk as an end before it is finished does.
+    /// Ends the walk in a state, if it is still open.
     pub fn end(&mut self, state: SessionState) {
         if self.state == SessionState::Open {
             self.outstanding.clear();
@@ -146,7 +145,7 @@ impl Walk {
         }
     }
 
-    /// Returns true if a session with a partner equals the walk.
+    /// Returns true if a session with a partner matches the walk.
     pub fn is(&self, partner: u16, session: &Session) -> bool {
         partner == self.partner.at
             && session.root() == self.partner.root
@@ -157,7 +156,7 @@ impl Walk {
             && session.taken().len() == self.taken.len()
     }
 
-    /// Returns true if a session took the walk's texts.
+    /// Returns true if a session took the same texts as the walk.
     pub fn has_taken(&self, taken: &[Taken]) -> bool {
         for (sent, other) in self.taken.iter().zip(taken) {
             if sent.node != other.node() || sent.text.as_slice() != other.text().text() {

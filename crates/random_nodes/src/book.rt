@@ -11,25 +11,25 @@ use tree_nodes::NodeAt;
 /// The size in bytes of the text of an inner node: a byte and 16 digests.
 const INNER_LEN: u64 = 513;
 
-/// The maximum number of asks on their way with one for a leaf, while no leaf was taken.
+/// The maximum number of asks in progress with one for a leaf, while no leaf was taken.
 const FIRST_LEAVES: u64 = 16;
 
-/// The number of outlines in a row without a text after which none is sent.
+/// The number of consecutive misses, outlines that led to no text, after which no more outlines are sent.
 const MISSES: u64 = 3;
 
-/// How far the ask for a node is.
+/// The progress of the ask for a node.
 #[derive(Clone, Copy, PartialEq, Eq)]
 pub(crate) enum Way {
-    /// It is on its way. Its answer is expected to have so many bytes.
+    /// It is in progress. Its answer is expected to have that many bytes.
     Open(u64),
-    /// It is on its way as an outline.
+    /// It is in progress as an outline.
     Outlined(u64),
     Lost,
     Left,
     Settled,
 }
 
-/// A node that was asked, and how far the last ask for it is.
+/// A node that was asked, and the progress of its last ask.
 #[derive(Clone, Copy)]
 struct Asked {
     node: NodeAt,
@@ -46,7 +46,7 @@ pub(crate) struct Took {
     pub(crate) state: SessionState,
 }
 
-/// What became of an answer.
+/// The outcome of an answer.
 #[derive(Clone, Copy)]
 pub(crate) enum Ruling {
     Taken(Took),
@@ -61,7 +61,7 @@ pub(crate) enum Ruling {
 pub(crate) struct Book {
     bounds: Bounds,
     asked: Vec<Asked>,
-    /// The number of outlines in a row that brought no text.
+    /// The number of consecutive outlines that led to no text.
     misses: u64,
     pub(crate) tally: Tally,
     is_stopped: bool,
@@ -69,7 +69,7 @@ pub(crate) struct Book {
 }
 
 impl Book {
-    /// Returns the book of an exchange that has asked nothing. `end` is its end, if it has nothing to ask.
+    /// Returns the book of an exchange that has asked nothing. `end` is its last report, if it has nothing to ask.
     pub(crate) fn new(alloc: Global, bounds: Bounds, end: Option<Report>) -> Book {
         Book {
             bounds,
@@ -90,7 +90,7 @@ impl Book {
         }
     }
 
-    /// Returns how far the ask for a node is, or `None` if it was never asked.
+    /// Returns the progress of the ask for a node, or `None` if it was never asked.
     pub(crate) fn way(&self, node: NodeAt) -> Option<Way> {
         for asked in &self.asked {
             if asked.node == node {
@@ -100,7 +100,7 @@ impl Book {
         None
     }
 
-    /// Changes how far the ask for a node is.
+    /// Sets the progress of the ask for a node.
     fn set(&mut self, node: NodeAt, way: Way) -> Result<(), Trouble> {
         for place in 0..self.asked.len() {
             if self.asked[place].node == node {
@@ -116,7 +116,7 @@ impl Book {
         Ok(())
     }
 
-    /// Returns the number of asks on their way, and the number of bytes that their answers are expected to have.
+    /// Returns the number of asks in progress, and the expected size of their answers in bytes.
     pub(crate) fn on_way(&self) -> (u64, u64) {
         let (mut count, mut bytes) = (0u64, 0u64);
         for asked in &self.asked {
@@ -128,12 +128,12 @@ impl Book {
         (count, bytes)
     }
 
-    /// Returns true if it has ended, or there were too many bad answers or lost asks.
+    /// Returns true if the exchange has ended, or too many answers were bad or asks lost.
     pub(crate) fn is_over(&self) -> bool {
         self.end.is_some() || self.has_too_many_bad() || self.has_too_many_lost()
     }
 
-    /// Returns true if it has ended.
+    /// Returns true if the exchange has ended.
     pub(crate) fn has_ended(&self) -> bool {
         self.end.is_some()
     }
@@ -148,8 +148,8 @@ impl Book {
         self.tally.lost > u64::from(self.bounds.lost)
     }
 
-    /// Returns the first of some outstanding nodes that may be asked: its ask isn't on its way, and it wasn't left. There
-    /// is none if asks have stopped, or it is over.
+    /// Returns the first of some outstanding nodes that may be asked: its ask isn't in progress, and it wasn't left.
+    /// Returns `None` if asks have stopped, or the exchange is over.
     pub(crate) fn askable(&self, outstanding: &[NodeAt]) -> Option<NodeAt> {
         if self.is_stopped || self.is_over() {
             return None;
@@ -162,8 +162,8 @@ impl Book {
         None
     }
 
-    /// Sends the ask for a node, if there is room for it, and returns true if it was sent. The local text of a leaf has
-    /// this length; an inner node has none.
+    /// Sends the ask for a node, if it is within the bounds, and returns true if it was sent. `local_leaf` is the
+    /// length of a leaf's local text, or `None` for an inner node.
     pub(crate) fn send(&mut self, node: NodeAt, local_leaf: Option<u64>) -> Result<bool, Trouble> {
         let bytes = match local_leaf {
             Some(len) => self.leaf_size(len),
@@ -177,8 +177,8 @@ impl Book {
         Ok(has_room)
     }
 
-    /// Returns the expected size of a leaf's text: that of the local rows, which is the local text without its first
-    /// byte, or the mean of the leaves that were taken if that is more.
+    /// Returns the expected size of a leaf's text: the size of the local rows, which is the local text without its
+    /// first byte, or the mean size of the taken leaves if that is more.
     fn leaf_size(&self, local_text: u64) -> u64 {
         let mean = self
             .tally
@@ -188,7 +188,7 @@ impl Book {
         local_text.saturating_sub(1).max(mean)
     }
 
-    /// Returns true if one more ask may be on its way, whose answer has so many bytes.
+    /// Returns true if one more ask may be sent, whose answer has this number of bytes.
     fn has_room(&self, is_leaf: bool, bytes: u64) -> bool {
         let (count, sum) = self.on_way();
         let mut most = u64::from(self.bounds.asks);
@@ -198,7 +198,7 @@ impl Book {
         count == 0 || (count < most && sum.saturating_add(bytes) <= self.bounds.bytes)
     }
 
-    /// Takes the ask for a node as lost if it is on its way. Returns true if it was.
+    /// Marks the ask for a node as lost, if it is in progress. Returns true if it was.
     fn miss(&mut self, node: NodeAt) -> Result<bool, Trouble> {
         let is_open = matches!(self.way(node), Some(Way::Open(_) | Way::Outlined(_)));
         if is_open {
@@ -207,7 +207,7 @@ impl Book {
         Ok(is_open)
     }
 
-    /// Counts the ask for a node as lost, if it is on its way.
+    /// Counts the ask for a node as lost, if it is in progress.
     pub(crate) fn lose(&mut self, node: NodeAt) -> Result<(), Trouble> {
         if !self.is_over() && !self.miss_outline(node)? && self.miss(node)? {
             self.tally.lost = self.tally.lost.wrapping_add(1);
@@ -215,7 +215,7 @@ impl Book {
         Ok(())
     }
 
-    /// Returns true if an outline of a node may be sent: its ask is on its way, and no outline of it was ever sent.
+    /// Returns true if an outline of a node may be sent: its ask is in progress, and no outline of it was ever sent.
     pub(crate) fn may_outline(&self, node: NodeAt) -> bool {
         for asked in &self.asked {
             if asked.node == node {
@@ -226,7 +226,7 @@ impl Book {
         false
     }
 
-    /// Sends an outline in place of an ask that is on its way.
+    /// Sends an outline in place of an ask in progress.
     pub(crate) fn outline(&mut self, node: NodeAt) {
         for place in 0..self.asked.len() {
             if self.asked[place].node == node
@@ -238,12 +238,12 @@ impl Book {
         }
     }
 
-    /// Returns true if the ask for a node is on its way as an outline.
+    /// Returns true if the ask for a node is in progress as an outline.
     pub(crate) fn awaits_patch(&self, node: NodeAt) -> bool {
         matches!(self.way(node), Some(Way::Outlined(_)))
     }
 
-    /// Takes back the ask for a node if it is on its way as an outline, which brought no text. Returns true if it was.
+    /// Takes back the ask for a node, if it is in progress as an outline, which led to no text. Returns true if it was.
     pub(crate) fn miss_outline(&mut self, node: NodeAt) -> Result<bool, Trouble> {
         let is_out = self.awaits_patch(node);
         if is_out {
@@ -254,15 +254,15 @@ impl Book {
         Ok(is_out)
     }
 
-    /// Begins the count of misses anew if the ask for a node is on its way as an outline, which brought a text. After
-    /// three misses it stays.
+    /// Resets the count of misses, if the ask for a node is in progress as an outline, which led to a text. After three
+    /// misses the count remains.
     fn end_outline(&mut self, node: NodeAt) {
         if self.awaits_patch(node) && self.misses < MISSES {
             self.misses = 0;
         }
     }
 
-    /// Goes on after there was no room. The asks whose answers were refused count as lost.
+    /// Continues after the range was full. The asks whose answers were refused count as lost.
     pub(crate) fn go_on(&mut self) {
         if !self.is_over() {
             self.tally.lost = self.tally.lost.wrapping_add(self.tally.refused);
@@ -271,7 +271,7 @@ impl Book {
         }
     }
 
-    /// Ends it, if it hasn't ended.
+    /// Closes the exchange, unless it has ended.
     pub(crate) fn close(&mut self) {
         self.end = self.end.or(Some(Report::Closed));
     }
@@ -336,7 +336,7 @@ impl Book {
         }
     }
 
-    /// Returns how far the exchange is.
+    /// Returns the progress of the exchange.
     pub(crate) fn report(&self, walk: Option<&Walk>) -> Report {
         if let Some(end) = self.end {
             return end;
@@ -347,7 +347,7 @@ impl Book {
         }
     }
 
-    /// Returns how far the exchange of an open session is.
+    /// Returns the progress of the exchange of an open session.
     fn open_report(&self, walk: &Walk) -> Report {
         if self.has_too_many_bad() {
             return Report::TooManyBad;

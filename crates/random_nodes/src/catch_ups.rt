@@ -1,5 +1,5 @@
-//! Renewals of a closed node beside the events of its exchange: each begins from a moment, is made, catches up with some
-//! entries at a time, and is finished. Seldom a stranger is tried in place of the node.
+//! Renewals of a closed node alongside the events of its exchange. Each begins from a moment, is made, catches up with
+//! a few entries at a time, and is finished. In rare cases a stranger is tried in place of the node.
 
 use crate::exchanges::{copy, draw_copy};
 use crate::mirror::Mirror;
@@ -18,17 +18,17 @@ use vclock::Format;
 /// The seat of all entries of a new range.
 const SEAT: u16 = 3;
 
-/// The renewals of a node, of which one at a time is in progress.
+/// The renewals of a node. One at a time is in progress.
 #[derive(Drop)]
 pub(crate) struct CatchUps {
-    /// Draws the steps, so that the events of the exchange are drawn as they are without renewals.
+    /// The generator of the steps. The events of the exchange are drawn by another one, so renewals don't change them.
     random: Random,
     /// True if the node is renewed.
     is_due: bool,
     stage: Stage,
 }
 
-/// How far a renewal is.
+/// The progress of a renewal.
 #[derive(Drop)]
 enum Stage {
     /// None is in progress.
@@ -39,14 +39,14 @@ enum Stage {
     Made(Made),
 }
 
-/// A new range, and what it must be.
+/// A new range, and its expected state.
 struct Made {
     renewal: Renewal,
     plain: PlainRenewal,
 }
 
 impl CatchUps {
-    /// Draws whether a node is renewed: in one of five lists some node is. If so, a renewal begins.
+    /// Draws whether a node is renewed, and begins the renewal. Some node is renewed in one of five lists.
     pub(crate) fn draw(
         alloc: Global,
         mut random: Random,
@@ -80,7 +80,7 @@ impl CatchUps {
         Ok(())
     }
 
-    /// Finishes the renewal that is in progress, if it has a new range.
+    /// Finishes the renewal in progress, if it has a new range.
     pub(crate) fn end(
         self,
         alloc: Global,
@@ -100,7 +100,7 @@ impl CatchUps {
 }
 
 impl Stage {
-    /// Does the next step, or has the node accept a random version in place of it.
+    /// Does the next step, or has the node accept a random version instead.
     fn next(
         self,
         alloc: Global,
@@ -121,7 +121,7 @@ impl Stage {
     }
 }
 
-/// Begins a renewal from the last moment, which is hashed, or seldom from one that is held now.
+/// Begins a renewal from the last moment, which is hashed, or rarely from a new one.
 fn begin(alloc: Global, random: &mut Random, here: &mut Closed) -> Result<Stage, Trouble> {
     if random.once_in(4) {
         here.hold(alloc)?;
@@ -141,7 +141,7 @@ fn begin(alloc: Global, random: &mut Random, here: &mut Closed) -> Result<Stage,
     }
 }
 
-/// Makes the new range from the rows of the moment, with a limit that is seldom refused.
+/// Makes the new range from the rows of the moment, with a limit that is rarely refused.
 fn make(
     alloc: Global,
     random: &mut Random,
@@ -172,7 +172,7 @@ fn make(
 }
 
 impl Made {
-    /// Catches up with up to three entries, or finishes. Seldom tries one of these with a stranger.
+    /// Catches up with up to three entries, or finishes. Rarely tries one of these with a stranger.
     fn go_on(
         mut self,
         alloc: Global,
@@ -214,7 +214,7 @@ impl Made {
         self.check()
     }
 
-    /// Puts the new range in the place of a node's, and compares the one that is returned.
+    /// Replaces a node's range by the new one, and compares the old range that is returned.
     fn finish(
         mut self,
         alloc: Global,

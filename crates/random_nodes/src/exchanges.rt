@@ -1,5 +1,6 @@
-//! Exchanges of closed nodes with each other, beside the plain program: answers in any order, lost, late, repeated, false
-//! or of another node, with copies, renewals and migrations in between. Half of them send outlines, which patches answer.
+//! Exchanges of closed nodes with each other, compared with the plain program: answers in any order, lost, late,
+//! repeated, false or of another node, with copies, renewals and migrations in between. Half of the exchanges send
+//! outlines, which get patches.
 ghost use Rattle.std.specs.Prelude.{◌<◌};
 
 use crate::book::{Book, Ruling, Took, Way};
@@ -37,10 +38,10 @@ const LAST_ASKS: u64 = 200;
 /// The text of each node of a partner that forges.
 const JUNK: &[u8] = b"\x01bc";
 
-/// The room for most outlines.
+/// The maximum length of most outlines, in bytes.
 const ROOM: usize = 4_096;
 
-/// A partner's offer, and its tree: none if it forges.
+/// A partner's offer, and its tree, or `None` if it forges.
 #[derive(Drop)]
 struct Partner {
     at: u16,
@@ -48,13 +49,13 @@ struct Partner {
     tree: Option<Arc<Tree, Global>>,
 }
 
-/// An exchange, and what it must be.
+/// An exchange, and its expected state.
 struct Dialogue {
     exchange: Exchange,
     book: Book,
     /// The number of its session, if one was opened.
     session: Option<u64>,
-    /// The nodes that were asked, each as often as it was.
+    /// The nodes that were asked, once for each ask.
     sent: Vec<NodeAt>,
     /// True if it sends outlines.
     has_outlines: bool,
@@ -62,15 +63,15 @@ struct Dialogue {
     patches: Patches,
 }
 
-/// The number of texts that were taken of patches.
+/// The number of texts that were taken from patches.
 #[derive(Clone, Copy)]
 pub(crate) struct Patches {
     pub(crate) of_inner: u64,
     pub(crate) of_leaves: u64,
 }
 
-/// Has a closed node take from another one what it lacks by an exchange with random events, and compares all that it
-/// shows. Seldom the node is renewed beside these events.
+/// Has a closed node take the versions that it is missing from another one, by an exchange with random events, and
+/// compares all its results. Rarely the node is renewed alongside these events.
 pub(crate) fn exchange_with(
     alloc: Global,
     random: &mut Random,
@@ -155,7 +156,7 @@ impl Partner {
         self.claim(alloc, outline, (self.offer.offer, node), node)
     }
 
-    /// Returns an answer of an offer for a node that has another node's text, or a patch that makes it.
+    /// Returns an answer of an offer for a node, with another node's text or a patch that makes it.
     fn claim(
         &self,
         alloc: Global,
@@ -205,7 +206,7 @@ impl Partner {
     }
 }
 
-/// Opens an exchange of a node with a partner. Returns `None` if that is refused, and must be.
+/// Opens an exchange of a node with a partner. Returns `None` if it is refused, as expected.
 fn open(
     alloc: Global,
     random: &mut Random,
@@ -342,7 +343,7 @@ impl Dialogue {
         }
     }
 
-    /// Sends the next ask, if there is one, or an outline in its place.
+    /// Sends the next ask, if any, or an outline in its place.
     fn ask(&mut self, alloc: Global, random: &mut Random, here: &Closed) -> Result<(), Trouble> {
         let sent = here.range.next_ask(&mut self.exchange);
         expect(
@@ -356,7 +357,7 @@ impl Dialogue {
         Ok(())
     }
 
-    /// Sends the outline of a node, if it sends outlines and one is due. Seldom there is little room.
+    /// Sends the outline of a node, if the exchange sends outlines and one is due. Rarely the maximum length is small.
     fn outline(
         &mut self,
         alloc: Global,
@@ -388,7 +389,7 @@ impl Dialogue {
         }
     }
 
-    /// Returns the bytes of the outline of a node that is sent by the definitions, if any.
+    /// Returns the bytes of the outline that the definitions send for a node, if any.
     fn due_outline(
         &self,
         alloc: Global,
@@ -414,7 +415,7 @@ impl Dialogue {
         None
     }
 
-    /// Draws whether a node is answered by a patch, and returns its outline if so.
+    /// Draws whether the answer for a node is a patch, and returns its outline if so.
     fn draw_outline(&self, random: &mut Random, node: NodeAt) -> Option<&[u8]> {
         if random.once_in(4) {
             return None;
@@ -422,7 +423,7 @@ impl Dialogue {
         self.sent_outline(node)
     }
 
-    /// Sends the next ask by the definitions. Returns true if it is for this node, or there is none.
+    /// Sends the next ask by the definitions. Returns true if it is for `sent`, or both are `None`.
     fn is_next(
         &mut self,
         alloc: Global,
@@ -449,7 +450,8 @@ impl Dialogue {
         expect(is_by(&verdict, ruling), "the verdict of an exchange")
     }
 
-    /// Hands an answer to the exchange with the range of another node: it is late, and that range is unchanged.
+    /// Passes an answer to the exchange with the range of another node: the answer is late, and that range is
+    /// unchanged.
     fn take_elsewhere(
         &mut self,
         alloc: Global,
@@ -497,7 +499,7 @@ impl Dialogue {
         }
     }
 
-    /// Takes a patch by the definitions, which is given with the kind of an answer.
+    /// Takes a patch, which has the kind of an answer here, by the definitions.
     fn rule_patch(
         &mut self,
         alloc: Global,
@@ -552,7 +554,7 @@ impl Dialogue {
         }
     }
 
-    /// Answers each ask truly, those on their way first, until none is sent any more.
+    /// Answers each ask truly, those in progress first, until no more are sent.
     fn answer_rest(
         &mut self,
         alloc: Global,
@@ -576,7 +578,7 @@ impl Dialogue {
         Err(Trouble::Differs("the end of the asks of an exchange"))
     }
 
-    /// Takes the true answer for a node, or the patch if its ask is on its way as an outline.
+    /// Takes the true answer for a node, or the patch if its ask is in progress as an outline.
     fn take_true(
         &mut self,
         alloc: Global,
@@ -605,7 +607,7 @@ impl Dialogue {
         self.book.close();
     }
 
-    /// Compares what the exchange shows.
+    /// Compares the results of the exchange.
     fn check(&self, alloc: Global, here: &Closed) -> Result<(), Trouble> {
         let walk = walk_of(&here.mirror, self.session);
         let same = self.exchange.tally() == self.book.tally;
@@ -625,7 +627,7 @@ impl Dialogue {
         Ok(())
     }
 
-    /// Draws a node that was asked, if there is one.
+    /// Draws a node that was asked, if any.
     fn draw_sent(&self, random: &mut Random) -> Option<NodeAt> {
         let place = random.below(1 + self.sent.len() as u64);
         self.sent.get(place as usize).copied()
@@ -706,7 +708,7 @@ pub(crate) fn copy(
     here.mirror.check_sent(entry, &reply, wanted)
 }
 
-/// Renews or migrates the range of a node, rarely.
+/// Rarely renews or migrates the range of a node.
 fn turn(alloc: Global, random: &mut Random, here: &mut Closed) -> Result<(), Trouble> {
     match random.below(12) {
         0 => {
@@ -753,7 +755,7 @@ fn draw_node(random: &mut Random) -> Option<NodeAt> {
     NodeAt::new(depth, random.below(1 << (4 * u64::from(depth))) as u16)
 }
 
-/// Returns the place of a session among those that a node has, if it has it.
+/// Returns the place of a session among a node's sessions, if it is one of them.
 fn place_of(here: &Mirror, session: Option<u64>) -> Option<usize> {
     let session = session?;
     here.sessions.iter().position(|number| *number == session)
@@ -764,7 +766,7 @@ fn walk_of(here: &Mirror, session: Option<u64>) -> Option<&Walk> {
     here.walks.get(place_of(here, session)?)
 }
 
-/// Returns true if a verdict is the one of the definitions.
+/// Returns true if a verdict agrees with the definitions.
 fn is_by(verdict: &Verdict, ruling: Ruling) -> bool {
     match (verdict, ruling) {
         (Verdict::Taken(taken), Ruling::Taken(took)) => {

@@ -1,4 +1,4 @@
-//! Partners whose digests are right and whose texts are not a node's.
+//! Partners whose texts match their digests but don't belong to any node.
 ghost use Rattle.ring_node.specs.Links.{CountsLosses};
 
 use hash_tree::inner_text;
@@ -13,8 +13,8 @@ use walk_messages::{Answer, Ask, Message, Offer, decode, encode};
 /// A forger's text of each node below the root.
 const JUNK: &[u8] = b"abc";
 
-/// A link to a partner whose texts have the offered digests and are not a node's: either the root's text, or those
-/// below it.
+/// A link to a partner whose texts match the offered digests but don't belong to any node: either the root's text, or
+/// the texts below it.
 #[derive(Drop)]
 pub(crate) struct Forger {
     alloc: Global,
@@ -60,7 +60,7 @@ impl Forger {
         encode(self.alloc, &Message::Offer(offer))
     }
 
-    /// Returns the message that answers an ask.
+    /// Returns the message of the answer to an ask.
     fn answered(&self, ask: &Ask) -> Result<Vec<u8>, Refusal> {
         let text = if ask.node.depth == 0 {
             self.root.as_slice()

@@ -7,7 +7,7 @@ use std::alloc::Global;
 use tree_nodes::NodeAt;
 use vclock::Refusal;
 
-/// Returns the deeds of a link's first calls. Once in `lies` calls it fails or lies, or never if that is 0.
+/// Returns the deeds of a link's first calls. The link fails or lies once in `lies` calls, or never if `lies` is 0.
 pub(crate) fn random_deeds(
     alloc: Global,
     random: &mut Random,
@@ -57,7 +57,7 @@ fn random_node(random: &mut Random) -> Deed {
     }
 }
 
-/// Returns a place in a message, which is mostly in its head.
+/// Returns a place in a message, mostly in its head.
 fn random_place(random: &mut Random) -> usize {
     let bound = if random.once_in(3) { 600 } else { 40 };
     random.below(bound) as usize

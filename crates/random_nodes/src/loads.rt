@@ -31,8 +31,8 @@ impl<'a, G: Gate> Gate for Reading<'a, G> {
     }
 }
 
-/// Loads the rows of the leaf of a key that another node offers, if that has an offer in this node's format. If a step
-/// migrates the range meanwhile, the rows are broken, unless there are none: they are of format 1.
+/// Loads the rows of a key's leaf from another node's offer, if that node has one in this node's format. If a step
+/// migrates the range meanwhile, the rows are broken, since they have format 1, unless the leaf is empty.
 pub(crate) fn run_load<L: Ledger, M: Ledger, G: Gate, R: Wait>(
     rt: &R,
     alloc: Global,

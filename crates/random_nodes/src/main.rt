@@ -1,11 +1,11 @@
-//! Runs lists of random steps that are done to three nodes, with their real workers, in one thread. At each point of a
-//! rehash worker, before each call of a sync worker's link, and before a load takes its lock, the gate may take the next
-//! steps of the list, three deep. So each list is one interleaving of whole nodes, which its seed repeats. At the end the
-//! nodes are closed, and each takes from the next one by an exchange with random events, beside which some are renewed.
-//! All results and states are compared with a plain program written from the definitions.
+//! Runs lists of random steps on three nodes, with their real workers, in one thread. At each point of a rehash worker,
+//! before each call of a sync worker's link, and before a load takes its lock, the gate may take the next steps of the
+//! list, three deep. Each list is one interleaving of whole nodes, which its seed repeats. At the end the nodes are
+//! closed, and each takes from the next one by an exchange with random events; some nodes are renewed alongside. All
+//! results and states are compared with a plain program written from the definitions.
 //!
-//! The words on the command line are the seed of the first list, the number of lists, and the number of steps of a list.
-//! The defaults are 0, 1,000 and 60.
+//! The arguments are the seed of the first list, the number of lists, and the number of steps of a list. The defaults
+//! are 0, 1,000 and 60.
 #![tactic(auto)]
 
 mod book;
@@ -46,10 +46,10 @@ use tally::Tally;
 /// The usage line.
 const USAGE: &str = "usage: random_nodes [SEED LISTS STEPS]";
 
-/// The lists that are run.
+/// The lists to run.
 #[derive(Clone, Copy)]
 struct Run {
-    /// The seed of the first list. Those of the others follow.
+    /// The seed of the first list. The seeds of the others follow.
     seed: u64,
     /// The number of lists.
     lists: u64,
@@ -68,7 +68,7 @@ fn main(rt: HostRuntime) -> ExitCode {
     }
 }
 
-/// Reads the words on the command line.
+/// Reads the arguments.
 fn read_words(rt: &(impl Env + AllocGlobal)) -> Option<Run> {
     let words: Vec<String> = env::args(rt).ok()?.collect(rt.alloc()).ok()?;
     match words.as_slice() {
@@ -86,7 +86,7 @@ fn read_words(rt: &(impl Env + AllocGlobal)) -> Option<Run> {
     }
 }
 
-/// Runs lists up to the first one in which something differs. Returns true if there is none.
+/// Runs lists up to the first one with a difference. Returns true if no list has one.
 fn run_lists<R>(rt: &R, run: Run) -> io::Result<bool>
 where
     R: Print + Eprint + AllocGlobal + Wait,

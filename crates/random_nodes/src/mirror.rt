@@ -60,11 +60,11 @@ pub(crate) struct Mirror {
     pub(crate) newest: u32,
     pub(crate) hints: Vec<PlainHint>,
     pub(crate) is_down: bool,
-    /// The number of workers that hash which were started.
+    /// The number of hashing workers that were started.
     pub(crate) workers: u64,
-    /// The number of entries at the moment that the range keeps, if it keeps one.
+    /// The number of entries at the moment that the range keeps, if any.
     pub(crate) moment: Option<usize>,
-    /// The number of times that a moment was held or let go of.
+    /// The number of times that a moment was held or dropped.
     pub(crate) moments: u64,
     reads: Vec<Read>,
     trouble: Option<Trouble>,
@@ -102,7 +102,7 @@ impl Mirror {
         }
     }
 
-    /// Takes the trouble, if there is some.
+    /// Takes the trouble, if any.
     pub(crate) fn take_trouble(&mut self) -> Option<Trouble> {
         self.trouble.take()
     }
@@ -171,7 +171,7 @@ impl Mirror {
         }
     }
 
-    /// Compares the result of a version that was sent, and journals the version if it is new.
+    /// Compares the result of a sent version, and journals the version if it is new.
     pub(crate) fn check_sent(
         &mut self,
         entry: PlainEntry,
@@ -211,7 +211,7 @@ impl Mirror {
         count
     }
 
-    /// Holds a moment with this number of entries, or lets go of it.
+    /// Holds a moment with this number of entries, or drops it.
     pub(crate) fn set_moment(&mut self, moment: Option<usize>) {
         self.moment = moment;
         self.moments = self.moments.wrapping_add(1);
@@ -230,7 +230,7 @@ impl Mirror {
         Tree::new(alloc, &self.at_moment()?)
     }
 
-    /// Returns the tree that was offered under a root, if there is one.
+    /// Returns the tree that was offered under a root, if any.
     pub(crate) fn with_root(&self, root: &Digest) -> Result<Option<Arc<Tree, Global>>, Trouble> {
         for published in &self.published {
             if published.tree.root() == *root {
@@ -240,7 +240,7 @@ impl Mirror {
         Ok(None)
     }
 
-    /// Returns the tree of the offer of a number, if the offer is kept.
+    /// Returns the tree of the offer with a number, if the offer is kept.
     pub(crate) fn kept(&self, number: u32) -> Option<&Tree> {
         if number == 0 || number.saturating_add(KEPT) <= self.newest {
             return None;
@@ -258,7 +258,7 @@ impl Mirror {
         self.newest.min(KEPT)
     }
 
-    /// Migrates to format 2, unless it has that format: no session is open then.
+    /// Migrates to format 2, and cancels the open sessions, unless it already has that format.
     pub(crate) fn migrate(&mut self) {
         if self.plain.format == Format::One {
             self.plain.format = Format::Two;
@@ -282,7 +282,7 @@ impl Mirror {
         Ok(())
     }
 
-    /// Drops the sessions that have ended, and tells each partner's entry as a copy.
+    /// Drops the sessions that have ended, and marks each partner's entry as a copy.
     pub(crate) fn drop_ended_sessions(&mut self, alloc: Global) -> Result<(), Trouble> {
         let walks = replace(&mut self.walks, Vec::new(alloc));
         let sessions = replace(&mut self.sessions, Vec::new(alloc));
@@ -302,7 +302,7 @@ impl Mirror {
         Ok(())
     }
 
-    /// Begins anew with the versions held, as entries of a seat, without sessions; and with the hints that are pending.
+    /// Begins again with the held versions, as entries of a seat, and the pending hints, without sessions.
     pub(crate) fn renew(&mut self, alloc: Global, seat: u16, limit: u64) -> Result<(), Trouble> {
         let renewal = self.plain.renewal(alloc, seat, limit)?;
         self.replace_range(alloc, renewal.range);
@@ -310,7 +310,7 @@ impl Mirror {
         Ok(())
     }
 
-    /// Puts another range in the place of this one, without sessions.
+    /// Replaces the range, and drops the sessions.
     pub(crate) fn replace_range(&mut self, alloc: Global, plain: PlainRange) {
         self.plain = plain;
         self.set_moment(None);

@@ -36,7 +36,7 @@ impl<'a, G: Gate> Gate for Watch<'a, G> {
     }
 }
 
-/// Holds a moment of a node, hashes it, and compares the report with what was done.
+/// Holds a moment of a node, hashes it, and compares the report with the work done.
 pub(crate) fn run_moment<L: Ledger, C: Ledger, G: Gate, R: Wait>(
     rt: &R,
     alloc: Global,

@@ -1,6 +1,6 @@
-//! A node: its replica of the range, its offers, the hints that it keeps, and the same by the definitions. Each call is
-//! made on both, and their results are compared. Its methods have no clauses, so a function that calls them carries no
-//! facts about a node, and is proved fast.
+//! A node: its replica of the range, its offers, the hints that it keeps, and the same node by the definitions. Each
+//! call is made on both, and their results are compared. Its methods have no clauses, so a function that calls them
+//! carries no facts about a node, and is proved fast.
 ghost use Rattle.std.specs.Prelude.{◌≡◌, ◌≤◌};
 
 use crate::mirror::{Mirror, PlainHint, Published};
@@ -110,7 +110,7 @@ impl<L: Ledger> Node<L> {
         self.mirror.lock(rt).plain.format
     }
 
-    /// Returns the first trouble of the node as a partner, if there is some.
+    /// Returns the first trouble of the node as a partner, if any.
     pub(crate) fn check<R: Wait>(&self, rt: &R) -> Result<(), Trouble> {
         match self.mirror.lock(rt).take_trouble() {
             Some(trouble) => Err(trouble),
@@ -123,12 +123,12 @@ impl<L: Ledger> Node<L> {
         self.mirror.lock(rt).is_down
     }
 
-    /// Returns the number of workers that hash which were started.
+    /// Returns the number of hashing workers that were started.
     pub(crate) fn workers<R: Wait>(&self, rt: &R) -> u64 {
         self.mirror.lock(rt).workers
     }
 
-    /// Counts a worker that hashes.
+    /// Counts a hashing worker.
     pub(crate) fn count_worker<R: Wait>(&self, rt: &R) {
         let mut mirror = self.mirror.lock(rt);
         mirror.workers = mirror.workers.wrapping_add(1);
@@ -300,7 +300,7 @@ impl<L: Ledger> Node<L> {
         self.check_counts(rt, mirror)
     }
 
-    /// Notes that the range holds a moment. Returns the number of times that it held one or let go of it.
+    /// Notes that the range holds a moment. Returns the number of times that it held or dropped one.
     pub(crate) fn note_moment<R: Wait>(&self, rt: &R) -> u64 {
         let mut mirror = self.mirror.lock(rt);
         let front = mirror.plain.entries.len();
@@ -308,7 +308,7 @@ impl<L: Ledger> Node<L> {
         mirror.moments
     }
 
-    /// Compares the report of a moment worker, and publishes its snapshot, if there is one. `moments` is the number that
+    /// Compares the report of a moment worker, and publishes its snapshot, if any. `moments` is the number that
     /// `note_moment` returned.
     pub(crate) fn take_moment<R: Wait>(
         &self,
@@ -337,7 +337,7 @@ impl<L: Ledger> Node<L> {
         }
     }
 
-    /// Compares the moment, and returns true if there is one that is whole.
+    /// Compares the moment, and returns true if the range has a whole one.
     pub(crate) fn has_moment<R: Wait>(&self, rt: &R, alloc: Global) -> Result<bool, Trouble> {
         let mirror = self.mirror.lock(rt);
         match self.range.moment(rt, alloc) {
@@ -353,7 +353,7 @@ impl<L: Ledger> Node<L> {
         }
     }
 
-    /// Lets go of the moment.
+    /// Drops the moment.
     pub(crate) fn drop_moment<R: Wait>(&self, rt: &R) {
         let mut mirror = self.mirror.lock(rt);
         self.range.drop_moment(rt);
@@ -376,7 +376,7 @@ impl<L: Ledger> Node<L> {
         expect(same, "the configuration of a range")
     }
 
-    /// Compares a range that was handed back, and the hints: what they show, and all keys.
+    /// Compares the configuration of a returned range and all its keys, and the counts of the hints.
     pub(crate) fn check_all<R: Wait>(&self, rt: &R, alloc: Global) -> Result<(), Trouble> {
         let mirror = self.mirror.lock(rt);
         self.check_config(rt, &mirror)?;
@@ -431,7 +431,7 @@ impl<L: Ledger> Node<L> {
         }
     }
 
-    /// Takes a node apart: the range with its passes, and the rest.
+    /// Splits a node into the range with its passes, and the rest.
     pub(crate) fn into_parts(self, alloc: Global) -> Result<(Parts<L>, Rest), Trouble> {
         let Node {
             range,

@@ -1,4 +1,4 @@
-//! Which outlines an exchange sends, and the texts that patches make, by the definitions.
+//! The outlines that an exchange sends, and the texts made from patches, by the definitions.
 
 use plain_model::messages::PlainAnswer;
 use plain_model::patches::{made_text, outline_bytes};
@@ -9,7 +9,7 @@ use std::alloc::Global;
 use tree_nodes::NodeAt;
 use vclock::Format;
 
-/// The size in bytes up to which the local rows of a leaf have no outline.
+/// The maximum size of a leaf's local rows that aren't outlined, in bytes.
 const SMALL_LEAF: usize = 255;
 
 /// An outline that was sent for a node.
@@ -19,7 +19,7 @@ pub(crate) struct Outline {
     pub(crate) bytes: Vec<u8>,
 }
 
-/// Returns the bytes of the outline of a node of a session, if it pays and has at most so many bytes.
+/// Returns the outline of a session's node, if it pays and has at most this number of bytes.
 pub(crate) fn outline_of(
     alloc: Global,
     walk: &Walk,
@@ -49,8 +49,8 @@ fn pays(alloc: Global, walk: &Walk, node: NodeAt) -> Result<bool, Trouble> {
     Ok(walk.own.digest_at(first) != walk.own.digest_at(second))
 }
 
-/// Returns the text that a patch makes of a session's local rows, or `None` if it makes none. The patch is given as the
-/// answer whose text is its steps.
+/// Returns the text that a patch makes from a session's local rows, or `None` if it doesn't make one. The patch has the
+/// form of an answer whose text is its steps.
 pub(crate) fn text_by(
     alloc: Global,
     walk: &Walk,

@@ -1,4 +1,4 @@
-//! Closed nodes, and pairs of them that take from each other, or are reconciled.
+//! Closed nodes, and pairs of them that take from each other or are reconciled.
 
 use crate::exchanges::exchange_with;
 use crate::mirror::Mirror;
@@ -19,7 +19,7 @@ use vclock::Refusal;
 /// The seat of all versions that are taken in a reconciliation.
 const SEAT: u16 = 5;
 
-/// A node that was closed: its range and its mirror.
+/// A closed node: its range and its mirror.
 #[derive(Drop)]
 pub(crate) struct Closed {
     pub(crate) range: Range,
@@ -55,7 +55,7 @@ impl Closed {
         Ok(())
     }
 
-    /// Holds the rows now as a moment, and hashes it.
+    /// Holds the current rows as a moment, and hashes it.
     pub(crate) fn hold(&mut self, alloc: Global) -> Result<(), Refusal> {
         self.range.hold(alloc)?;
         let front = self.mirror.plain.entries.len();
@@ -133,7 +133,7 @@ fn reconcile_both(alloc: Global, a: &mut Closed, b: &mut Closed) -> Result<(), T
     drop_ended_sessions(alloc, a)
 }
 
-/// Drops the ended sessions of a closed range, and compares what is left.
+/// Drops the ended sessions of a closed range, and compares the result.
 fn drop_ended_sessions(alloc: Global, closed: &mut Closed) -> Result<(), Trouble> {
     closed.range.drop_ended_sessions();
     closed.mirror.drop_ended_sessions(alloc)?;
@@ -198,8 +198,8 @@ fn catch_up(
     }
 }
 
-/// Takes a partner's texts of some nodes, with the versions of the leaves, up to the first leaf that is refused. Returns
-/// the reason of that refusal, if there is one.
+/// Takes a partner's texts of some nodes, with the versions of the leaves, up to the first leaf that is refused.
+/// Returns the reason of the refusal, if any.
 fn take_all(
     alloc: Global,
     here: &mut Mirror,

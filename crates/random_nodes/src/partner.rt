@@ -13,8 +13,8 @@ use std::sync::Wait;
 use std::sync::ledger::Ledger;
 use vclock::Format;
 
-/// A link to a node, or to a forger. The node's replies are compared with the plain program's. A node that is down isn't
-/// reached.
+/// A link to a node, or to a forger. The node's replies are compared with the plain program's. A node that is down
+/// isn't reached.
 #[derive(Drop)]
 pub(crate) struct Partner<'a, M: Ledger> {
     alloc: Global,

@@ -9,7 +9,7 @@ use std::sync::Wait;
 /// The maximum number of steps that are taken at one point.
 const MOST: u64 = 3;
 
-/// Decides how many steps are taken at a worker's points.
+/// The generator of the numbers of steps that are taken at a worker's points.
 #[derive(Clone, Copy)]
 pub(crate) struct Points {
     random: Random,
@@ -26,7 +26,7 @@ impl Points {
         }
     }
 
-    /// Passes a point: in each pass of the gate one step is taken. Returns true if none is.
+    /// Passes a point: each pass of the gate takes one step. Returns true if no step is taken.
     pub(crate) fn pass<G: Gate, R: Wait>(&mut self, rt: &R, gate: &G) -> bool {
         for count in 0..MOST {
             if !self.random.once_in(self.pace) {

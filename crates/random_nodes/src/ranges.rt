@@ -22,7 +22,7 @@ pub(crate) struct Range {
 }
 
 impl Range {
-    /// Returns the versions that are held for a key.
+    /// Returns the versions held for a key.
     pub(crate) fn versions(&self, key: &[u8]) -> &[Version] {
         self.state.store().versions(key)
     }
@@ -47,7 +47,7 @@ impl Range {
         self.state.records()
     }
 
-    /// Compares the versions that are held for a key, and the number of entries, with the plain program's.
+    /// Compares the versions held for a key, and the number of entries, with the plain program's.
     pub(crate) fn check_held(
         &self,
         alloc: Global,
@@ -92,13 +92,13 @@ impl Range {
         self.state.accept(alloc, seat, Source::Copy, key, version)
     }
 
-    /// Holds the rows now as a moment, and hashes it.
+    /// Holds the current rows as a moment, and hashes it.
     pub(crate) fn hold(&mut self, alloc: Global) -> Result<(), Refusal> {
         let _before = self.state.hold_moment(alloc)?;
         self.hash_moment(alloc)
     }
 
-    /// Hashes the moment, if there is one.
+    /// Hashes the moment, if any.
     pub(crate) fn hash_moment(&mut self, alloc: Global) -> Result<(), Refusal> {
         for _level in 0..4 {
             self.state.hash_moment(alloc, 10_000)?;
@@ -106,7 +106,7 @@ impl Range {
         Ok(())
     }
 
-    /// Begins anew with the versions held.
+    /// Begins again with the held versions.
     pub(crate) fn renew(&mut self, alloc: Global, seat: u16, limit: u64) -> Result<(), Refusal> {
         self.state = self.state.renewed(alloc, seat, limit)?;
         Ok(())
@@ -117,7 +117,7 @@ impl Range {
         self.state.begin_renewal(alloc)
     }
 
-    /// Has a renewal accept some of the later entries, and returns the number of those that are left.
+    /// Has a renewal accept some of the later entries, and returns the number of entries left.
     pub(crate) fn catch_up(
         &self,
         alloc: Global,
@@ -128,7 +128,7 @@ impl Range {
         renewal.catch_up(alloc, seat, &self.state, most)
     }
 
-    /// Puts the new range of a renewal in the place of this one, which it returns.
+    /// Replaces this range by the new one of a renewal, and returns the old one.
     pub(crate) fn finish(
         &mut self,
         alloc: Global,
@@ -173,7 +173,7 @@ impl Range {
         exchange.outline(alloc, &self.state, node, room)
     }
 
-    /// Hands an answer to an exchange.
+    /// Passes an answer to an exchange.
     pub(crate) fn take_answer(
         &mut self,
         alloc: Global,
@@ -184,7 +184,7 @@ impl Range {
         exchange.take(alloc, &mut self.state, seat, bytes)
     }
 
-    /// Returns how far an exchange is.
+    /// Returns the progress of an exchange.
     pub(crate) fn report_of(&self, exchange: &Exchange) -> Report {
         exchange.report(&self.state)
     }
@@ -208,7 +208,7 @@ impl Range {
         expect(self.records().len() == walks.len(), "a session")
     }
 
-    /// Compares the texts that each session took with those of its walk.
+    /// Compares the texts that each session took with its walk's texts.
     pub(crate) fn check_texts(&self, walks: &[Walk]) -> Result<(), Trouble> {
         for (walk, record) in walks.iter().zip(self.records()) {
             let same = walk.has_taken(record.session().taken());

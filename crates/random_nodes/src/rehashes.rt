@@ -15,11 +15,11 @@ use vclock::Refusal;
 #[derive(Clone, Copy)]
 struct Progress {
     points: Points,
-    /// True if no step was taken since the last job was.
+    /// True if no step was taken since the last job was taken.
     is_quiet: bool,
     /// The number of workers that were started before the last job was taken.
     workers: u64,
-    /// The number of dirty nodes at the last point, if a digest isn't installed yet.
+    /// The number of dirty nodes at the last point, if a digest is yet to be installed.
     dirty: Option<u64>,
     /// The number of jobs.
     jobs: u64,
@@ -32,9 +32,9 @@ struct Progress {
 }
 
 impl Progress {
-    /// Compares the number of dirty nodes with that at the last point. It is one less if the digest made its node clean,
-    /// which must be so if no step was taken meanwhile. Otherwise the digest was too late, unless another worker had
-    /// made the node clean.
+    /// Compares the number of dirty nodes with the number at the last point. It is one less if the digest made its node
+    /// clean, which is required if no step was taken meanwhile. Otherwise the digest was too late, unless another
+    /// worker had made the node clean.
     fn settle(&mut self, now: u64, workers: u64) {
         let Some(before) = self.dirty.take() else {
             return;
@@ -84,7 +84,7 @@ impl<'a, L: Ledger, G: Gate> Watch<'a, L, G> {
 
 impl<'a, L: Ledger, G: Gate> Gate for Watch<'a, L, G> {
     fn pass<R: Wait>(&self, rt: &R, step: Passed) {
-        // No call can change a text that was written, so a step here is one before the text is hashed.
+        // No call can change a written text, so a step here is one before the text is hashed.
         if step == Passed::Written {
             return;
         }
@@ -102,7 +102,7 @@ impl<'a, L: Ledger, G: Gate> Gate for Watch<'a, L, G> {
     }
 }
 
-/// Hashes dirty nodes of a node's tree, and compares the report with what was done.
+/// Hashes dirty nodes of a node's tree, and compares the report with the work done.
 pub(crate) fn run_rehash<L: Ledger, C: Ledger, G: Gate, R: Wait>(
     rt: &R,
     alloc: Global,

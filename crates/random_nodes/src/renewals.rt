@@ -10,7 +10,7 @@ use std::sync::Wait;
 use std::sync::ledger::Ledger;
 use vclock::Refusal;
 
-/// Renews the range of a node, with its hints, or closes it in a way that is refused. Compares all that it shows then.
+/// Renews the range of a node, with its hints, or closes it in a way that is refused. Compares the node afterwards.
 pub(crate) fn renewed<L: Ledger, R: Wait>(
     rt: &R,
     alloc: Global,
@@ -27,7 +27,7 @@ pub(crate) fn renewed<L: Ledger, R: Wait>(
     Ok(node)
 }
 
-/// Renews a range at a seat, with its limit if none is given, and its hints; unless the renewal is refused.
+/// Renews a range at a seat, with its current limit if `limit` is `None`, and its hints, unless the renewal is refused.
 fn renew_at<L: Ledger, R: Wait>(
     rt: &R,
     alloc: Global,
@@ -82,7 +82,7 @@ fn renew_parts<L: Ledger>(
     }
 }
 
-/// Closes a range without its last pass, which is refused, and returns it.
+/// Tries to close a range without its last pass, which is refused, and returns the range.
 fn close_short<L: Ledger>(alloc: Global, parts: Parts<L>) -> Result<Parts<L>, Trouble> {
     let Parts { range, mut passes } = parts;
     let Some(last) = passes.pop() else {

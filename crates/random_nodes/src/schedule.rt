@@ -1,4 +1,4 @@
-//! The steps of a list that are left, and the versions that they made.
+//! The remaining steps of a list, and the versions that its steps made.
 
 use crate::node::Made;
 use crate::steps::{Deed, Step};
@@ -17,7 +17,7 @@ struct Place {
     trouble: Option<Trouble>,
 }
 
-/// The steps of a list, which are taken one after the other.
+/// The steps of a list, which are taken in turn.
 #[derive(Drop)]
 pub(crate) struct Schedule {
     steps: Vec<Step>,
@@ -25,7 +25,7 @@ pub(crate) struct Schedule {
 }
 
 impl Schedule {
-    /// Returns a schedule of which nothing is done.
+    /// Returns a schedule with all steps left.
     pub(crate) fn new(alloc: Global, steps: Vec<Step>) -> Schedule {
         Schedule {
             steps,
@@ -58,7 +58,7 @@ impl Schedule {
         Ok(())
     }
 
-    /// Returns a version that some node made, counted back from the last one, if there is one.
+    /// Returns a version that some node made, counted back from the last one, if any.
     pub(crate) fn made<R: Wait>(&self, rt: &R, back: u64) -> Option<Made> {
         let place = self.place.lock(rt);
         let count = place.made.len();

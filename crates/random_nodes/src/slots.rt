@@ -1,4 +1,4 @@
-//! The slots of both nodes' workers, and the same by the definitions.
+//! The slots of the nodes' workers, and the same slots by the definitions.
 ghost use Rattle.std.specs.Prelude.{◌≡◌};
 
 use admission::{Controller, Slot};
@@ -17,7 +17,7 @@ pub(crate) struct Slots<C: Ledger> {
 }
 
 impl<C: Ledger> Slots<C> {
-    /// Returns slots of which none is lent.
+    /// Returns slots that are all free.
     pub(crate) fn new(alloc: Global, blank: Blank) -> Result<Slots<C>, Refusal>
         requires { (blank.name ≡ C.name) × (blank.parts ≡ C.parts) × (blank.parts ≡ 1024) }
     {

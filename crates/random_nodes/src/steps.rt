@@ -41,7 +41,7 @@ impl Side {
 pub(crate) enum Seen {
     /// Nothing was read.
     Nothing,
-    /// All that is held now.
+    /// All versions held now.
     Now,
     /// The versions that an earlier read of the key returned, counted back from the last read.
     Earlier(u64),
@@ -61,7 +61,8 @@ pub(crate) struct Written {
 /// A range that is closed and opened again, or isn't.
 #[derive(Clone, Copy)]
 pub(crate) enum Renewal {
-    /// Renews the range at a seat. The limit remains if it is `None`. If that isn't refused, the hints are renewed too.
+    /// Renews the range at a seat. The limit remains if it is `None`. Unless this is refused, the hints are renewed
+    /// too.
     At { seat: u16, limit: Option<u64> },
     /// Closes the range without its last pass, which is refused.
     Short,
@@ -82,7 +83,7 @@ pub(crate) enum Deed {
     Deliver(u64),
     /// Reads a key.
     Get(u64),
-    /// Looks at a key, for no pass.
+    /// Looks at a key, without a pass.
     Look(u64),
     /// Loads the rows of a leaf that the other node offers.
     Load(u64),
@@ -90,15 +91,15 @@ pub(crate) enum Deed {
     Rehash { skip: u64, turns: u64 },
     /// Publishes a snapshot this number of times.
     Publish(u8),
-    /// Syncs with the other node in this number of turns. Once in `lies` calls the link fails or lies.
+    /// Syncs with the other node in this number of turns. The link fails or lies once in `lies` calls.
     Sync { turns: u64, lies: u64 },
-    /// Syncs so by the rows of the node's moment.
+    /// Syncs in the same way, by the rows of the node's moment.
     SyncAtMoment { turns: u64, lies: u64 },
     /// Syncs with a forger.
     SyncForged { turns: u64 },
-    /// Holds a moment, hashes it in this number of turns, and publishes it if it is whole then.
+    /// Holds a moment, hashes it in this number of turns, and publishes it once it is whole.
     Hold(u64),
-    /// Lets go of the moment.
+    /// Drops the moment.
     DropMoment,
     /// Migrates to format 2.
     Migrate,
@@ -108,7 +109,7 @@ pub(crate) enum Deed {
     Adjust(u64),
     /// Brings the node down or up.
     Switch,
-    /// Closes the range, or renews it. Done between other steps alone.
+    /// Closes the range, or renews it. Done only between other steps.
     Renew(Renewal),
 }
 
@@ -119,9 +120,9 @@ pub(crate) struct Step {
     /// The other node of a hint, a delivery, a load or a sync.
     pub(crate) other: Side,
     pub(crate) deed: Deed,
-    /// At a point of this step's worker a next step is taken with probability 1 in `pace`.
+    /// The pace: at each point of this step's worker, a next step is taken with probability 1 in `pace`.
     pub(crate) pace: u64,
-    /// The seed of what is drawn while the step is done.
+    /// The seed of the random choices within the step.
     pub(crate) salt: u64,
     ghost once: { 0 < pace },
 }
@@ -133,12 +134,12 @@ pub(crate) struct Setup {
     pub(crate) part: Part,
     /// The limits of the journals.
     pub(crate) limits: [u64; 3],
-    /// The number of versions that each node has of one key at first: those of two nodes together, or of all three, may
-    /// be too many.
+    /// The number of versions of one key that each node has at first. Two nodes, or all three, may have too many
+    /// together.
     pub(crate) crowd: u64,
-    /// True if the nodes sync to rest at the end. Otherwise they are reconciled after their close.
+    /// True if the nodes sync until they are at rest. Otherwise they are reconciled after their close.
     pub(crate) rests: bool,
-    /// The seed of what is drawn for the exchanges after the close.
+    /// The seed of the exchanges after the close.
     pub(crate) salt: u64,
 }
 
@@ -180,8 +181,8 @@ impl Setup {
         }
     }
 
-    /// Draws the steps of a list: in a quarter of the draws a whole round of a sync, which is seldom one at moments, and
-    /// rarely a load that a migration overtakes.
+    /// Draws the steps of a list. A quarter of the draws are a whole round of a sync, sometimes at moments. Rarely a
+    /// load is drawn that a migration overtakes.
     pub(crate) fn draw_steps(
         &self,
         alloc: Global,
@@ -218,7 +219,7 @@ impl Setup {
         Ok(steps)
     }
 
-    /// Draws a deed. Migrations and renewals are seldom.
+    /// Draws a deed. Migrations and renewals are rare.
     fn draw_deed(&self, random: &mut Random) -> Deed {
         match random.below(40) {
             0..=9 => self.draw_put(random),
@@ -237,7 +238,7 @@ impl Setup {
         }
     }
 
-    /// Draws a put, mostly with a context that was read.
+    /// Draws a put, in most cases with a context that was read.
     fn draw_put(&self, random: &mut Random) -> Deed {
         let seen = match random.below(8) {
             0 => Seen::Nothing,
@@ -261,7 +262,7 @@ impl Setup {
         })
     }
 
-    /// Draws a deed that is seldom.
+    /// Draws a rare deed.
     fn draw_rare(&self, random: &mut Random) -> Deed {
         match random.below(16) {
             0 => if random.once_in(2) {
@@ -282,7 +283,7 @@ impl Setup {
     }
 }
 
-/// A rehash of the nodes that puts make dirty.
+/// A rehash of the nodes made dirty by puts.
 const WHOLE: Deed = Deed::Rehash { skip: 0, turns: 40 };
 
 /// Returns a step at the first of two nodes, and draws its pace and its salt.
@@ -304,7 +305,7 @@ fn draw_work(random: &mut Random) -> Deed {
     }
 }
 
-/// Draws the number of turns of a worker that hashes: seldom too few.
+/// Draws the number of turns of a hashing worker, rarely too few.
 fn draw_turns(random: &mut Random) -> u64 {
     match random.below(8) {
         0 => random.below(6),
@@ -312,7 +313,7 @@ fn draw_turns(random: &mut Random) -> u64 {
     }
 }
 
-/// Draws a sync by the rows of a moment: over a link that lies seldom or never.
+/// Draws a sync by the rows of a moment, over a link that lies rarely or never.
 fn draw_sync_at_moment(random: &mut Random) -> Deed {
     Deed::SyncAtMoment {
         turns: if random.once_in(8) {
@@ -324,7 +325,7 @@ fn draw_sync_at_moment(random: &mut Random) -> Deed {
     }
 }
 
-/// Draws a sync: over a link that lies often, seldom or never, or with a forger.
+/// Draws a sync, over a link that lies often, rarely or never, or with a forger.
 fn draw_sync(random: &mut Random) -> Deed {
     let turns = match random.below(8) {
         0 => random.below(6),
@@ -339,8 +340,8 @@ fn draw_sync(random: &mut Random) -> Deed {
     }
 }
 
-/// Draws a renewal: with another limit, which may be refused, at a seat that the range doesn't have, or as it is; or a
-/// close that is refused.
+/// Draws a renewal, with another limit, which may be refused, at a seat that the range doesn't have, or with the same
+/// limit; or a close that is refused.
 fn draw_renewal(random: &mut Random) -> Renewal {
     let limit = match random.below(8) {
         0 => Some(0),
@@ -369,7 +370,7 @@ fn draw_sample(random: &mut Random) -> Deed {
     }
 }
 
-/// Draws how seldom a worker's points take steps.
+/// Draws the pace of the steps at a worker's points.
 fn pace(random: &mut Random) -> u64
     ensures { 0 < result }
 {

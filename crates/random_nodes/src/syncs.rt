@@ -20,8 +20,8 @@ use std::sync::Wait;
 use std::sync::ledger::Ledger;
 use vclock::Refusal;
 
-/// A sync: the number of its turns, how often its link lies (once in this number of calls, or never if it is 0), and the
-/// rows that it compares.
+/// A sync: the number of its turns, the rate at which its link lies (once in this number of calls, or never if 0), and
+/// the rows that it compares.
 #[derive(Clone, Copy)]
 pub(crate) struct Plan {
     pub(crate) turns: u64,
@@ -42,7 +42,7 @@ struct Ends<'a, L: Ledger, M: Ledger, G: Gate> {
     trouble: Option<Trouble>,
 }
 
-/// A link that takes other steps before each call, and compares what is asked.
+/// A link that takes other steps before each call, and compares each ask.
 #[derive(Drop)]
 struct Watched<'a, L: Ledger, M: Ledger, G: Gate> {
     ends: Ends<'a, L, M, G>,
@@ -78,7 +78,7 @@ impl<'a, L: Ledger, M: Ledger, G: Gate> Ends<'a, L, M, G> {
         let _is_quiet = self.points.pass(rt, self.gate);
     }
 
-    /// Keeps a copy of what an offer or an ask returned.
+    /// Keeps a copy of the result of an offer or an ask.
     fn keep(&mut self, reached: &Reached, is_offer: bool) -> Result<(), Trouble> {
         match reached {
             Reached::Bytes(bytes) if is_offer => {
@@ -91,7 +91,7 @@ impl<'a, L: Ledger, M: Ledger, G: Gate> Ends<'a, L, M, G> {
         Ok(())
     }
 
-    /// Notes the first trouble. Returns true if there is none.
+    /// Notes the first trouble. Returns true if no trouble was ever noted.
     fn is_right(&mut self, done: Result<(), Trouble>) -> bool {
         match done {
             Ok(()) => self.trouble.is_none(),
@@ -168,7 +168,7 @@ impl<'a, L: Ledger, M: Ledger, G: Gate> Link for Watched<'a, L, M, G> {
     }
 }
 
-/// Syncs a node with the other one, or with a forger, and compares the report with what was done.
+/// Syncs a node with the other one, or with a forger, and compares the report with the work done.
 pub(crate) fn run_sync<L: Ledger, M: Ledger, C: Ledger, G: Gate, R: Wait>(
     rt: &R,
     alloc: Global,

@@ -14,7 +14,7 @@ pub(crate) struct Tally {
     cancelled: u64,
     refused: u64,
     exchanges: Exchanges,
-    /// The renewals that were finished beside exchanges, and the entries with which they caught up.
+    /// The number of renewals finished alongside exchanges, and of the entries that they caught up with.
     renewals: u64,
     later: u64,
 }
@@ -28,13 +28,13 @@ struct Exchanges {
     spent: u64,
     failed: u64,
     gone: u64,
-    /// The texts that were taken of patches, of inner nodes and of leaves.
+    /// The number of texts of inner nodes and of leaves that were taken from patches.
     inner_patches: u64,
     leaf_patches: u64,
 }
 
 impl Tally {
-    /// Returns the tally of nothing.
+    /// Returns a tally of zeros.
     pub(crate) fn new() -> Tally {
         Tally {
             steps: [0; 4],

@@ -28,7 +28,7 @@ const AMPLE: u64 = 1_000;
 /// More turns than any worker needs.
 const TURNS: u64 = 10_000;
 
-/// More versions of a key than two nodes may have without their being too many for a third.
+/// The maximum number of versions of a key at each of three nodes that are never too many together.
 const MANY: usize = 21;
 
 /// A node with another one, for a step.
@@ -41,7 +41,7 @@ const ROUND: [Pair; 3] = [
     (Side::Three, Side::One),
 ];
 
-/// Syncs after which all nodes have what each had: one takes from both others, and then they take from it.
+/// Syncs after which all nodes have the same versions: one takes from both others, then they take from it.
 const SYNCS: [Pair; 4] = [
     (Side::One, Side::Two),
     (Side::One, Side::Three),
@@ -92,13 +92,13 @@ fn run_in<L: Ledger, M: Ledger, N: Ledger, C: Ledger, R: Wait>(
     world.live(rt, lives, setup)
 }
 
-/// Returns the key of which a crowd has versions.
+/// Returns the key of a crowd's versions.
 fn crowded_key(setup: &Setup) -> u64 {
     if setup.part == Part::Upper { 8 } else { 4 }
 }
 
 impl<L: Ledger, M: Ledger, N: Ledger, C: Ledger> World<L, M, N, C> {
-    /// Gives each node many concurrent versions of a key, which are too many together.
+    /// Gives each node many concurrent versions of a key, too many in total.
     fn crowd<R: Wait>(&self, rt: &R, setup: &Setup) -> Result<(), Trouble> {
         let key = crowded_key(setup);
         let middle = LAST.saturating_sub(setup.crowd) / 2;
@@ -203,7 +203,7 @@ impl<L: Ledger, M: Ledger, N: Ledger, C: Ledger> World<L, M, N, C> {
         })
     }
 
-    /// Does a step at the first of two nodes, with none at its points.
+    /// Does a step at the first of two nodes, without steps at its points.
     fn rest<R: Wait>(&self, rt: &R, (side, other): Pair, deed: Deed) -> Result<(), Trouble> {
         let step = Step {
             side,
@@ -216,8 +216,8 @@ impl<L: Ledger, M: Ledger, N: Ledger, C: Ledger> World<L, M, N, C> {
         self.check(rt)
     }
 
-    /// Brings all nodes up, delivers all hints, and syncs. Then all hold what they held together, and have equal roots,
-    /// unless a sync is refused, since a key is crowded or a journal is full.
+    /// Brings all nodes up, delivers all hints, and syncs. Afterwards each node holds the versions of all, and the
+    /// roots are equal, unless a sync is refused since a key is crowded or a journal is full.
     fn come_to_rest<R: Wait>(&self, rt: &R, setup: &Setup) -> Result<(), Trouble> {
         for pair in ROUND {
             if self.is_down(rt, pair.0) {
@@ -312,8 +312,8 @@ impl<L: Ledger, M: Ledger, N: Ledger, C: Ledger> World<L, M, N, C> {
         )
     }
 
-    /// Closes the ranges, and returns the counts. Each takes from the next one by an exchange. Then reconciles them if
-    /// they weren't at rest.
+    /// Closes the ranges, and returns the counts. Each takes from the next one by an exchange. If they weren't at rest,
+    /// they are reconciled afterwards.
     fn close<R: Wait>(self, rt: &R, setup: &Setup) -> Result<Tally, Trouble> {
         let mut tally = self.schedule.tally(rt);
         for owner in 1..4u16 {
@@ -349,7 +349,7 @@ const PLAINLY: Deed = Deed::Sync {
     lies: 0,
 };
 
-/// Returns the put of a value over all versions of a key that are held.
+/// Returns the put of a value that replaces all held versions of a key.
 fn merge(key: u64) -> Deed {
     Deed::Put(Written {
         key,

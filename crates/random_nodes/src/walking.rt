@@ -22,7 +22,7 @@ const OPEN_MAX: u64 = 64;
 /// The maximum number of sessions.
 const SESSIONS_MAX: usize = 1_024;
 
-/// The bytes that a link returned and the range has not taken yet.
+/// The bytes that a link returned and the range hasn't taken yet.
 #[derive(Drop)]
 pub(crate) enum Pending {
     Nothing,
@@ -30,7 +30,7 @@ pub(crate) enum Pending {
     Answer(Vec<u8>),
 }
 
-/// The outcome of a sync that was right.
+/// The outcome of a sync without differences.
 #[derive(Clone, Copy, PartialEq, Eq)]
 pub(crate) enum Outcome {
     Finished,
@@ -49,7 +49,7 @@ pub(crate) struct Progress {
     /// The text of the root, if the partner is a forger.
     forged: Option<Vec<u8>>,
     pending: Pending,
-    /// The number of the session, and that of the offer.
+    /// The numbers of the session and of the offer.
     opened: Option<(usize, u32)>,
     asks: u64,
     accepted: u64,
@@ -83,7 +83,7 @@ impl Progress {
         }
     }
 
-    /// Returns which local rows the sync compares.
+    /// Returns the local rows that the sync compares.
     pub(crate) fn local(&self) -> LocalRows {
         self.local
     }
@@ -106,8 +106,8 @@ impl Progress {
         }
     }
 
-    /// Has the node take the pending reply. `tree` is the partner's tree with the offered root, if there is one, and
-    /// `has_rows` is true if each node of the local rows' tree has a digest.
+    /// Has the node take the pending reply. `tree` is the partner's tree with the offered root, if any. `has_rows` is
+    /// true if each node of the local rows' tree has a digest.
     pub(crate) fn settle(
         &mut self,
         alloc: Global,
@@ -245,8 +245,8 @@ impl Progress {
     }
 }
 
-/// Hands a text for a node to a session, with the versions of a leaf, and returns the numbers of new and of known
-/// versions; or the reason why it isn't taken.
+/// Passes a text for a node to a session, with the versions of a leaf. Returns the numbers of new and of known
+/// versions, or the reason why the text isn't taken.
 pub(crate) fn take_text(
     alloc: Global,
     here: &mut Mirror,
@@ -280,7 +280,7 @@ pub(crate) fn take_text(
     Ok(Ok((accepted, known)))
 }
 
-/// Returns the reason why an offer is refused, if there is one.
+/// Returns the reason why an offer is refused, if any.
 pub(crate) fn offer_fault(here: &Mirror, offer: &PlainOffer, has_rows: bool) -> Option<Fault> {
     if offer.format != format_number(here.plain.format) {
         Some(Fault::OtherFormat)
@@ -300,7 +300,7 @@ fn first_outstanding(here: &Mirror, id: usize) -> Option<NodeAt> {
     here.walks.get(id)?.outstanding.first().copied()
 }
 
-/// Returns the text of a node of a session's partner, which is empty if the partner offered no such tree.
+/// Returns the text of a node of a session's partner, or an empty text if the partner offered no such tree.
 fn text_of(alloc: Global, here: &Mirror, id: usize, node: NodeAt) -> Result<Vec<u8>, Trouble> {
     match here.partners.get(id) {
         Some(Some(tree)) => tree.text(alloc, node),
@@ -308,7 +308,7 @@ fn text_of(alloc: Global, here: &Mirror, id: usize, node: NodeAt) -> Result<Vec<
     }
 }
 
-/// Returns the reason why a session doesn't take an answer, if there is one.
+/// Returns the reason why a session doesn't take an answer, if any.
 fn fault_of(here: &Mirror, id: usize, node: NodeAt, sent: &[u8], text: &[u8]) -> Option<Fault> {
     match here.walks.get(id) {
         Some(walk) => walk.fault_of(node, sent, text),

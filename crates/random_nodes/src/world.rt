@@ -1,4 +1,4 @@
-//! Three nodes with replicas of one range, and the steps that are done to them.
+//! Three nodes with replicas of one range, and the steps that are run on them.
 
 use crate::deliveries::deliver_hints;
 use crate::loads::run_load;
@@ -17,7 +17,7 @@ use std::alloc::Global;
 use std::sync::Wait;
 use std::sync::ledger::Ledger;
 
-/// Three nodes, the slots of their workers, and the steps that are left.
+/// Three nodes, the slots of their workers, and the remaining steps.
 #[derive(Drop)]
 pub(crate) struct World<L: Ledger, M: Ledger, N: Ledger, C: Ledger> {
     pub(crate) alloc: Global,
@@ -45,7 +45,7 @@ impl<L: Ledger, M: Ledger, N: Ledger, C: Ledger> World<L, M, N, C> {
         self.schedule.note(rt, right);
     }
 
-    /// Does a step at the first of two nodes. A node that is down does nothing but come up.
+    /// Does a step at the first of two nodes. A node that is down only takes the step that brings it up.
     fn run_at<A: Ledger, B: Ledger, G: Gate, R: Wait>(
         &self,
         rt: &R,
@@ -133,7 +133,7 @@ impl<L: Ledger, M: Ledger, N: Ledger, C: Ledger> World<L, M, N, C> {
         Ok(())
     }
 
-    /// Makes a call of a step that needs no slot.
+    /// Makes a call of a step that doesn't need a slot.
     fn call<A: Ledger, B: Ledger, R: Wait>(
         &self,
         rt: &R,
@@ -174,7 +174,7 @@ impl<L: Ledger, M: Ledger, N: Ledger, C: Ledger> World<L, M, N, C> {
         }
     }
 
-    /// Returns the first trouble, if there is some.
+    /// Returns the first trouble, if any.
     pub(crate) fn check<R: Wait>(&self, rt: &R) -> Result<(), Trouble> {
         if let Some(trouble) = self.schedule.take_trouble(rt) {
             return Err(trouble);

@@ -1,5 +1,6 @@
 -- What stays where partners' entries are told as copies.
-use Rattle.std.proofs.Common.{◌≡◌, ℕ, zero, suc, ◌+◌, ◌<◌, ◌≤◌, Bool, true, false, cond, List, [], ◌∷◌, ◌++◌, length, map, take, drop, set, get_or, refl, sym, ap, subst, ◌∙◌, arith}
+use Rattle.std.proofs.Common.{◌≡◌, ℕ, zero, suc, ◌+◌, ◌<◌, ◌≤◌, Bool, true, false, cond, List, [], ◌∷◌, ◌++◌, length, map, take, drop, set, get_or}
+use Rattle.std.proofs.Common.{refl, sym, ap, subst, ◌∙◌, arith}
 use Rattle.std.specs.Prelude.{nat_eq}
 use Rattle.std.specs.Cmp.Lexicographic.{pointwise}
 use Rattle.std.proofs.lemmas.List.{length-map}
@@ -21,13 +22,15 @@ next_is f (x ∷ xs) zero d lt = refl
 next_is f (x ∷ xs) (suc i) d lt = next_is f xs i d (omega arith)
 
 -- and so has one more changed with that
-next_set : {X : Type 0} (f : X → X) (xs : List X) (i : ℕ) (d : X) → i < length xs → set (map f (take i xs) ++ drop i xs) i (f (get_or xs i d)) ≡ map f (take (suc i) xs) ++ drop (suc i) xs
+next_set : {X : Type 0} (f : X → X) (xs : List X) (i : ℕ) (d : X) → i < length xs
+    → set (map f (take i xs) ++ drop i xs) i (f (get_or xs i d)) ≡ map f (take (suc i) xs) ++ drop (suc i) xs
 next_set f [] i d lt = absurd (omega arith)
 next_set f (x ∷ xs) zero d lt = refl
 next_set f (x ∷ xs) (suc i) d lt = ap (λ ys. f x ∷ ys) (next_set f xs i d (omega arith))
 
 -- the next element of a loop is changed
-pub next_changed : {X : Type 0} (f : X → X) (xs items : List X) (i : ℕ) (d new : X) → i < length xs → items ≡ map f (take i xs) ++ drop i xs → new ≡ f (get_or items i d) → set items i new ≡ map f (take (i + 1) xs) ++ drop (i + 1) xs
+pub next_changed : {X : Type 0} (f : X → X) (xs items : List X) (i : ℕ) (d new : X) → i < length xs → items ≡ map f (take i xs) ++ drop i xs
+    → new ≡ f (get_or items i d) → set items i new ≡ map f (take (i + 1) xs) ++ drop (i + 1) xs
 next_changed f xs items i d new lt are ended =
     let was : get_or items i d ≡ get_or xs i d = ap (λ ys. get_or ys i d) are ∙ next_is f xs i d lt in
     let more : suc i ≡ i + 1 = omega arith in
@@ -93,10 +96,15 @@ copies_taken (suc n) (e ∷ es) = ap (λ xs. as_copy e ∷ xs) (copies_taken n e
 pub copies_never_crowded : (es : List Entry) (key : List ℕ) → NeverCrowded es key → NeverCrowded (as_copies es) key
 copies_never_crowded es key never = λ n. omega (arith, never n, ap length (ap (λ xs. held xs key) (copies_taken n es) ∙ copies_held (take n es) key))
 
-news_after : (before others es : List Entry) → ((key : List ℕ) → versions_of others key ≡ versions_of before key) → AreNewsAfter before es → AreNewsAfter others (as_copies es)
+news_after : (before others es : List Entry) → ((key : List ℕ) → versions_of others key ≡ versions_of before key) → AreNewsAfter before es
+    → AreNewsAfter others (as_copies es)
 news_after before others [] same news = tt
-news_after before others (e ∷ es) same news =
-    (ap (covered e.version) (same e.key) ∙ news.0, news_after (before ++ e ∷ []) (others ++ as_copy e ∷ []) es (λ key. one_more others (as_copy e) key ∙ ap (λ vs. vs ++ versions_of (e ∷ []) key) (same key) ∙ sym (one_more before e key)) news.1)
+news_after before others (e ∷ es) same news = (
+  ap (covered e.version) (same e.key)
+      ∙ news.0,
+  news_after (before ++ e ∷ []) (others ++ as_copy e ∷ []) es
+      (λ key. one_more others (as_copy e) key ∙ ap (λ vs. vs ++ versions_of (e ∷ []) key) (same key) ∙ sym (one_more before e key)) news.1,
+)
   where
     inside : (b : Bool) (v : Version) (vs ws : List Version) → cond b (v ∷ (vs ++ ws)) (vs ++ ws) ≡ cond b (v ∷ vs) vs ++ ws
     inside true v vs ws = refl
@@ -104,7 +112,8 @@ news_after before others (e ∷ es) same news =
 
     one_more : (xs : List Entry) (y : Entry) (key : List ℕ) → versions_of (xs ++ y ∷ []) key ≡ versions_of xs key ++ versions_of (y ∷ []) key
     one_more [] y key = refl
-    one_more (x ∷ xs) y key = ap (λ vs. cond (pointwise nat_eq x.key key) (x.version ∷ vs) vs) (one_more xs y key) ∙ inside (pointwise nat_eq x.key key) x.version (versions_of xs key) (versions_of (y ∷ []) key)
+    one_more (x ∷ xs) y key = ap (λ vs. cond (pointwise nat_eq x.key key) (x.version ∷ vs) vs) (one_more xs y key)
+        ∙ inside (pointwise nat_eq x.key key) x.version (versions_of xs key) (versions_of (y ∷ []) key)
 
 pub copies_news : (es : List Entry) → AreNews es → AreNews (as_copies es)
 copies_news es news = news_after [] [] es (λ key. refl) news
@@ -132,7 +141,8 @@ copies_settled es = record { within = omega (arith, length-map es as_copy); othe
 
 -- what is settled stays so while entries are added
 pub settled_grows : (n : ℕ) (es more : List Entry) → IsSettled n es → IsSettled n (es ++ more)
-settled_grows n es more settled = record { within = longer n es more settled.within; others = subst NoneIsPartners (first n es more settled.within) settled.others }
+settled_grows n es more settled =
+    record { within = longer n es more settled.within; others = subst NoneIsPartners (first n es more settled.within) settled.others }
   where
     longer : (n : ℕ) (xs ys : List Entry) → n ≤ length xs → n ≤ length (xs ++ ys)
     longer zero xs ys h = omega arith

@@ -1,5 +1,6 @@
 -- The greatest counter of a node for a key.
-use Rattle.std.proofs.Common.{◌≡◌, ℕ, ◌+◌, ◌<◌, ◌≤◌, Bool, true, false, cond, List, [], ◌∷◌, ◌++◌, length, get_or, take, max, refl, ap, sym, subst, ◌∙◌, ◌||◌, inl, inr, arith, append_assoc}
+use Rattle.std.proofs.Common.{◌≡◌, ℕ, ◌+◌, ◌<◌, ◌≤◌, Bool, true, false, cond, List, [], ◌∷◌, ◌++◌, length, get_or, take, max, refl, ap, sym, subst}
+use Rattle.std.proofs.Common.{◌∙◌, ◌||◌, inl, inr, arith, append_assoc}
 use Rattle.std.specs.Prelude.{nat_eq}
 use Rattle.std.specs.List.{AllByRecursion}
 use Rattle.std.specs.Ordering.{is_eq}
@@ -65,25 +66,37 @@ top-held es key node =
     omega (arith, up, down)
 
 -- one more entry in front
-top-cons : (e : Entry) (es : List Entry) (key : List ℕ) (node : ℕ) → top_counter (e ∷ es) key node ≡ cond (pointwise nat_eq e.key key) (max (counter e.version.clock node) (top_counter es key node)) (top_counter es key node)
-top-cons e es key node = elim (pointwise nat_eq e.key key) as (λ b. top_in (cond b (e.version ∷ versions_of es key) (versions_of es key)) node ≡ cond b (max (counter e.version.clock node) (top_counter es key node)) (top_counter es key node)) [
-  | true ↦ refl
-  | false ↦ refl
-]
+top-cons : (e : Entry) (es : List Entry) (key : List ℕ) (node : ℕ)
+    → top_counter (e ∷ es) key node ≡ cond (pointwise nat_eq e.key key) (max (counter e.version.clock node) (top_counter es key node))
+    (top_counter es key node)
+top-cons e es key node =
+    elim (pointwise nat_eq e.key key) as
+    (λ b. top_in (cond b (e.version ∷ versions_of es key) (versions_of es key)) node ≡ cond b
+    (max (counter e.version.clock node) (top_counter es key node)) (top_counter es key node)) [
+      | true ↦ refl
+      | false ↦ refl
+    ]
 
 -- one more in front, of that key or of another one
-top-taken : (e : Entry) (es : List Entry) (key : List ℕ) (node : ℕ) → pointwise nat_eq e.key key ≡ true → top_counter (e ∷ es) key node ≡ max (counter e.version.clock node) (top_counter es key node)
-top-taken e es key node same = top-cons e es key node ∙ ap (λ b. cond b (max (counter e.version.clock node) (top_counter es key node)) (top_counter es key node)) same
+top-taken : (e : Entry) (es : List Entry) (key : List ℕ) (node : ℕ) → pointwise nat_eq e.key key ≡ true
+    → top_counter (e ∷ es) key node ≡ max (counter e.version.clock node) (top_counter es key node)
+top-taken e es key node same = top-cons e es key node
+    ∙ ap (λ b. cond b (max (counter e.version.clock node) (top_counter es key node)) (top_counter es key node)) same
 
-top-passed : (e : Entry) (es : List Entry) (key : List ℕ) (node : ℕ) → pointwise nat_eq e.key key ≡ false → top_counter (e ∷ es) key node ≡ top_counter es key node
-top-passed e es key node other = top-cons e es key node ∙ ap (λ b. cond b (max (counter e.version.clock node) (top_counter es key node)) (top_counter es key node)) other
+top-passed : (e : Entry) (es : List Entry) (key : List ℕ) (node : ℕ) → pointwise nat_eq e.key key ≡ false
+    → top_counter (e ∷ es) key node ≡ top_counter es key node
+top-passed e es key node other = top-cons e es key node
+    ∙ ap (λ b. cond b (max (counter e.version.clock node) (top_counter es key node)) (top_counter es key node)) other
 
 -- entries and more of them
-pub top-append : (es more : List Entry) (key : List ℕ) (node : ℕ) → top_counter (es ++ more) key node ≡ max (top_counter es key node) (top_counter more key node)
+pub top-append : (es more : List Entry) (key : List ℕ) (node : ℕ)
+    → top_counter (es ++ more) key node ≡ max (top_counter es key node) (top_counter more key node)
 top-append [] more key node = omega arith
 top-append (e ∷ es) more key node = elim (cases_Bool (pointwise nat_eq e.key key)) [
-  | inl same ↦ let rest = top-append es more key node in let a = top-taken e (es ++ more) key node same in let b = top-taken e es key node same in omega (arith, rest, a, b)
-  | inr other ↦ let rest = top-append es more key node in let a = top-passed e (es ++ more) key node other in let b = top-passed e es key node other in omega (arith, rest, a, b)
+  | inl same ↦ let rest = top-append es more key node in let a = top-taken e (es ++ more) key node same in let b = top-taken e es key node same in
+      omega (arith, rest, a, b)
+  | inr other ↦ let rest = top-append es more key node in let a = top-passed e (es ++ more) key node other in let b =
+      top-passed e es key node other in omega (arith, rest, a, b)
 ]
 
 -- More entries never lower it.
@@ -92,7 +105,8 @@ top-later es more key node = let is = top-append es more key node in omega (arit
 
 -- at a step of a loop over the entries
 pub top_more : (es : List Entry) (i : ℕ) (x : Entry) (key : List ℕ) (node : ℕ) → i < length es → x ≡ get_or es i x
-    → top_counter (take (i + 1) es) key node ≡ cond (pointwise nat_eq x.key key) (max (counter x.version.clock node) (top_counter (take i es) key node)) (top_counter (take i es) key node)
+    → top_counter (take (i + 1) es) key node ≡ cond (pointwise nat_eq x.key key)
+    (max (counter x.version.clock node) (top_counter (take i es) key node)) (top_counter (take i es) key node)
 top_more es i x key node h is =
     ap (λ t. top_counter t key node) (take_more es i x h ∙ ap (λ y. take i es ++ y ∷ []) (sym is))
     ∙ elim (cases_Bool (pointwise nat_eq x.key key)) [
@@ -108,5 +122,6 @@ top-all before (e ∷ es) node = (
       let a = top-taken e es e.key node same in
       let b = top-append before (e ∷ es) e.key node in
       omega (arith, a, b)),
-  subst (λ (all : List Entry). AllByRecursion (λ x. counter x.version.clock node ≤ top_counter all x.key node) es) (append_assoc before (e ∷ []) es) (top-all (before ++ e ∷ []) es node),
+  subst (λ (all : List Entry). AllByRecursion (λ x. counter x.version.clock node ≤ top_counter all x.key node) es) (append_assoc before (e ∷ []) es)
+      (top-all (before ++ e ∷ []) es node),
 )

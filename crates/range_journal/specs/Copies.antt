@@ -1,4 +1,5 @@
--- Entries told as copies: a range tells a partner's version as a copy once it has no record of the session that took it.
+-- Entries reported as copies: a range reports a partner's version as a copy once it has no record of the session that
+-- accepted it.
 use Rattle.std.specs.Prelude.{◌≡◌, ℕ, List, map, take, ◌≤◌, length}
 use Rattle.std.specs.List.{AllByRecursion}
 use Rattle.range_journal.specs.declared.journal.Entry.{Entry}
@@ -6,7 +7,7 @@ use Rattle.range_journal.specs.declared.journal.Source.{Source}
 use Rattle.range_journal.specs.declared.journal.Source.TheVariants.{Client, Copy, Hint, Partner}
 use Rattle.range_journal.specs.Log.{Log}
 
--- the source that is told in place of a source
+-- the source that is reported in place of a source
 abbrev pub copy_for : Source → Source
 copy_for Client = Client
 copy_for Copy = Copy

@@ -1,5 +1,5 @@
--- The counters of nodes in the clocks of versions: a node raises its own counter by one at each put (the paper of 2007,
--- section 4.4).
+-- The counters of nodes in the clocks of versions: a node raises its own counter by one at each put (section 4.4 of the
+-- Dynamo paper).
 use Rattle.std.specs.Prelude.{ℕ, List, [], ◌∷◌, max}
 use Rattle.vclock.specs.Clock.{counter}
 use Rattle.version_set.specs.declared.version.Version.{Version}

@@ -1,4 +1,4 @@
--- Journals, and the versions of keys in them: a put adds a new version to those of the paper of 2007, section 4.4.
+-- Journals, and the versions of keys in them: a put adds a new version, as in section 4.4 of the Dynamo paper.
 use Rattle.std.specs.Prelude.{◌≡◌, ℕ, ◌+◌, ◌-◌, false, List, [], ◌∷◌, ◌++◌, length, take, ◌≤◌, nat_lt, nat_eq, max, if◌then◌else◌}
 use Rattle.std.specs.Cmp.Lexicographic.{pointwise}
 use Rattle.vclock.specs.declared.refusal.Refusal.TheVariants.{JournalFull}
@@ -17,7 +17,7 @@ with_entry log e = record { entries = log.entries ++ e ∷ []; limit = log.limit
 abbrev pub with_entries : Log → List Entry → Log
 with_entries log es = record { entries = log.entries ++ es; limit = log.limit; room = log.room - length es }
 
--- room for k more entries, within the limit
+-- capacity for k more entries, within the limit
 abbrev pub reserve : Log → ℕ → Outcome (Unit {0}) Log
 reserve log k = if nat_lt log.limit (length log.entries + k) then refuses JournalFull else gives tt (record log { room = max log.room k })
 

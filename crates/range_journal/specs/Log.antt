@@ -13,7 +13,7 @@ abbrev pub AreNumberedFrom : ℕ → List Entry → Type 0
 AreNumberedFrom n [] = Unit {0}
 AreNumberedFrom n (e ∷ es) = (e.number ≡ n) × AreNumberedFrom (n + 1) es
 
--- the entries are numbered from 0, and there is room only within the limit
+-- the entries are numbered from 0, and with the spare capacity they are within the limit
 pub record IsLog (log : Log) : Type 0 where
   pub numbered : AreNumberedFrom 0 log.entries
   pub within : length log.entries + log.room ≤ log.limit

@@ -4,7 +4,7 @@ use Rattle.std.specs.List.{sum_by}
 use Rattle.version_set.specs.Sizes.{payload_len}
 use Rattle.range_journal.specs.declared.journal.Entry.{Entry}
 
--- the bytes of an entry: those of its key, and of its version's value and clock
+-- the bytes of an entry: its key, and its version's value and clock
 abbrev pub entry_len : Entry → ℕ
 entry_len e = payload_len e.key e.version
 

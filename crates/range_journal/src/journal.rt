@@ -30,7 +30,8 @@ pub enum Source {
 }
 
 impl Source {
-    /// Returns the source that is told once no record is left of the session: Copy for Partner, else the same.
+    /// Returns the source that is reported once no record of the session is left: Copy for Partner, otherwise
+    /// unchanged.
     fn copied(self) -> Source
         ensures { result ≡ copy_for self }
     {
@@ -99,8 +100,8 @@ impl Entry {
 }
 
 /// The accepted versions in order, up to a limit. Entries are never removed, and never changed but in their source
-/// (`make_copies`), so the journal is the record by which a range's rows are checked and its callers' passes are settled.
-/// On error a journal is unchanged.
+/// (`make_copies`). A range's rows are checked and its callers' passes are settled by the journal. On error a journal
+/// is unchanged.
 ///
 /// ```
 /// append(alloc, journal, 1)?;
@@ -156,8 +157,8 @@ impl Journal {
         self.entries.len() as u64
     }
 
-    /// Returns the number of bytes of the entries' keys, values and clocks, at most 2^64 - 1: 10 bytes for each pair of a
-    /// clock. Reads no entry.
+    /// Returns the number of bytes of the entries' keys, values and clocks, at most 2^64 - 1: 10 bytes for each pair of
+    /// a clock. Reads no entry.
     pub fn bytes(&self) -> u64
         ensures { result ≡ min (entries_len self.now.entries) (2 ^ 64 - 1) }
     {
@@ -186,8 +187,8 @@ impl Journal {
         &self.entries
     }
 
-    /// Returns the greatest counter of a node in the clocks of the versions that the first `front` entries accepted for a
-    /// key: of all entries if there are fewer, and 0 if no clock has the node. Reads each of these entries. Doesn't
+    /// Returns the greatest counter of a node in the clocks of the versions that the first `front` entries accepted for
+    /// a key: of all entries if there are fewer, and 0 if no clock has the node. Reads each of these entries. Doesn't
     /// allocate.
     pub fn top_counter(&self, node: u16, key: &[u8], front: u64) -> u64
         ensures { result ≡ top_counter (take front self.now.entries) key.now node }
@@ -196,7 +197,7 @@ impl Journal {
         top_of(&self.entries[..most], node, key)
     }
 
-    /// Makes room for `entries` more entries, so that adding them doesn't allocate.
+    /// Reserves capacity for `entries` more entries, so that adding them doesn't allocate.
     ///
     /// Refused, in order: JournalFull (they would pass the limit), NoMemory.
     pub fn reserve(&mut self, entries: u64) -> Result<(), Refusal>
@@ -230,7 +231,7 @@ impl Journal {
         Ok(self.append_reserved(seat, source, key, version))
     }
 
-    /// Adds an entry at the end, in room that was made before, and returns its number. Doesn't allocate.
+    /// Appends an entry within the reserved capacity, and returns its number. Doesn't allocate.
     pub fn append_reserved(
         &mut self,
         seat: u16,
@@ -256,8 +257,8 @@ impl Journal {
         number
     }
 
-    /// Makes a copy of each partner's entry from number `from` on: its source is [`Source::Copy`] then. None of the
-    /// entries before is a partner's. Doesn't allocate.
+    /// Turns each partner's entry from number `from` on into a copy: its source becomes [`Source::Copy`]. No earlier
+    /// entry is a partner's. Doesn't allocate.
     pub fn make_copies(&mut self, from: u64)
         requires { IsSettled from self.old.entries }
         ensures { self.new ≡ with_copies self.old }
@@ -265,7 +266,7 @@ impl Journal {
         make_copies(&mut self.entries, from as usize);
     }
 
-    /// Adds entries at the end, in room that was made before. They have the next numbers, in order. Doesn't allocate.
+    /// Appends entries within the reserved capacity. They have the next numbers, in order. Doesn't allocate.
     pub fn append_entries(&mut self, mut entries: Vec<Entry>)
         requires numbered { AreNumberedFrom (length self.old.entries) entries.items }
         requires room { length entries.items ≤ self.old.room }

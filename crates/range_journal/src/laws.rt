@@ -9,7 +9,7 @@ ghost use Rattle.range_journal.specs.declared.journal.Entry.{Entry};
 ghost use Rattle.range_journal.specs.Counters.{top_in, top_counter};
 ghost use Rattle.range_journal.specs.Journal.{versions_of, accepted, held, AreNews};
 
-/// The accepted versions of a key are those of the entries with that key.
+/// The accepted versions of a key are the versions of the entries with that key.
 pub fn accepted_versions_are_the_entries()
     ensures { (entries : List Entry) (key : List ℕ) (version : Version)
         → Contains (accepted entries key) version
@@ -30,15 +30,16 @@ pub fn news_stay_news()
         → AreNews (entries ++ entry ∷ []) }
 {}
 
-/// One more entry offers its version to the held versions of its key, and leaves those of all other keys unchanged.
+/// One more entry offers its version to the held versions of its key, and leaves the held versions of other keys
+/// unchanged.
 pub fn held_versions_grow_by_an_offer()
     ensures { (entries : List Entry) (entry : Entry) (key : List ℕ)
         → held (entries ++ entry ∷ []) key
         ≡ (if bytes_eq entry.key key then offered entry.version (held entries key) else held entries key) }
 {}
 
-/// The greatest counter of a node for a key is at least that of each accepted version of the key, and is that of the held
-/// versions. More entries never lower it.
+/// The greatest counter of a node for a key is at least the node's counter in each accepted version of the key, and is
+/// the greatest one in the held versions. More entries never lower it.
 pub fn counters_never_go_back()
     ensures all { (entries : List Entry) (node : ℕ)
         → AllByRecursion (λ e. counter e.version.clock node ≤ top_counter entries e.key node) entries }

@@ -87,7 +87,7 @@ impl<'a> Replay<'a> {
     }
 }
 
-/// Offers a version to the set of a key, which has room for it. On error the sets are unchanged. Refused: NoMemory.
+/// Offers a version to the set of a key, which has space for it. On error the sets are unchanged. Refused: NoMemory.
 fn offer_to<'a>(
     alloc: Global,
     sets: &mut HashMap<&'a [u8], VersionSet>,

@@ -1,5 +1,6 @@
 -- What a session answers to a text, and what the range is then.
-use Rattle.std.proofs.Common.{◌≡◌, ◌≢◌, ℕ, zero, suc, ◌+◌, ◌<◌, ◌≤◌, ◌⊎◌, Bool, true, false, cond, Option, Some, None, List, [], ◌∷◌, ◌++◌, length, set, get_or, refl, sym, ap, subst, ◌∙◌, inl, inr, arith, slice_get, ◌^◌}
+use Rattle.std.proofs.Common.{◌≡◌, ◌≢◌, ℕ, zero, suc, ◌+◌, ◌<◌, ◌≤◌, ◌⊎◌, Bool, true, false, cond, Option, Some, None, List, [], ◌∷◌, ◌++◌, length}
+use Rattle.std.proofs.Common.{set, get_or, refl, sym, ap, subst, ◌∙◌, inl, inr, arith, slice_get, ◌^◌}
 use Rattle.std.specs.Prelude.{nat_le, Ok, Err, MatchOption, IsTrue}
 use Rattle.std.specs.List.{AllByRecursion}
 use Rattle.std.proofs.lemmas.List.{set-get_or}
@@ -26,7 +27,8 @@ use Rattle.range_store.specs.Loads.{loaded, accept_offers}
 use Rattle.range_store.proofs.ChangeLaws.{crowded_is}
 use Rattle.vclock.proofs.OutcomeLaws.{passed}
 use Rattle.range_store.specs.Offers.{offers_of, crowded_in}
-use Rattle.range_state.specs.Sessions.{taken_in, leaf_fault, walked_to, IsInnerRead, IsLeafRead, IsNewsRead, TakesLeaf, IsLeafFault, Refuses, TakesText, TakesFor}
+use Rattle.range_state.specs.Sessions.{taken_in, leaf_fault, walked_to, IsInnerRead, IsLeafRead, IsNewsRead, TakesLeaf, IsLeafFault, Refuses}
+use Rattle.range_state.specs.Sessions.{TakesText, TakesFor}
 use Rattle.range_store.specs.Batches.{IsRowFor, IsOfferFor}
 use Rattle.range_store.proofs.BatchLaws.{Offers}
 use Rattle.range_state.proofs.TakenLaws.{record_kept, goes_on, format_now, spelled_rows, spelled_short, spelled_homes}
@@ -43,10 +45,12 @@ has_record (r ∷ rs) (suc id) P h = omega (arith, has_record rs id P h)
 pub got_record : (rs : List Record) (id : ℕ) (r : Record) → id < length rs → r ≡ get_or rs id r → slice_get rs id ≡ Some r
 got_record rs id r within was = slice_get_read rs (length rs) id r refl within was
 
-pub the_record : (rs : List Record) (id : ℕ) (r : Record) (P : Record → Type 0) → id < length rs → r ≡ get_or rs id r → MatchOption (slice_get rs id) ⊥ P → P r
+pub the_record : (rs : List Record) (id : ℕ) (r : Record) (P : Record → Type 0) → id < length rs → r ≡ get_or rs id r
+    → MatchOption (slice_get rs id) ⊥ P → P r
 the_record rs id r P within was h = subst (λ (o : Option Record). MatchOption o ⊥ P) (got_record rs id r within was) h
 
-pub with_record : (rs : List Record) (id : ℕ) (P : Record → Type 0) (Q : Type 0) → ((r : Record) → id < length rs → r ≡ get_or rs id r → P r → Q) → MatchOption (slice_get rs id) ⊥ P → Q
+pub with_record : (rs : List Record) (id : ℕ) (P : Record → Type 0) (Q : Type 0) → ((r : Record) → id < length rs → r ≡ get_or rs id r → P r → Q)
+    → MatchOption (slice_get rs id) ⊥ P → Q
 with_record [] id P Q f h = absurd h
 with_record (r ∷ rs) zero P Q f h = f r (omega arith) refl h
 with_record (r ∷ rs) (suc id) P Q f h = with_record rs id P Q (λ x within was p. f x (omega (arith, within)) was p) h
@@ -60,12 +64,20 @@ kept_at s id r ok here =
 pub in_place : (s : State) (id : ℕ) (r : Record) → r ≡ get_or s.records id r → s ≡ walked_to s id r r.session
 in_place s id r was =
     let same : set s.records id r ≡ s.records = ap (set s.records id) was ∙ set-get_or s.records id r in
-    λ i. record { store = s.store; records = sym same i; moment = s.moment; whole_before = s.whole_before; next_session = s.next_session; settled = s.settled }
+    λ i. record {
+      store = s.store;
+      records = sym same i;
+      moment = s.moment;
+      whole_before = s.whole_before;
+      next_session = s.next_session;
+      settled = s.settled;
+    }
 
 -- ---- the outcome of a session's call
 
 -- what refuses a call that has no other cause
-pub only_memory : {T S : Type 0} {x : T} {s : S} {e : Refusal} → ((e ≡ NoMemory) × IsTrue (outcome.is_given (outcome.gives x s))) ⊎ (outcome.gives x s ≡ outcome.refuses e) → e ≡ NoMemory
+pub only_memory : {T S : Type 0} {x : T} {s : S} {e : Refusal}
+    → ((e ≡ NoMemory) × IsTrue (outcome.is_given (outcome.gives x s))) ⊎ (outcome.gives x s ≡ outcome.refuses e) → e ≡ NoMemory
 only_memory (inl memory) = memory.0
 only_memory (inr clash) = cc
 
@@ -75,18 +87,23 @@ only_memory (inr clash) = cc
 pub stayed : (s : State) (id : ℕ) (r : Record) (w : Walk) → r ≡ get_or s.records id r → w ≡ r.session → s ≡ walked_to s id r w
 stayed s id r w was is = in_place s id r was ∙ ap (walked_to s id r) (sym is)
 
-refuses : (s : State) (seat id : ℕ) (r : Record) (t : TakenText) (e : Refusal) → IsTakeFault r.session t e → e ≢ NotCanonical → Refuses s seat id r t e s
+refuses : (s : State) (seat id : ℕ) (r : Record) (t : TakenText) (e : Refusal) → IsTakeFault r.session t e → e ≢ NotCanonical
+    → Refuses s seat id r t e s
 refuses s seat id r t Crowded fault other = absurd fault
 refuses s seat id r t JournalFull fault other = absurd fault
 refuses s seat id r t NotCanonical fault other = absurd (other refl)
 refuses s seat id r t e fault other = (fault, refl)
 
 -- nothing changes
-pub refused : (s : State) (seat id : ℕ) (r : Record) (t : TakenText) (e : Refusal) → slice_get s.records id ≡ Some r → IsTakeFault r.session t e → e ≢ NotCanonical → TakesFor s seat id (slice_get s.records id) t (Err e) s
-refused s seat id r t e here fault other = subst (λ (o : Option Record). TakesFor s seat id o t (Err e) s) (sym here) (refuses s seat id r t e fault other)
+pub refused : (s : State) (seat id : ℕ) (r : Record) (t : TakenText) (e : Refusal) → slice_get s.records id ≡ Some r → IsTakeFault r.session t e
+    → e ≢ NotCanonical → TakesFor s seat id (slice_get s.records id) t (Err e) s
+refused s seat id r t e here fault other =
+    subst (λ (o : Option Record). TakesFor s seat id o t (Err e) s) (sym here) (refuses s seat id r t e fault other)
 
 -- but where a session fails
-pub refused_for_good : (s new : State) (seat id : ℕ) (r : Record) (t : TakenText) → slice_get s.records id ≡ Some r → IsTakeFault r.session t NotCanonical → new ≡ walked_to s id r (failed r.session) → TakesFor s seat id (slice_get s.records id) t (Err NotCanonical) new
+pub refused_for_good : (s new : State) (seat id : ℕ) (r : Record) (t : TakenText) → slice_get s.records id ≡ Some r
+    → IsTakeFault r.session t NotCanonical → new ≡ walked_to s id r (failed r.session)
+    → TakesFor s seat id (slice_get s.records id) t (Err NotCanonical) new
 refused_for_good s new seat id r t here fault is = subst (λ (o : Option Record). TakesFor s seat id o t (Err NotCanonical) new) (sym here) (fault, is)
 
 -- ---- a text of a node with children
@@ -99,7 +116,8 @@ pub record IsInnerAt (s : State) (id : ℕ) (r : Record) (t : TakenText) : Type 
   pub inner : t.node.depth < tree_depth r.session.own.format
   pub form : IsInnerText r.session.own.format t.text
 
-pub inner_at : (s : State) (id : ℕ) (r : Record) (t : TakenText) → IsRight s → r ≡ get_or s.records id r → MatchOption (slice_get s.records id) ⊥ (λ x. IsInnerRead s x t) → IsInnerAt s id r t
+pub inner_at : (s : State) (id : ℕ) (r : Record) (t : TakenText) → IsRight s → r ≡ get_or s.records id r
+    → MatchOption (slice_get s.records id) ⊥ (λ x. IsInnerRead s x t) → IsInnerAt s id r t
 inner_at s id r t ok was h =
     let within = has_record s.records id (λ x. IsInnerRead s x t) h in
     let read = the_record s.records id r (λ x. IsInnerRead s x t) within was h in
@@ -113,15 +131,23 @@ inner_at s id r t ok was h =
     }
 
 -- no memory for the nodes that it asks
-pub inner_refused : (s : State) (seat id : ℕ) (r : Record) (t : TakenText) (e : Refusal) → IsInnerAt s id r t → e ≡ NoMemory → TakesFor s seat id (slice_get s.records id) t (Err e) s
+pub inner_refused : (s : State) (seat id : ℕ) (r : Record) (t : TakenText) (e : Refusal) → IsInnerAt s id r t → e ≡ NoMemory
+    → TakesFor s seat id (slice_get s.records id) t (Err e) s
 inner_refused s seat id r t e at memory =
     let fault : IsTakeFault r.session t NoMemory = (at.read.due, λ less. at.form) in
-    subst (λ (x : Refusal). TakesFor s seat id (slice_get s.records id) t (Err x) s) (sym memory) (refused s seat id r t NoMemory at.here fault (λ same. cc))
+    subst (λ (x : Refusal). TakesFor s seat id (slice_get s.records id) t (Err x) s) (sym memory)
+    (refused s seat id r t NoMemory at.here fault (λ same. cc))
 
-pub inner_taken : (s : State) (seat id : ℕ) (r : Record) (t : TakenText) (a : AnswerTaken) (w : Walk) → slice_get s.records id ≡ Some r → IsInnerRead s r t → a.receipts.items ≡ [] → a.known ≡ 0 → a.state ≡ w.state → w ≡ after r.session t
+pub inner_taken : (s : State) (seat id : ℕ) (r : Record) (t : TakenText) (a : AnswerTaken) (w : Walk) → slice_get s.records id ≡ Some r
+    → IsInnerRead s r t → a.receipts.items ≡ [] → a.known ≡ 0 → a.state ≡ w.state → w ≡ after r.session t
     → TakesFor s seat id (slice_get s.records id) t (Ok a) (walked_to s id r w)
 inner_taken s seat id r t a w here read receipts known state is =
-    let took : TakesText s seat id r t (Ok a) (walked_to s id r w) = (state ∙ ap (λ (v : Walk). v.state) is, inl (record { read = read; receipts = receipts; known = known; new_is = ap (walked_to s id r) is })) in
+    let took : TakesText s seat id r t (Ok a)
+    (walked_to s id r w) = (
+      state
+          ∙ ap (λ (v : Walk). v.state) is,
+      inl (record { read = read; receipts = receipts; known = known; new_is = ap (walked_to s id r) is }),
+    ) in
     subst (λ (o : Option Record). TakesFor s seat id o t (Ok a) (walked_to s id r w)) (sym here) took
 
 -- ---- a text of a leaf, before anything changes
@@ -137,7 +163,8 @@ pub record NewsRead (s : State) (id : ℕ) (t : TakenText) (news : News) : Type 
   pub read : MatchOption (slice_get s.records id) ⊥ (λ r. IsLeafRead s r t rows)
 
 -- of a range that is what another value of it shows
-pub news_read : {old s : State} (id : ℕ) (t : TakenText) (news : News) → old ≡ s → IsRight old → MatchOption (slice_get s.records id) ⊥ (λ r. IsNewsRead s r t news) → NewsRead s id t news
+pub news_read : {old s : State} (id : ℕ) (t : TakenText) (news : News) → old ≡ s → IsRight old
+    → MatchOption (slice_get s.records id) ⊥ (λ r. IsNewsRead s r t news) → NewsRead s id t news
 news_read {s = s} id t news view old_right h =
     let ok = subst IsRight view old_right in
     with_record s.records id (λ r. IsNewsRead s r t news) _ (λ r within was is. record {
@@ -161,7 +188,8 @@ pub record IsLeafAt (s : State) (id : ℕ) (r : Record) (t : TakenText) (rows : 
   pub deep : t.node.depth ≡ tree_depth r.session.own.format
   pub can : IsCanonical r.session.own t.node t.text
 
-pub leaf_at : {old s : State} {id : ℕ} {r : Record} {t : TakenText} {news : News} (seen : NewsRead s id t news) → old ≡ s → r ≡ get_or old.records id r → IsLeafAt s id r t seen.rows
+pub leaf_at : {old s : State} {id : ℕ} {r : Record} {t : TakenText} {news : News} (seen : NewsRead s id t news) → old ≡ s
+    → r ≡ get_or old.records id r → IsLeafAt s id r t seen.rows
 leaf_at {s = s} {id = id} {r = r} {t = t} seen view old_was =
     let was : r ≡ get_or s.records id r = old_was ∙ ap (λ (u : State). get_or u.records id r) view in
     let read = the_record s.records id r (λ x. IsLeafRead s x t seen.rows) seen.within was seen.read in
@@ -179,32 +207,45 @@ leaf_at {s = s} {id = id} {r = r} {t = t} seen view old_was =
       can = inr (deep, (seen.rows, read.spelled));
     }
 
-with_leaf : {s : State} {id : ℕ} {t : TakenText} {news : News} (seen : NewsRead s id t news) (Q : Type 0) → ((r : Record) → IsLeafAt s id r t seen.rows → Q) → Q
-with_leaf {s = s} {id = id} {t = t} seen Q f = with_record s.records id (λ r. IsLeafRead s r t seen.rows) Q (λ r within was read. f r (leaf_at seen refl was)) seen.read
+with_leaf : {s : State} {id : ℕ} {t : TakenText} {news : News} (seen : NewsRead s id t news) (Q : Type 0)
+    → ((r : Record) → IsLeafAt s id r t seen.rows → Q) → Q
+with_leaf {s = s} {id = id} {t = t} seen Q f =
+    with_record s.records id (λ r. IsLeafRead s r t seen.rows) Q (λ r within was read. f r (leaf_at seen refl was)) seen.read
 
-pub rows_ready : {s : State} {id : ℕ} {t : TakenText} {news : News} (seen : NewsRead s id t news) → AllByRecursion (IsRowFor s.store.config t.node.index) seen.rows × (length (offers_of seen.rows) ≤ length t.text)
-rows_ready {s = s} {t = t} seen = with_leaf seen _ (λ r at.
-    (spelled_rows s.store.config r.session t.node t.text seen.rows at.format at.kept.here at.read.spelled, spelled_short r.session.own t.node t.text seen.rows at.read.spelled))
+pub rows_ready : {s : State} {id : ℕ} {t : TakenText} {news : News} (seen : NewsRead s id t news)
+    → AllByRecursion (IsRowFor s.store.config t.node.index) seen.rows × (length (offers_of seen.rows) ≤ length t.text)
+rows_ready {s = s} {t = t} seen = with_leaf seen _ (λ r at. (
+  spelled_rows s.store.config r.session t.node t.text seen.rows at.format at.kept.here at.read.spelled,
+  spelled_short r.session.own t.node t.text seen.rows at.read.spelled,
+))
 
-pub rows_homes : {s : State} {id : ℕ} {t : TakenText} {news : News} (seen : NewsRead s id t news) → AllByRecursion (λ (r : Row). AllByRecursion (λ v. IsOfferFor s.store.config t.node.index r.key v) r.versions) seen.rows
-rows_homes {s = s} {t = t} seen = with_leaf seen _ (λ r at. spelled_homes s.store.config r.session t.node t.text seen.rows at.format at.kept.here at.read.spelled)
+pub rows_homes : {s : State} {id : ℕ} {t : TakenText} {news : News} (seen : NewsRead s id t news)
+    → AllByRecursion (λ (r : Row). AllByRecursion (λ v. IsOfferFor s.store.config t.node.index r.key v) r.versions) seen.rows
+rows_homes {s = s} {t = t} seen =
+    with_leaf seen _ (λ r at. spelled_homes s.store.config r.session t.node t.text seen.rows at.format at.kept.here at.read.spelled)
 
 -- its node is a leaf of the tree
-pub leaf_inside : {s : State} {id : ℕ} {t : TakenText} {news : News} (seen : NewsRead s id t news) → t.node.index < 16 ^ t.node.depth → t.node.index < leaf_count s.store.config
-leaf_inside {s = s} {t = t} seen within = counted s.store.config.format t.node.index (subst (λ (d : ℕ). t.node.index < 16 ^ d) (with_leaf seen _ (λ r at. at.read.leaf)) within)
+pub leaf_inside : {s : State} {id : ℕ} {t : TakenText} {news : News} (seen : NewsRead s id t news) → t.node.index < 16 ^ t.node.depth
+    → t.node.index < leaf_count s.store.config
+leaf_inside {s = s} {t = t} seen within =
+    counted s.store.config.format t.node.index (subst (λ (d : ℕ). t.node.index < 16 ^ d) (with_leaf seen _ (λ r at. at.read.leaf)) within)
   where
     counted : (f : Format) (n : ℕ) → n < 16 ^ tree_depth f → n < 2 ^ leaf_bits f
     counted One n h = h
     counted Two n h = h
 
 -- no memory
-pub no_memory : {s new : State} {id : ℕ} {t : TakenText} {news : News} {e : Refusal} (seat : ℕ) (seen : NewsRead s id t news) → s ≡ new → e ≡ NoMemory → TakesFor s seat id (slice_get s.records id) t (Err e) new
-no_memory {s = s} {id = id} {t = t} {e = e} seat seen same memory = subst (λ (u : State). TakesFor s seat id (slice_get s.records id) t (Err e) u) same (with_leaf seen _ (λ r at.
+pub no_memory : {s new : State} {id : ℕ} {t : TakenText} {news : News} {e : Refusal} (seat : ℕ) (seen : NewsRead s id t news) → s ≡ new → e ≡ NoMemory
+    → TakesFor s seat id (slice_get s.records id) t (Err e) new
+no_memory {s = s} {id = id} {t = t} {e = e} seat seen same memory =
+    subst (λ (u : State). TakesFor s seat id (slice_get s.records id) t (Err e) u) same (with_leaf seen _ (λ r at.
     let fault : IsTakeFault r.session t NoMemory = (at.read.due, λ less. absurd (omega (arith, less, at.deep))) in
-    subst (λ (x : Refusal). TakesFor s seat id (slice_get s.records id) t (Err x) s) (sym memory) (refused s seat id r t NoMemory at.here fault (λ same. cc))))
+    subst (λ (x : Refusal). TakesFor s seat id (slice_get s.records id) t (Err x) s) (sym memory)
+    (refused s seat id r t NoMemory at.here fault (λ same. cc))))
 
 -- a version too many, or no memory
-pub not_prepared : {s : State} {id : ℕ} {t : TakenText} {news : News} {e : Refusal} (seat : ℕ) (seen : NewsRead s id t news) → (e ≡ NoMemory) ⊎ (crowded_in s.store seat Partner (offers_of seen.rows) ≡ Some e) → TakesFor s seat id (slice_get s.records id) t (Err e) s
+pub not_prepared : {s : State} {id : ℕ} {t : TakenText} {news : News} {e : Refusal} (seat : ℕ) (seen : NewsRead s id t news)
+    → (e ≡ NoMemory) ⊎ (crowded_in s.store seat Partner (offers_of seen.rows) ≡ Some e) → TakesFor s seat id (slice_get s.records id) t (Err e) s
 not_prepared seat seen (inl memory) = no_memory seat seen refl memory
 not_prepared {s = s} {id = id} {t = t} {e = e} seat seen (inr crowd) = with_leaf seen _ (λ r at.
     let is = crowded_is s.store seat Partner (offers_of seen.rows) e crowd in
@@ -216,22 +257,31 @@ not_prepared {s = s} {id = id} {t = t} {e = e} seat seen (inr crowd) = with_leaf
 -- ---- a text of a leaf that is taken or not
 
 -- the versions of the rows are accepted by this outcome
-accepts_all : (s : Store) (seat : ℕ) (offers : Offers) (room : Bool) → crowded_in s seat Partner offers ≡ None → nat_le (length (taken_in s seat offers).entries) s.config.limit ≡ room
-    → accept_offers s seat Partner offers ≡ cond room (outcome.gives (loaded s (taken_in s seat offers) offers) (taken_in s seat offers)) (outcome.refuses JournalFull)
+accepts_all : (s : Store) (seat : ℕ) (offers : Offers) (room : Bool) → crowded_in s seat Partner offers ≡ None
+    → nat_le (length (taken_in s seat offers).entries) s.config.limit ≡ room
+    → accept_offers s seat Partner offers ≡ cond room (outcome.gives (loaded s (taken_in s seat offers) offers) (taken_in s seat offers))
+    (outcome.refuses JournalFull)
 accepts_all s seat offers true fits room = rw (fits, room) refl
 accepts_all s seat offers false fits room = rw (fits, room) refl
 
 -- the store refuses these, which stand for them: the journal has no room for the entries, or there is no memory
-pub not_accepted : {s : State} {id : ℕ} {t : TakenText} {news : News} {e : Refusal} (seat : ℕ) (seen : NewsRead s id t news) (offers : Offers) → taken_in s.store seat (offers_of seen.rows) ≡ taken_in s.store seat offers → crowded_in s.store seat Partner (offers_of seen.rows) ≡ crowded_in s.store seat Partner offers
-    → crowded_in s.store seat Partner offers ≡ None → ((e ≡ NoMemory) × IsTrue (outcome.is_given (accept_offers s.store seat Partner offers))) ⊎ (accept_offers s.store seat Partner offers ≡ outcome.refuses e) → TakesFor s seat id (slice_get s.records id) t (Err e) s
+pub not_accepted : {s : State} {id : ℕ} {t : TakenText} {news : News} {e : Refusal} (seat : ℕ) (seen : NewsRead s id t news) (offers : Offers)
+    → taken_in s.store seat (offers_of seen.rows) ≡ taken_in s.store seat offers
+    → crowded_in s.store seat Partner (offers_of seen.rows) ≡ crowded_in s.store seat Partner offers
+    → crowded_in s.store seat Partner offers ≡ None
+    → ((e ≡ NoMemory) × IsTrue (outcome.is_given (accept_offers s.store seat Partner offers))) ⊎
+    (accept_offers s.store seat Partner offers ≡ outcome.refuses e) → TakesFor s seat id (slice_get s.records id) t (Err e) s
 not_accepted seat seen offers same alike fits (inl memory) = no_memory seat seen refl memory.0
-not_accepted {s = s} {id = id} {t = t} {e = e} seat seen offers same alike fits (inr refused) = by_room (nat_le (length (taken_in s.store seat offers).entries) s.store.config.limit) refl
+not_accepted {s = s} {id = id} {t = t} {e = e} seat seen offers same alike fits (inr refused) =
+    by_room (nat_le (length (taken_in s.store seat offers).entries) s.store.config.limit) refl
   where
-    by_room : (room : Bool) → nat_le (length (taken_in s.store seat offers).entries) s.store.config.limit ≡ room → TakesFor s seat id (slice_get s.records id) t (Err e) s
+    by_room : (room : Bool) → nat_le (length (taken_in s.store seat offers).entries) s.store.config.limit ≡ room
+        → TakesFor s seat id (slice_get s.records id) t (Err e) s
     by_room true low = absurd (let clash = sym (accepts_all s.store seat offers true fits low) ∙ refused in cc)
     by_room false past =
         let is : JournalFull ≡ e = let both = sym (accepts_all s.store seat offers false fits past) ∙ refused in cc in
-        let all : nat_le (length (taken_in s.store seat (offers_of seen.rows)).entries) s.store.config.limit ≡ false = ap (λ (u : Store). nat_le (length u.entries) s.store.config.limit) same ∙ past in
+        let all : nat_le (length (taken_in s.store seat (offers_of seen.rows)).entries) s.store.config.limit ≡ false = ap
+        (λ (u : Store). nat_le (length u.entries) s.store.config.limit) same ∙ past in
         let none : crowded_in s.store seat Partner (offers_of seen.rows) ≡ None = alike ∙ fits in
         with_leaf seen _ (λ r at.
         let fault : IsLeafFault s seat r t JournalFull = record { rows = seen.rows; read = at.read; fault = rw (none, all) refl } in
@@ -244,7 +294,8 @@ pub record AreTaken (s : Store) (seat : ℕ) (offers : Offers) (a : Loaded) (new
   pub counts : a ≡ loaded s new offers
   pub is : new ≡ taken_in s seat offers
 
-pub are_taken : (s : Store) (seat : ℕ) (offers : Offers) (a : Loaded) (new : Store) → accept_offers s seat Partner offers ≡ outcome.gives a new → AreTaken s seat offers a new
+pub are_taken : (s : Store) (seat : ℕ) (offers : Offers) (a : Loaded) (new : Store) → accept_offers s seat Partner offers ≡ outcome.gives a new
+    → AreTaken s seat offers a new
 are_taken s seat offers a new given =
     let both = passed (leaf_fault s seat offers) (outcome.gives (loaded s (taken_in s seat offers) offers) (taken_in s seat offers)) a new given in
     let same = both.1 in
@@ -254,10 +305,21 @@ are_taken s seat offers a new given =
 
 -- the state after the text of a leaf
 abbrev pub taken_to : State → ℕ → TakenText → Record → Store → State
-taken_to s id t r new = record { store = new; records = set s.records id (record { number = r.number; partner = r.partner; session = after r.session t }); moment = s.moment; whole_before = s.whole_before; next_session = s.next_session; settled = s.settled }
+taken_to s id t r new = record {
+  store = new;
+  records = set s.records id (record { number = r.number; partner = r.partner; session = after r.session t });
+  moment = s.moment;
+  whole_before =
+      s.whole_before;
+  next_session = s.next_session;
+  settled = s.settled;
+}
 
-pub leaf_taken : {s : State} {id : ℕ} {t : TakenText} {rows : List Row} {r : Record} {new : Store} (seat : ℕ) (a : AnswerTaken) → IsLeafAt s id r t rows → leaf_fault s.store seat (offers_of rows) ≡ None → new ≡ taken_in s.store seat (offers_of rows)
-    → s.store.entries ++ a.receipts.items ≡ (taken_in s.store seat (offers_of rows)).entries → length a.receipts.items + a.known ≡ length (offers_of rows) → a.state ≡ (after r.session t).state → TakesFor s seat id (slice_get s.records id) t (Ok a) (taken_to s id t r new)
+pub leaf_taken : {s : State} {id : ℕ} {t : TakenText} {rows : List Row} {r : Record} {new : Store} (seat : ℕ) (a : AnswerTaken)
+    → IsLeafAt s id r t rows → leaf_fault s.store seat (offers_of rows) ≡ None → new ≡ taken_in s.store seat (offers_of rows)
+    → s.store.entries ++ a.receipts.items ≡ (taken_in s.store seat (offers_of rows)).entries
+    → length a.receipts.items + a.known ≡ length (offers_of rows) → a.state ≡ (after r.session t).state
+    → TakesFor s seat id (slice_get s.records id) t (Ok a) (taken_to s id t r new)
 leaf_taken {s = s} {id = id} {t = t} {rows = rows} {r = r} {new = new} seat a at fits is receipts known state =
     let took : TakesLeaf s seat id r t a (taken_to s id t r new) = record {
       rows = rows;
@@ -272,9 +334,12 @@ leaf_taken {s = s} {id = id} {t = t} {rows = rows} {r = r} {new = new} seat a at
 -- ---- what was read
 
 abbrev pub Reads : Record → TakenText → News → Type 0
-Reads r t news = ((t.node.depth < tree_depth r.session.own.format) × IsInnerText r.session.own.format t.text × (news.rows.items ≡ []) × (news.known ≡ 0)) ⊎ ((t.node.depth ≡ tree_depth r.session.own.format) × ((rows : List Row) × AreSpelled r.session.own t.node t.text rows × AreOthers r.session.own.rows rows news.rows.items news.known))
+Reads r t news = ((t.node.depth < tree_depth r.session.own.format) × IsInnerText r.session.own.format t.text × (news.rows.items ≡ [])
+    × (news.known ≡ 0)) ⊎ ((t.node.depth ≡ tree_depth r.session.own.format)
+    × ((rows : List Row) × AreSpelled r.session.own t.node t.text rows × AreOthers r.session.own.rows rows news.rows.items news.known))
 
-pub leaf_read : (s : State) (id : ℕ) (r : Record) (t : TakenText) (news : News) → IsRight s → slice_get s.records id ≡ Some r → IsDue r.session t → Reads r t news → t.node.depth ≡ tree_depth s.store.config.format → IsNewsRead s r t news
+pub leaf_read : (s : State) (id : ℕ) (r : Record) (t : TakenText) (news : News) → IsRight s → slice_get s.records id ≡ Some r → IsDue r.session t
+    → Reads r t news → t.node.depth ≡ tree_depth s.store.config.format → IsNewsRead s r t news
 leaf_read s id r t news ok here due reads deep =
     let format = format_now s.store.config s.store.entries r t (kept_at s id r ok here) due in
     let depth : tree_depth r.session.own.format ≡ tree_depth s.store.config.format = ap tree_depth format in
@@ -283,7 +348,8 @@ leaf_read s id r t news ok here due reads deep =
       | inr leaf ↦ record { rows = leaf.1.0; read = record { due = due; leaf = deep; spelled = leaf.1.1 }; parted = leaf.1.2 }
     ]
 
-pub inner_read : (s : State) (id : ℕ) (r : Record) (t : TakenText) (news : News) → IsRight s → slice_get s.records id ≡ Some r → IsDue r.session t → Reads r t news → t.node.depth ≢ tree_depth s.store.config.format → IsInnerRead s r t
+pub inner_read : (s : State) (id : ℕ) (r : Record) (t : TakenText) (news : News) → IsRight s → slice_get s.records id ≡ Some r → IsDue r.session t
+    → Reads r t news → t.node.depth ≢ tree_depth s.store.config.format → IsInnerRead s r t
 inner_read s id r t news ok here due reads other =
     let format = format_now s.store.config s.store.entries r t (kept_at s id r ok here) due in
     let depth : tree_depth r.session.own.format ≡ tree_depth s.store.config.format = ap tree_depth format in

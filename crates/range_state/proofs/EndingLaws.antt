@@ -1,5 +1,6 @@
 -- A range without its ended sessions.
-use Rattle.std.proofs.Common.{◌≡◌, ◌≢◌, ℕ, ◌≤◌, Bool, true, false, cond, Option, Some, None, List, [], ◌∷◌, length, take, refl, sym, ap, subst, ◌∙◌, arith, inl, inr, slice_get}
+use Rattle.std.proofs.Common.{◌≡◌, ◌≢◌, ℕ, ◌≤◌, Bool, true, false, cond, Option, Some, None, List, [], ◌∷◌, length, take, refl, sym, ap, subst, ◌∙◌}
+use Rattle.std.proofs.Common.{arith, inl, inr, slice_get}
 use Rattle.std.specs.Option.{IfSome}
 use Rattle.std.specs.List.{AllByRecursion, filter}
 use Rattle.std.proofs.lemmas.Bool.{eq-eqb, ne_eqb, cases_eq}
@@ -38,7 +39,10 @@ kept_alike c es r kept = record {
   ended = kept.ended;
   going = elim kept.going [
     | inl over ↦ inl over
-    | inr on ↦ inr (record { walked = subst (λ (h : List ℕ → List Version). Walked h r.session) (sym (held_alike es)) on.walked; orderly = on.orderly })
+    | inr on ↦ inr (record {
+      walked = subst (λ (h : List ℕ → List Version). Walked h r.session) (sym (held_alike es)) on.walked;
+      orderly = on.orderly;
+    })
   ];
 }
 
@@ -68,7 +72,8 @@ moment_alike s (Some m) is = record {
 pub right_without : (s : State) → IsRight s → IsRight (without_ended_sessions s)
 right_without s ok = record {
   store = copies_sound s.store ok.store;
-  records = all-filter (IsKept s.store.config (as_copies s.store.entries)) is_open s.records (All-weaker _ _ s.records (kept_alike s.store.config s.store.entries) ok.records);
+  records = all-filter (IsKept s.store.config (as_copies s.store.entries)) is_open s.records
+      (All-weaker _ _ s.records (kept_alike s.store.config s.store.entries) ok.records);
   few = omega (arith, ok.few, fewer is_open s.records);
   few_open = omega (arith, ok.few_open, fewer is_open (filter is_open s.records));
   numbers = numbered_filter s.next_session is_open s.records ok.numbers;
@@ -78,9 +83,18 @@ right_without s ok = record {
 }
 
 -- the state after its parts were changed
-pub dropped : (s : State) {store : Store} {records : List Record} {count : ℕ} → store ≡ with_copies s.store → records ≡ filter is_open s.records → count ≡ length s.store.entries
-    → record { store = store; records = records; moment = s.moment; whole_before = s.whole_before; next_session = s.next_session; settled = count } ≡ without_ended_sessions s
-dropped s made kept all = λ i. record { store = made i; records = kept i; moment = s.moment; whole_before = s.whole_before; next_session = s.next_session; settled = all i }
+pub dropped : (s : State) {store : Store} {records : List Record} {count : ℕ} → store ≡ with_copies s.store → records ≡ filter is_open s.records
+    → count ≡ length s.store.entries
+    → record {
+      store = store;
+      records = records;
+      moment = s.moment;
+      whole_before = s.whole_before;
+      next_session = s.next_session;
+      settled = count;
+    } ≡ without_ended_sessions s
+dropped s made kept all =
+    λ i. record { store = made i; records = kept i; moment = s.moment; whole_before = s.whole_before; next_session = s.next_session; settled = all i }
 
 -- ---- the numbers
 
@@ -103,6 +117,7 @@ names_open (r ∷ rs) id pairs = elim (cases_eq r.number id) [
     here true is = rw (eq-eqb r.number id is) refl
     here false is = below_all (filter is_open rs) r id is (all-filter (Below r) is_open rs pairs.0)
 
-    later : (b : Bool) → r.number ≢ id → record_of id (filter is_open rs) ≡ if_open (record_of id rs) → record_of id (cond b (r ∷ filter is_open rs) (filter is_open rs)) ≡ if_open (record_of id rs)
+    later : (b : Bool) → r.number ≢ id → record_of id (filter is_open rs) ≡ if_open (record_of id rs)
+        → record_of id (cond b (r ∷ filter is_open rs) (filter is_open rs)) ≡ if_open (record_of id rs)
     later true other rest = rw (ne_eqb r.number id other) rest
     later false other rest = rest

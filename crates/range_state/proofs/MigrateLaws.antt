@@ -39,11 +39,13 @@ kept_in_two c es r kept =
       going = over.going;
     }
 
-all_in_two : (c : Config) (es : List Entry) (rs : List Record) → AllByRecursion (IsKept c es) rs → AllByRecursion (IsKept (config_in_two c) es) (map cancelled rs)
+all_in_two : (c : Config) (es : List Entry) (rs : List Record) → AllByRecursion (IsKept c es) rs
+    → AllByRecursion (IsKept (config_in_two c) es) (map cancelled rs)
 all_in_two c es [] all = tt
 all_in_two c es (r ∷ rs) all = (kept_in_two c es r all.0, all_in_two c es rs all.1)
 
-shut : (w : Walk) (number partner : ℕ) (st : SessionState) → w.state ≡ st → is_open (record { number = number; partner = partner; session = cancelled_by w st }) ≡ false
+shut : (w : Walk) (number partner : ℕ) (st : SessionState) → w.state ≡ st
+    → is_open (record { number = number; partner = partner; session = cancelled_by w st }) ≡ false
 unfolding is_open
 shut w number partner Open is = refl
 shut w number partner Finished is = rw is refl
@@ -55,7 +57,8 @@ none_open [] = refl
 none_open (r ∷ rs) = rw (shut r.session r.number r.partner r.session.state refl) (none_open rs)
 
 -- what a session has taken it has when it is cancelled
-still_from : (e : Entry) (rs : List Record) → Any (λ (r : Record). HasTaken r.session e) rs → Any (λ (r : Record). HasTaken r.session e) (map cancelled rs)
+still_from : (e : Entry) (rs : List Record) → Any (λ (r : Record). HasTaken r.session e) rs
+    → Any (λ (r : Record). HasTaken r.session e) (map cancelled rs)
 still_from e rs any =
     let r : Record = any.1 in (
       any.0,

@@ -34,7 +34,8 @@ record AreIdle (s : Store) (seat : ℕ) (offers : Offers) : Type 0 where
   taken : taken_in s seat offers ≡ s
   crowded : crowded_in s seat Partner offers ≡ None
 
-idle : (s : Store) (seat : ℕ) (key : List ℕ) (vs : List Version) → AllByRecursion (λ v. covered v (held s.entries key) ≡ true) vs → AreIdle s seat (map (λ (v : Version). (key, v)) vs)
+idle : (s : Store) (seat : ℕ) (key : List ℕ) (vs : List Version) → AllByRecursion (λ v. covered v (held s.entries key) ≡ true) vs
+    → AreIdle s seat (map (λ (v : Version). (key, v)) vs)
 idle s seat key [] all = record { taken = refl; crowded = refl }
 idle s seat key (v ∷ vs) all =
     let offers : Offers = map (λ (w : Version). (key, w)) vs in
@@ -44,14 +45,16 @@ idle s seat key (v ∷ vs) all =
     let rest = idle s seat key vs all.1 in
     record {
       taken = ap (λ (t : Store). taken_in t seat offers) step ∙ rest.taken;
-      crowded = ap (λ (f : Option Refusal). first_fault f (crowded_in (accept_step s seat Partner key v) seat Partner offers)) fits ∙ ap (λ (t : Store). crowded_in t seat Partner offers) step ∙ rest.crowded;
+      crowded = ap (λ (f : Option Refusal). first_fault f (crowded_in (accept_step s seat Partner key v) seat Partner offers)) fits
+          ∙ ap (λ (t : Store). crowded_in t seat Partner offers) step ∙ rest.crowded;
     }
 
 -- what is held stays so while offers are taken
 still_held : (s : Store) (seat : ℕ) (offers : Offers) (own : List Row) → Held own (held s.entries) → Held own (held (taken_in s seat offers).entries)
 still_held s seat offers own h =
     let grown = taken_grown Nothing s seat Partner offers (nothing offers) in
-    subst (λ es. Held own (held es)) (sym grown.entries) (Held-grows (held s.entries) (held (s.entries ++ grown.more)) own (grows s.entries grown.more) h)
+    subst (λ es. Held own (held es)) (sym grown.entries)
+    (Held-grows (held s.entries) (held (s.entries ++ grown.more)) own (grows s.entries grown.more) h)
 
 -- ---- the news stand for all
 
@@ -61,11 +64,13 @@ pub record IsSame (s : Store) (seat : ℕ) (rows others : List Row) (known : ℕ
   pub crowded : crowded_in s seat Partner (offers_of rows) ≡ crowded_in s seat Partner (offers_of others)
   pub count : length (offers_of rows) ≡ length (offers_of others) + known
 
-same_more : (s : Store) (seat : ℕ) (r : Row) (rows others : List Row) (known : ℕ) → IsSame (taken_in s seat (offers_in r)) seat rows others known → IsSame s seat (r ∷ rows) (r ∷ others) known
+same_more : (s : Store) (seat : ℕ) (r : Row) (rows others : List Row) (known : ℕ) → IsSame (taken_in s seat (offers_in r)) seat rows others known
+    → IsSame s seat (r ∷ rows) (r ∷ others) known
 same_more s seat r rows others known is =
     let next = taken_in s seat (offers_in r) in
     record {
-      taken = taken-append s seat Partner (offers_in r) (offers_of rows) ∙ is.taken ∙ sym (taken-append s seat Partner (offers_in r) (offers_of others));
+      taken = taken-append s seat Partner (offers_in r) (offers_of rows) ∙ is.taken
+          ∙ sym (taken-append s seat Partner (offers_in r) (offers_of others));
       crowded =
           crowded-append s seat Partner (offers_in r) (offers_of rows)
           ∙ ap (first_fault (crowded_in s seat Partner (offers_in r))) is.crowded
@@ -73,17 +78,25 @@ same_more s seat r rows others known is =
       count = omega (arith, is.count, length-append (offers_in r) (offers_of rows), length-append (offers_in r) (offers_of others));
     }
 
-same_idle : (s : Store) (seat : ℕ) (r : Row) (rows others : List Row) (n known : ℕ) → AreIdle s seat (offers_in r) → known ≡ length r.versions + n → IsSame s seat rows others n → IsSame s seat (r ∷ rows) others known
+same_idle : (s : Store) (seat : ℕ) (r : Row) (rows others : List Row) (n known : ℕ) → AreIdle s seat (offers_in r) → known ≡ length r.versions + n
+    → IsSame s seat rows others n → IsSame s seat (r ∷ rows) others known
 same_idle s seat r rows others n known quiet total is = record {
   taken = taken-append s seat Partner (offers_in r) (offers_of rows) ∙ ap (λ (t : Store). taken_in t seat (offers_of rows)) quiet.taken ∙ is.taken;
   crowded =
       crowded-append s seat Partner (offers_in r) (offers_of rows)
       ∙ ap (λ (f : Option Refusal). first_fault f (crowded_in (taken_in s seat (offers_in r)) seat Partner (offers_of rows))) quiet.crowded
       ∙ ap (λ (t : Store). crowded_in t seat Partner (offers_of rows)) quiet.taken ∙ is.crowded;
-  count = omega (arith, is.count, total, length-append (offers_in r) (offers_of rows), length-map {B = List ℕ × Version} r.versions (λ (v : Version). (r.key, v)));
+  count = omega (
+    arith,
+    is.count,
+    total,
+    length-append (offers_in r) (offers_of rows),
+    length-map {B = List ℕ × Version} r.versions (λ (v : Version). (r.key, v)),
+  );
 }
 
-pub news_stand : (s : Store) (seat : ℕ) (own rows others : List Row) (known : ℕ) → Held own (held s.entries) → AreOthers own rows others known → IsSame s seat rows others known
+pub news_stand : (s : Store) (seat : ℕ) (own rows others : List Row) (known : ℕ) → Held own (held s.entries) → AreOthers own rows others known
+    → IsSame s seat rows others known
 news_stand s seat own [] others known h news = record {
   taken = ap (λ (rs : List Row). taken_in s seat (offers_of rs)) (sym news.0);
   crowded = ap (λ (rs : List Row). crowded_in s seat Partner (offers_of rs)) (sym news.0);
@@ -101,14 +114,19 @@ news_stand s seat own (r ∷ rows) others known h news = elim news [
 ]
 
 -- what the news of a leaf's text have
-pub news_ready : {s : State} {id : ℕ} {t : TakenText} {news : News} → NewsRead s id t news → AllByRecursion (IsRowFor s.store.config t.node.index) news.rows.items × (length (offers_of news.rows.items) + news.known ≤ length t.text)
+pub news_ready : {s : State} {id : ℕ} {t : TakenText} {news : News} → NewsRead s id t news
+    → AllByRecursion (IsRowFor s.store.config t.node.index) news.rows.items × (length (offers_of news.rows.items) + news.known ≤ length t.text)
 news_ready {s = s} {t = t} {news = news} seen =
     let ready = rows_ready seen in
-    let all = news_stand s.store 0 seen.own seen.rows news.rows.items news.known seen.held seen.parted in
-    (others_all (IsRowFor s.store.config t.node.index) seen.own seen.rows news.rows.items news.known ready.0 seen.parted, omega (arith, ready.1, all.count))
+    let all = news_stand s.store 0 seen.own seen.rows news.rows.items news.known seen.held seen.parted in (
+      others_all (IsRowFor s.store.config t.node.index) seen.own seen.rows news.rows.items news.known ready.0 seen.parted,
+      omega (arith, ready.1, all.count),
+    )
 
 -- its versions have their place in the leaf
-pub news_homes : {s : State} {id : ℕ} {t : TakenText} {news : News} → NewsRead s id t news → AllByRecursion (λ o. IsOfferFor s.store.config t.node.index o.0 o.1) (offers_of news.rows.items)
+pub news_homes : {s : State} {id : ℕ} {t : TakenText} {news : News} → NewsRead s id t news
+    → AllByRecursion (λ o. IsOfferFor s.store.config t.node.index o.0 o.1) (offers_of news.rows.items)
 news_homes {s = s} {t = t} {news = news} seen =
     offers_all (IsOfferFor s.store.config t.node.index) news.rows.items
-    (others_all (λ (r : Row). AllByRecursion (λ v. IsOfferFor s.store.config t.node.index r.key v) r.versions) seen.own seen.rows news.rows.items news.known (rows_homes seen) seen.parted)
+    (others_all (λ (r : Row). AllByRecursion (λ v. IsOfferFor s.store.config t.node.index r.key v) r.versions) seen.own seen.rows news.rows.items
+    news.known (rows_homes seen) seen.parted)

@@ -1,5 +1,6 @@
 -- The numbers of sessions.
-use Rattle.std.proofs.Common.{◌≡◌, ◌≢◌, ℕ, zero, suc, ◌+◌, ◌<◌, ◌≤◌, Bool, List, [], ◌∷◌, ◌++◌, length, map, set, get_or, refl, sym, ap, subst, ◌∙◌, arith, inl, inr}
+use Rattle.std.proofs.Common.{◌≡◌, ◌≢◌, ℕ, zero, suc, ◌+◌, ◌<◌, ◌≤◌, Bool, List, [], ◌∷◌, ◌++◌, length, map, set, get_or, refl, sym, ap, subst, ◌∙◌}
+use Rattle.std.proofs.Common.{arith, inl, inr}
 use Rattle.std.specs.Prelude.{Result, Ok, Err}
 use Rattle.std.specs.Result.{result_unwrap_or}
 use Rattle.std.specs.List.Sorted.{IsSearchInRange, IsBinarySearchResult, IsNonDecreasingBy}
@@ -22,7 +23,8 @@ Below r s = r.number < s.number
 pub numbered_none : (next : ℕ) → AreNumbered next []
 numbered_none next = record { ascending = tt; below = tt }
 
-ascending_push : (rs : List Record) (r : Record) → Pairwise Below rs → AllByRecursion (λ (x : Record). x.number < r.number) rs → Pairwise Below (rs ++ r ∷ [])
+ascending_push : (rs : List Record) (r : Record) → Pairwise Below rs → AllByRecursion (λ (x : Record). x.number < r.number) rs
+    → Pairwise Below (rs ++ r ∷ [])
 ascending_push [] r pairs below = (tt, tt)
 ascending_push (x ∷ rs) r pairs below = (all-push (Below x) rs r pairs.0 below.0, ascending_push rs r pairs.1 below.1)
 
@@ -34,37 +36,49 @@ numbered_push next rs r are is = record {
 }
 
 -- what is said of the numbers of records stays so, where one is replaced by another of its number
-all_numbers_set : (P : ℕ → Type 0) (rs : List Record) (i : ℕ) (r new : Record) → AllByRecursion (λ (x : Record). P x.number) rs → r ≡ get_or rs i r → new.number ≡ r.number → AllByRecursion (λ (x : Record). P x.number) (set rs i new)
+all_numbers_set : (P : ℕ → Type 0) (rs : List Record) (i : ℕ) (r new : Record) → AllByRecursion (λ (x : Record). P x.number) rs → r ≡ get_or rs i r
+    → new.number ≡ r.number → AllByRecursion (λ (x : Record). P x.number) (set rs i new)
 all_numbers_set P [] i r new all was same = tt
 all_numbers_set P (x ∷ rs) zero r new all was same = (subst P (sym (same ∙ ap (λ (y : Record). y.number) was)) all.0, all.1)
 all_numbers_set P (x ∷ rs) (suc i) r new all was same = (all.0, all_numbers_set P rs i r new all.1 was same)
 
-ascending_set : (rs : List Record) (i : ℕ) (r new : Record) → Pairwise Below rs → r ≡ get_or rs i r → new.number ≡ r.number → Pairwise Below (set rs i new)
+ascending_set : (rs : List Record) (i : ℕ) (r new : Record) → Pairwise Below rs → r ≡ get_or rs i r → new.number ≡ r.number
+    → Pairwise Below (set rs i new)
 ascending_set [] i r new pairs was same = tt
-ascending_set (x ∷ rs) zero r new pairs was same = (All-weaker _ _ rs (λ y less. omega (arith, less, same ∙ ap (λ (z : Record). z.number) was)) pairs.0, pairs.1)
-ascending_set (x ∷ rs) (suc i) r new pairs was same = (all_numbers_set (λ n. x.number < n) rs i r new pairs.0 was same, ascending_set rs i r new pairs.1 was same)
+ascending_set (x ∷ rs) zero r new pairs was same =
+    (All-weaker _ _ rs (λ y less. omega (arith, less, same ∙ ap (λ (z : Record). z.number) was)) pairs.0, pairs.1)
+ascending_set (x ∷ rs) (suc i) r new pairs was same =
+    (all_numbers_set (λ n. x.number < n) rs i r new pairs.0 was same, ascending_set rs i r new pairs.1 was same)
 
-pub numbered_set : (next : ℕ) (rs : List Record) (i : ℕ) (r new : Record) → AreNumbered next rs → r ≡ get_or rs i r → new.number ≡ r.number → AreNumbered next (set rs i new)
+pub numbered_set : (next : ℕ) (rs : List Record) (i : ℕ) (r new : Record) → AreNumbered next rs → r ≡ get_or rs i r → new.number ≡ r.number
+    → AreNumbered next (set rs i new)
 numbered_set next rs i r new are was same = record {
   ascending = ascending_set rs i r new are.ascending was same;
   below = all_numbers_set (λ n. n < next) rs i r new are.below was same;
 }
 
 -- all records are changed, but not their numbers
-all_numbers_map : (P : ℕ → Type 0) (f : Record → Record) → ((r : Record) → (f r).number ≡ r.number) → (rs : List Record) → AllByRecursion (λ (x : Record). P x.number) rs → AllByRecursion (λ (x : Record). P x.number) (map f rs)
+all_numbers_map : (P : ℕ → Type 0) (f : Record → Record) → ((r : Record) → (f r).number ≡ r.number) → (rs : List Record)
+    → AllByRecursion (λ (x : Record). P x.number) rs → AllByRecursion (λ (x : Record). P x.number) (map f rs)
 all_numbers_map P f same [] all = tt
 all_numbers_map P f same (r ∷ rs) all = (subst P (sym (same r)) all.0, all_numbers_map P f same rs all.1)
 
 ascending_map : (f : Record → Record) → ((r : Record) → (f r).number ≡ r.number) → (rs : List Record) → Pairwise Below rs → Pairwise Below (map f rs)
 ascending_map f same [] pairs = tt
-ascending_map f same (r ∷ rs) pairs = (all_numbers_map (λ n. (f r).number < n) f same rs (All-weaker _ _ rs (λ x less. omega (arith, less, same r)) pairs.0), ascending_map f same rs pairs.1)
+ascending_map f same (r ∷ rs) pairs = (
+  all_numbers_map (λ n. (f r).number < n) f same rs (All-weaker _ _ rs (λ x less. omega (arith, less, same r)) pairs.0),
+  ascending_map f same rs pairs.1,
+)
 
-pub numbered_map : (next : ℕ) (f : Record → Record) → ((r : Record) → (f r).number ≡ r.number) → (rs : List Record) → AreNumbered next rs → AreNumbered next (map f rs)
-numbered_map next f same rs are = record { ascending = ascending_map f same rs are.ascending; below = all_numbers_map (λ n. n < next) f same rs are.below }
+pub numbered_map : (next : ℕ) (f : Record → Record) → ((r : Record) → (f r).number ≡ r.number) → (rs : List Record) → AreNumbered next rs
+    → AreNumbered next (map f rs)
+numbered_map next f same rs are =
+    record { ascending = ascending_map f same rs are.ascending; below = all_numbers_map (λ n. n < next) f same rs are.below }
 
 -- some records go
 pub numbered_filter : (next : ℕ) (keep : Record → Bool) (rs : List Record) → AreNumbered next rs → AreNumbered next (filter keep rs)
-numbered_filter next keep rs are = record { ascending = Pairwise-filter Below keep rs are.ascending; below = all-filter (λ (r : Record). r.number < next) keep rs are.below }
+numbered_filter next keep rs are =
+    record { ascending = Pairwise-filter Below keep rs are.ascending; below = all-filter (λ (r : Record). r.number < next) keep rs are.below }
 
 -- ---- the place of a number
 
@@ -90,7 +104,8 @@ place_missing (r ∷ rs) id none = rw (ne_eqb r.number id none.0) (ap suc (place
 
 place_nowhere : (rs : List Record) (id : ℕ) → ((k : ℕ) (d : Record) → k < length rs → (get_or rs k d).number ≢ id) → place_of id rs ≡ length rs
 place_nowhere [] id none = refl
-place_nowhere (r ∷ rs) id none = rw (ne_eqb r.number id (none 0 r (omega arith))) (ap suc (place_nowhere rs id (λ k d lt. none (suc k) d (omega (arith, lt)))))
+place_nowhere (r ∷ rs) id none =
+    rw (ne_eqb r.number id (none 0 r (omega arith))) (ap suc (place_nowhere rs id (λ k d lt. none (suc k) d (omega (arith, lt)))))
 
 -- the numbers rise along the records
 rising : (rs : List Record) → Pairwise Below rs → (i j : ℕ) (d : Record) → i ≤ j → j < length rs → (get_or rs i d).number ≤ (get_or rs j d).number
@@ -104,7 +119,8 @@ comparisons_rise : (rs : List Record) (id : ℕ) → Pairwise Below rs → IsNon
 comparisons_rise rs id pairs = λ i j d le lt. let up = rising rs pairs i j d le lt in grind (arith, nat_tests, up)
 
 -- a binary search by number ends at the place of the number, or nowhere
-pub place_searched : (rs : List Record) (id : ℕ) (r : Result ℕ ℕ) → Pairwise Below rs → IsSearchInRange r (length rs) → IsBinarySearchResult (λ (x : Record). nat_cmp x.number id) rs r → result_unwrap_or r (length rs) ≡ place_of id rs
+pub place_searched : (rs : List Record) (id : ℕ) (r : Result ℕ ℕ) → Pairwise Below rs → IsSearchInRange r (length rs)
+    → IsBinarySearchResult (λ (x : Record). nat_cmp x.number id) rs r → result_unwrap_or r (length rs) ≡ place_of id rs
 place_searched [] id (Ok i) pairs inside equal = absurd (omega (arith, inside))
 place_searched (x ∷ rs) id (Ok i) pairs inside equal = sym (place_found (x ∷ rs) id i x pairs inside (ranked _ id _ (sym (equal x))))
 place_searched rs id (Err i) pairs inside parted =
@@ -115,7 +131,8 @@ place_searched rs id (Err i) pairs inside parted =
     ]))
 
 -- a record in the place of another of its number changes no place
-pub place_kept : (rs : List Record) (id i : ℕ) (r new : Record) → r ≡ get_or rs i r → new.number ≡ r.number → place_of id (set rs i new) ≡ place_of id rs
+pub place_kept : (rs : List Record) (id i : ℕ) (r new : Record) → r ≡ get_or rs i r → new.number ≡ r.number
+    → place_of id (set rs i new) ≡ place_of id rs
 place_kept [] id i r new was same = refl
 place_kept (x ∷ rs) id zero r new was same = rw (same ∙ ap (λ (y : Record). y.number) was) refl
 place_kept (x ∷ rs) id (suc i) r new was same = rw (place_kept rs id i r new was same) refl

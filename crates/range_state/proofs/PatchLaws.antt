@@ -20,7 +20,8 @@ over_shut w (inl failed) is_open = absurd (let clash : Failed ≡ Open = sym fai
 over_shut w (inr gone) is_open = absurd (let clash : Cancelled ≡ Open = sym gone ∙ is_open in cc)
 
 -- an outstanding node is one of the tree, and its session expects a digest there
-awaited_at : (s : State) (place : ℕ) (r : Record) (n : Node) → IsRight s → slice_get s.records place ≡ Some r → contains_node n r.session.outstanding ≡ true → length r.session.root ≡ 32 → IsAwaited r.session n
+awaited_at : (s : State) (place : ℕ) (r : Record) (n : Node) → IsRight s → slice_get s.records place ≡ Some r
+    → contains_node n r.session.outstanding ≡ true → length r.session.root ≡ 32 → IsAwaited r.session n
 awaited_at s place r n ok here has long =
     let kept = kept_at s place r ok here in
     elim kept.going [
@@ -33,14 +34,16 @@ outstanding true e = refl
 outstanding false e = absurd (cc)
 
 -- So is the node for which a session is returned.
-pub asking_awaited : (s : State) (id : ℕ) (n : Node) (w : Walk) → IsRight s → asked_fault s id n ≡ None → MatchOption (record_of id s.records) ⊥ (λ r. r.session ≡ w) → length w.root ≡ 32 → IsAwaited w n
+pub asking_awaited : (s : State) (id : ℕ) (n : Node) (w : Walk) → IsRight s → asked_fault s id n ≡ None
+    → MatchOption (record_of id s.records) ⊥ (λ r. r.session ≡ w) → length w.root ≡ 32 → IsAwaited w n
 asking_awaited s id n w ok free is long = by_case (record_of id s.records) refl free is
   where
     by_case : (o : Option Record) → record_of id s.records ≡ o → asked_for o n ≡ None → MatchOption o ⊥ (λ r. r.session ≡ w) → IsAwaited w n
     by_case None at free is = absurd is
     by_case (Some r) at free is =
         subst (λ (x : Walk). IsAwaited x n) is
-        (awaited_at s (place_of id s.records) r n ok at (outstanding (contains_node n r.session.outstanding) free) (ap (λ (x : Walk). length x.root) is ∙ long))
+        (awaited_at s (place_of id s.records) r n ok at (outstanding (contains_node n r.session.outstanding) free)
+        (ap (λ (x : Walk). length x.root) is ∙ long))
 
 -- the digest that is expected there has its length, and the node has a text
 pub awaited_whole : (w : Walk) (n : Node) (a : IsAwaited w n) → whole_digest (expected w.root w.taken n) ≡ Some a.digest

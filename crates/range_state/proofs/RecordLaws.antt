@@ -46,7 +46,8 @@ grown_right s t ok sound grown =
     all-append _ s.store.entries grown.more ok.partners (All-weaker _ _ grown.more (λ e other from. absurd (other from)) grown.others) in
     record {
       store = sound;
-      records = subst (λ (c : Config). AllByRecursion (IsKept c t.entries) s.records) (sym grown.config) (subst (λ (es : List Entry). AllByRecursion (IsKept s.store.config es) s.records) (sym grown.entries) kept);
+      records = subst (λ (c : Config). AllByRecursion (IsKept c t.entries) s.records) (sym grown.config)
+          (subst (λ (es : List Entry). AllByRecursion (IsKept s.store.config es) s.records) (sym grown.entries) kept);
       few = ok.few;
       few_open = ok.few_open;
       numbers = ok.numbers;

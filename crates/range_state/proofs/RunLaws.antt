@@ -9,7 +9,8 @@ pub Run-none : (s : State) → Run s [] [] s
 unfolding Run
 Run-none s = refl
 
-pub Run-push : (s m t : State) (es : List Event) (rs : List Reply) (e : Event) (r : Reply) → Run s es rs m → IsStep m e r t → IsRight t → Run s (es ++ e ∷ []) (rs ++ r ∷ []) t
+pub Run-push : (s m t : State) (es : List Event) (rs : List Reply) (e : Event) (r : Reply) → Run s es rs m → IsStep m e r t → IsRight t
+    → Run s (es ++ e ∷ []) (rs ++ r ∷ []) t
 unfolding Run
 Run-push s m t [] [] e r run st right = (t, subst (λ (x : State). IsStep x e r t) run st, right, refl)
 Run-push s m t [] (q ∷ rs) e r run st right = absurd run

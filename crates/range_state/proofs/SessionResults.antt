@@ -34,8 +34,10 @@ going_of s r ok has on = elim (kept_of s r ok has).going [
   | inr going ↦ going
 ]
 
-pub finished : (s : State) → IsRight s → (r : Record) → Contains s.records r → r.session.state ≡ Finished → (other : RowMap) → IsPartners r.session other → NoTwoShareADigest r.session.own other r.session.taken → Held other.rows (held s.store.entries)
-finished s ok r has done other partner apart = finished_held (held s.store.entries) r.session other (going_of s r ok has (not_over r.session done)).walked done partner apart
+pub finished : (s : State) → IsRight s → (r : Record) → Contains s.records r → r.session.state ≡ Finished → (other : RowMap)
+    → IsPartners r.session other → NoTwoShareADigest r.session.own other r.session.taken → Held other.rows (held s.store.entries)
+finished s ok r has done other partner apart =
+    finished_held (held s.store.entries) r.session other (going_of s r ok has (not_over r.session done)).walked done partner apart
 
 pub from_partner : (s : State) → IsRight s → (e : Entry) → Contains s.store.entries e → e.source ≡ Partner → IsFromPartner s.records e
 from_partner s ok e has source = all_of (λ (x : Entry). x.source ≡ Partner → IsFromPartner s.records x) s.store.entries e ok.partners has source
@@ -51,13 +53,15 @@ asked_once s ok r has = (kept_of s r ok has).traced.once
 pub asked_ordered : (s : State) → IsRight s → (r : Record) → Contains s.records r → IsInTurn r.session → AscendByPlace r.session.asked
 asked_ordered s ok r has = asked_in_order r.session (kept_of s r ok has).traced
 
-pub asked_only : (s : State) → IsRight s → (r : Record) → Contains s.records r → (other : RowMap) → IsPartners r.session other → IsHonest r.session other → (n : Node) → contains_node n r.session.asked ≡ true → contains_node n (differ r.session.own other) ≡ true
+pub asked_only : (s : State) → IsRight s → (r : Record) → Contains s.records r → (other : RowMap) → IsPartners r.session other
+    → IsHonest r.session other → (n : Node) → contains_node n r.session.asked ≡ true → contains_node n (differ r.session.own other) ≡ true
 asked_only s ok r has other = asked_is_differ r.session other (kept_of s r ok has).traced
 
 none_due : (w : Walk) (P : Type 0) (n : Node) → w.outstanding ≡ [] → contains_node n w.outstanding ≡ true → P
 none_due w P n none asked = absurd (both_ways (contains_node n []) refl (ap (contains_node n) (sym none) ∙ asked))
 
-pub still_due : (s : State) → IsRight s → (r : Record) → Contains s.records r → (other : RowMap) → IsPartners r.session other → IsHonest r.session other → (n : Node) → contains_node n r.session.outstanding ≡ true
+pub still_due : (s : State) → IsRight s → (r : Record) → Contains s.records r → (other : RowMap) → IsPartners r.session other
+    → IsHonest r.session other → (n : Node) → contains_node n r.session.outstanding ≡ true
     → IsDue r.session (record { node = n; text = text_of other n }) × IsCanonical r.session.own n (text_of other n)
 still_due s ok r has other partner honest n asked =
     let kept = kept_of s r ok has in
@@ -71,13 +75,15 @@ ended_done s ok r has = (kept_of s r ok has).ended
 
 -- ---- what one that was not ended early asked
 
-pub asked_all : (s : State) → IsRight s → (r : Record) → Contains s.records r → ¬ IsOver r.session → (other : RowMap) → IsPartners r.session other → IsHonest r.session other → IsNearlyDone r.session
+pub asked_all : (s : State) → IsRight s → (r : Record) → Contains s.records r → ¬ IsOver r.session → (other : RowMap) → IsPartners r.session other
+    → IsHonest r.session other → IsNearlyDone r.session
     → (n : Node) → contains_node n (differ r.session.own other) ≡ true → contains_node n r.session.asked ≡ true
 asked_all s ok r has on other partner honest near n differs =
     let going = going_of s r ok has on in
     differ_is_asked (held s.store.entries) r.session other going.walked going.orderly partner honest near n differs
 
-pub finished_done : (s : State) → IsRight s → (r : Record) → Contains s.records r → r.session.state ≡ Finished → (¬ IsOver r.session) × IsNearlyDone r.session
+pub finished_done : (s : State) → IsRight s → (r : Record) → Contains s.records r → r.session.state ≡ Finished
+    → (¬ IsOver r.session) × IsNearlyDone r.session
 finished_done s ok r has done =
     let on = not_over r.session done in
     let none = (going_of s r ok has on).walked.finished done in

@@ -1,5 +1,6 @@
 -- The calls of a store, as calls of the state that has it: their outcomes, and the state afterwards.
-use Rattle.std.proofs.Common.{◌≡◌, ℕ, ◌+◌, Bool, arith, List, [], ◌∷◌, ◌++◌, sym, ap, subst, ◌∙◌, inl, inr, append_assoc, append-nil, true, false, refl, cond}
+use Rattle.std.proofs.Common.{◌≡◌, ℕ, ◌+◌, Bool, arith, List, [], ◌∷◌, ◌++◌, sym, ap, subst, ◌∙◌, inl, inr, append_assoc, append-nil, true, false}
+use Rattle.std.proofs.Common.{refl, cond}
 use Rattle.std.specs.Prelude.{Result, Ok, Err, IsTrue, ⊤}
 use Rattle.std.specs.List.{AllByRecursion}
 use Rattle.vclock.specs.Clock.{Pairs}
@@ -39,27 +40,37 @@ given : {T : Type 0} (s : State) (o : Outcome T Store) → IsTrue (is_given o) �
 given s (gives x t) is = is
 given s (refuses e) is = is
 
-lifted : {T : Type 0} (r : Result T Refusal) (s : State) (u : Store) (o : Outcome T Store) → Does r s.store u o → Does r s (with_store s u) (through (with_store s) o)
+lifted : {T : Type 0} (r : Result T Refusal) (s : State) (u : Store) (o : Outcome T Store) → Does r s.store u o
+    → Does r s (with_store s u) (through (with_store s) o)
 lifted (Ok x) s u o is = ap (through (with_store s)) is
-lifted (Err e) s u o is = (ap (with_store s) is.0, elim is.1 [ inl memory ↦ inl (memory.0, given s o memory.1) | inr fault ↦ inr (ap (through (with_store s)) fault) ])
+lifted (Err e) s u o is =
+    (ap (with_store s) is.0, elim is.1 [ inl memory ↦ inl (memory.0, given s o memory.1) | inr fault ↦ inr (ap (through (with_store s)) fault) ])
 
-lifted_or_memory : {T : Type 0} (r : Result T Refusal) (s : State) (u : Store) (o : Outcome T Store) → DoesOrNoMemory r s.store u o → DoesOrNoMemory r s (with_store s u) (through (with_store s) o)
+lifted_or_memory : {T : Type 0} (r : Result T Refusal) (s : State) (u : Store) (o : Outcome T Store) → DoesOrNoMemory r s.store u o
+    → DoesOrNoMemory r s (with_store s u) (through (with_store s) o)
 lifted_or_memory (Ok x) s u o is = ap (through (with_store s)) is
-lifted_or_memory (Err e) s u o is = (ap (with_store s) is.0, elim is.1 [ inl memory ↦ inl memory | inr fault ↦ inr (ap (through (with_store s)) fault) ])
+lifted_or_memory (Err e) s u o is =
+    (ap (with_store s) is.0, elim is.1 [ inl memory ↦ inl memory | inr fault ↦ inr (ap (through (with_store s)) fault) ])
 
-lifted_at_once : {T : Type 0} (r : Result T Refusal) (s : State) (u : Store) (o : Outcome T Store) → DoesAtOnce r s.store u o → DoesAtOnce r s (with_store s u) (through (with_store s) o)
+lifted_at_once : {T : Type 0} (r : Result T Refusal) (s : State) (u : Store) (o : Outcome T Store) → DoesAtOnce r s.store u o
+    → DoesAtOnce r s (with_store s u) (through (with_store s) o)
 lifted_at_once (Ok x) s u o is = ap (through (with_store s)) is
 lifted_at_once (Err e) s u o is = (ap (with_store s) is.0, ap (through (with_store s)) is.1)
 
 -- a call f of the store of a state that another value of it shows
-pub does : {T : Type 0} (r : Result T Refusal) (s now : State) (u : Store) (f : Store → Outcome T Store) → s ≡ now → Does r s.store u (f s.store) → Does r now (with_store s u) (through (with_store now) (f now.store))
+pub does : {T : Type 0} (r : Result T Refusal) (s now : State) (u : Store) (f : Store → Outcome T Store) → s ≡ now → Does r s.store u (f s.store)
+    → Does r now (with_store s u) (through (with_store now) (f now.store))
 does r s now u f view is = subst (λ (v : State). Does r v (with_store s u) (through (with_store v) (f v.store))) view (lifted r s u (f s.store) is)
 
-pub does_or_memory : {T : Type 0} (r : Result T Refusal) (s now : State) (u : Store) (f : Store → Outcome T Store) → s ≡ now → DoesOrNoMemory r s.store u (f s.store) → DoesOrNoMemory r now (with_store s u) (through (with_store now) (f now.store))
-does_or_memory r s now u f view is = subst (λ (v : State). DoesOrNoMemory r v (with_store s u) (through (with_store v) (f v.store))) view (lifted_or_memory r s u (f s.store) is)
+pub does_or_memory : {T : Type 0} (r : Result T Refusal) (s now : State) (u : Store) (f : Store → Outcome T Store) → s ≡ now
+    → DoesOrNoMemory r s.store u (f s.store) → DoesOrNoMemory r now (with_store s u) (through (with_store now) (f now.store))
+does_or_memory r s now u f view is = subst (λ (v : State). DoesOrNoMemory r v (with_store s u) (through (with_store v) (f v.store))) view
+    (lifted_or_memory r s u (f s.store) is)
 
-pub does_at_once : {T : Type 0} (r : Result T Refusal) (s now : State) (u : Store) (f : Store → Outcome T Store) → s ≡ now → DoesAtOnce r s.store u (f s.store) → DoesAtOnce r now (with_store s u) (through (with_store now) (f now.store))
-does_at_once r s now u f view is = subst (λ (v : State). DoesAtOnce r v (with_store s u) (through (with_store v) (f v.store))) view (lifted_at_once r s u (f s.store) is)
+pub does_at_once : {T : Type 0} (r : Result T Refusal) (s now : State) (u : Store) (f : Store → Outcome T Store) → s ≡ now
+    → DoesAtOnce r s.store u (f s.store) → DoesAtOnce r now (with_store s u) (through (with_store now) (f now.store))
+does_at_once r s now u f view is =
+    subst (λ (v : State). DoesAtOnce r v (with_store s u) (through (with_store v) (f v.store))) view (lifted_at_once r s u (f s.store) is)
 
 -- ---- a store with entries more
 
@@ -70,7 +81,12 @@ pub same : (s t : Store) → t ≡ s → HasGrown s t
 same s t is = still s t (ap (λ (x : Store). x.config) is) (ap (λ (x : Store). x.entries) is)
 
 one : (s t : Store) (e : Entry) → t ≡ journaled s e → ¬ (e.source ≡ Partner) → HasGrown s t
-one s t e is other = record { config = ap (λ (x : Store). x.config) is; more = e ∷ []; entries = ap (λ (x : Store). x.entries) is; others = (other, tt) }
+one s t e is other = record {
+  config = ap (λ (x : Store). x.config) is;
+  more = e ∷ [];
+  entries = ap (λ (x : Store). x.entries) is;
+  others = (other, tt);
+}
 
 both : (s m t : Store) → HasGrown s m → HasGrown m t → HasGrown s t
 both s m t a b = record {
@@ -86,7 +102,8 @@ step s seat source key v other = elim (knows s key v) as (λ b. HasGrown s (cond
   | false ↦ one s (journaled s (entry_of s seat source key v)) (entry_of s seat source key v) refl other
 ]
 
-offered : (s : Store) (seat : ℕ) (source : Source) (offers : List (List ℕ × Version)) → ¬ (source ≡ Partner) → HasGrown s (accepted_in s seat source offers)
+offered : (s : Store) (seat : ℕ) (source : Source) (offers : List (List ℕ × Version)) → ¬ (source ≡ Partner)
+    → HasGrown s (accepted_in s seat source offers)
 offered s seat source [] other = same s s refl
 offered s seat source (o ∷ offers) other =
     let next = accept_step s seat source o.0 o.1 in
@@ -94,9 +111,11 @@ offered s seat source (o ∷ offers) other =
 
 -- ---- by a call
 
-pub put_grows : (test : ContextTest) (s : Store) (seat at : ℕ) (key : List ℕ) (context : Pairs) (kind : Kind) (value : List ℕ) (x : Entry) (t : Store) → put_by test s seat at key context kind value ≡ gives x t → HasGrown s t
+pub put_grows : (test : ContextTest) (s : Store) (seat at : ℕ) (key : List ℕ) (context : Pairs) (kind : Kind) (value : List ℕ) (x : Entry) (t : Store)
+    → put_by test s seat at key context kind value ≡ gives x t → HasGrown s t
 put_grows test s seat at key context kind value x t h =
-    one s t (put_entry s seat at key context kind value) (put_by_gives test s seat at key context kind value x t h).1 (λ from. let clash : Client ≡ Partner = from in cc)
+    one s t (put_entry s seat at key context kind value) (put_by_gives test s seat at key context kind value x t h).1
+    (λ from. let clash : Client ≡ Partner = from in cc)
 
 not_partner : (source : Source) → IsTrue (is_sent source) → ¬ (source ≡ Partner)
 not_partner Client is from = let clash : Client ≡ Partner = from in cc
@@ -104,11 +123,14 @@ not_partner Copy is from = let clash : Copy ≡ Partner = from in cc
 not_partner Hint is from = let clash : Hint ≡ Partner = from in cc
 not_partner Partner is from = let clash : false ≡ true = is in cc
 
-pub accept_grows : (s : Store) (seat : ℕ) (source : Source) (key : List ℕ) (v : Version) → IsTrue (is_sent source) → (r : Accepted) (t : Store) → accept s seat source key v ≡ gives r t → HasGrown s t
-accept_grows s seat source key v sent (Taken x) t h = one s t (entry_of s seat source key v) (accept_gives s seat source key v (Taken x) t h).1 (not_partner source sent)
+pub accept_grows : (s : Store) (seat : ℕ) (source : Source) (key : List ℕ) (v : Version) → IsTrue (is_sent source) → (r : Accepted) (t : Store)
+    → accept s seat source key v ≡ gives r t → HasGrown s t
+accept_grows s seat source key v sent (Taken x) t h =
+    one s t (entry_of s seat source key v) (accept_gives s seat source key v (Taken x) t h).1 (not_partner source sent)
 accept_grows s seat source key v sent Known t h = same s t (accept_gives s seat source key v Known t h)
 
-copied : (s : Store) (seat : ℕ) (offers : List (List ℕ × Version)) (a : Loaded) (t : Store) → accept_offers s seat Copy offers ≡ gives a t → HasGrown s t
+copied : (s : Store) (seat : ℕ) (offers : List (List ℕ × Version)) (a : Loaded) (t : Store) → accept_offers s seat Copy offers ≡ gives a t
+    → HasGrown s t
 copied s seat offers a t h =
     let end = accepted_in s seat Copy offers in
     let given = past (accept_fault s seat Copy offers) (gives (loaded s end offers) end) a t h in
@@ -125,7 +147,8 @@ load_text_grows s seat text a t h = by_rows (rows_in s.config.format text) _ h
     by_rows (Ok rows) n e = load_grows s seat rows a t e
     by_rows (Err left) n e = absurd (cc)
 
-pub load_format_grows : (s : Store) (seat : ℕ) (format : Format) (text : List ℕ) (a : Loaded) (t : Store) → load_format s seat format text ≡ gives a t → HasGrown s t
+pub load_format_grows : (s : Store) (seat : ℕ) (format : Format) (text : List ℕ) (a : Loaded) (t : Store) → load_format s seat format text ≡ gives a t
+    → HasGrown s t
 load_format_grows s seat format text a t h = by_rows (rows_in format text) _ (past (newer_fault s.config.format format) _ a t h)
   where
     by_rows : (r : Result (List Row) ℕ) (n : ℕ) → load_rows_read s seat n r ≡ gives a t → HasGrown s t
@@ -136,13 +159,15 @@ pub install_grows : (s : Store) (node : Node) (text : List ℕ) (x : ⊤) (t : S
 install_grows s node text x t h = by_test (is_current (tree_in s) node text) h
   where
     by_test : (b : Bool) → through (with_tree s) (cond b (gives tt (installed (tree_in s) node text)) (refuses Stale)) ≡ gives x t → HasGrown s t
-    by_test true e = let now : with_tree s (installed (tree_in s) node text) ≡ t = cc in still s t (ap (λ (u : Store). u.config) (sym now)) (ap (λ (u : Store). u.entries) (sym now))
+    by_test true e = let now : with_tree s (installed (tree_in s) node text) ≡ t = cc in
+        still s t (ap (λ (u : Store). u.config) (sym now)) (ap (λ (u : Store). u.entries) (sym now))
     by_test false e = absurd (cc)
 
 -- ---- the state afterwards
 
 -- it is right after a call whose outcome leaves a store with entries more
-pub right_after : {T : Type 0} (r : Result T Refusal) (s : State) (u : Store) (o : Outcome T Store) → IsRight s → IsSound u → ((x : T) (t : Store) → o ≡ gives x t → HasGrown s.store t) → DoesOrNoMemory r s.store u o → IsRight (with_store s u)
+pub right_after : {T : Type 0} (r : Result T Refusal) (s : State) (u : Store) (o : Outcome T Store) → IsRight s → IsSound u
+    → ((x : T) (t : Store) → o ≡ gives x t → HasGrown s.store t) → DoesOrNoMemory r s.store u o → IsRight (with_store s u)
 right_after (Ok x) s u o ok sound grows is = grown_right s u ok sound (grows x u is)
 right_after (Err e) s u o ok sound grows is = grown_right s u ok sound (same s.store u is.0)
 
@@ -162,10 +187,21 @@ pub right_hashed : (s : State) (u : Store) → IsRight s → IsSound u → u ≡
 right_hashed s u ok sound is = grown_right s u ok sound (still s.store u (ap (λ (x : Store). x.config) is) (ap (λ (x : Store). x.entries) is))
 
 -- no copy is from a partner
-pub copies_sent : (n seat : ℕ) (os : List (List ℕ × Version)) → AllByRecursion (λ (e : Entry). e.source ≡ Partner → IsFromPartner [] e) (copies_from n seat os)
+pub copies_sent : (n seat : ℕ) (os : List (List ℕ × Version))
+    → AllByRecursion (λ (e : Entry). e.source ≡ Partner → IsFromPartner [] e) (copies_from n seat os)
 copies_sent n seat [] = tt
 copies_sent n seat (o ∷ os) = ((λ from. absurd (let no : Copy ≡ Partner = from in cc)), copies_sent (n + 1) seat os)
 
 -- a store without sessions whose entries are copies
 pub right_renewed : (s : State) (seat limit : ℕ) → IsSound (renewed_by s seat limit).store → IsRight (renewed_by s seat limit)
-right_renewed s seat limit sound = record { store = sound; records = tt; few = omega arith; few_open = omega arith; numbers = numbered_none s.next_session; partners = copies_sent 0 seat (held_offers s.store); settled = record { within = omega arith; others = tt }; moment = tt }
+right_renewed s seat limit sound =
+    record {
+      store = sound;
+      records = tt;
+      few = omega arith;
+      few_open = omega arith;
+      numbers = numbered_none s.next_session;
+      partners = copies_sent 0 seat (held_offers s.store);
+      settled = record { within = omega arith; others = tt };
+      moment = tt;
+    }

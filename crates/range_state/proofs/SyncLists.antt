@@ -1,5 +1,6 @@
 -- Lists of nodes by depth and then by index: two that have the same nodes are equal.
-use Rattle.std.proofs.Common.{◌≡◌, ℕ, zero, suc, ◌+◌, ◌^◌, ◌<◌, ◌≤◌, ◌⊎◌, Bool, true, false, not, cond, List, [], ◌∷◌, ◌++◌, length, refl, sym, ap, subst, ◌∙◌, arith, inl, inr}
+use Rattle.std.proofs.Common.{◌≡◌, ℕ, zero, suc, ◌+◌, ◌^◌, ◌<◌, ◌≤◌, ◌⊎◌, Bool, true, false, not, cond, List, [], ◌∷◌, ◌++◌, length, refl, sym, ap}
+use Rattle.std.proofs.Common.{subst, ◌∙◌, arith, inl, inr}
 use Rattle.std.specs.List.{filter, AllByRecursion}
 use Rattle.std.proofs.lemmas.Bool.{cases_lt, or_cases, or_left, or_right, false_from_ne_true}
 use Rattle.version_set.proofs.ListLaws.{all-append, all-filter}
@@ -57,8 +58,10 @@ same_nodes (x ∷ xs) [] p q a b = absurd (let clash : false ≡ true = a x (has
 same_nodes (x ∷ xs) (y ∷ ys) p q a b =
     let is : x ≡ y = heads x y xs ys p q a b in
     let above : AllByRecursion (λ n. place_of y < place_of n) xs = subst (λ (m : Node). AllByRecursion (λ n. place_of m < place_of n) xs) is p.0 in
-    let below : AllByRecursion (λ n. place_of x < place_of n) ys = subst (λ (m : Node). AllByRecursion (λ n. place_of m < place_of n) ys) (sym is) q.0 in
-    let rest : xs ≡ ys = same_nodes xs ys p.1 q.1 (drop_head y xs ys (λ n h. a n (has_tail n x xs h)) above) (drop_head x ys xs (λ n h. b n (has_tail n y ys h)) below) in
+    let below : AllByRecursion (λ n. place_of x < place_of n) ys = subst (λ (m : Node). AllByRecursion (λ n. place_of m < place_of n) ys)
+    (sym is) q.0 in
+    let rest : xs ≡ ys = same_nodes xs ys p.1 q.1 (drop_head y xs ys (λ n h. a n (has_tail n x xs h)) above)
+    (drop_head x ys xs (λ n h. b n (has_tail n y ys h)) below) in
     λ i. is i ∷ rest i
 
 pub fits : (ys xs : List Node) → AscendByPlace xs → AscendByPlace ys → AreIn xs ys → length xs ≤ length ys
@@ -66,7 +69,11 @@ fits [] [] p q a = omega arith
 fits [] (x ∷ xs) p q a = absurd (let clash : false ≡ true = a x (has_head x xs) in cc)
 fits (y ∷ ys) [] p q a = omega arith
 fits (y ∷ ys) (x ∷ xs) p q a = elim (member_of x y ys (a x (has_head x xs))) [
-  | inl is ↦ omega (arith, fits ys xs p.1 q.1 (drop_head y xs ys (λ n h. a n (has_tail n x xs h)) (subst (λ (m : Node). AllByRecursion (λ n. place_of m < place_of n) xs) is p.0)))
+  | inl is ↦ omega (
+    arith,
+    fits ys xs p.1 q.1 (drop_head y xs ys (λ n h. a n (has_tail n x xs h))
+        (subst (λ (m : Node). AllByRecursion (λ n. place_of m < place_of n) xs) is p.0)),
+  )
   | inr later ↦
       let above : place_of y < place_of x = all_has (λ m. place_of y < place_of m) ys q.0 x later in
       omega (arith, fits ys (x ∷ xs) p q.1 (drop_head y (x ∷ xs) ys a (above, All-weaker _ _ xs (λ n h. omega (arith, h, above)) p.0)))
@@ -74,7 +81,8 @@ fits (y ∷ ys) (x ∷ xs) p q a = elim (member_of x y ys (a x (has_head x xs)))
 
 -- ---- parts of such a list
 
-ascends-append : (xs ys : List Node) → AscendByPlace xs → AscendByPlace ys → AllByRecursion (λ x. AllByRecursion (λ y. place_of x < place_of y) ys) xs → AscendByPlace (xs ++ ys)
+ascends-append : (xs ys : List Node) → AscendByPlace xs → AscendByPlace ys → AllByRecursion (λ x. AllByRecursion (λ y. place_of x < place_of y) ys) xs
+    → AscendByPlace (xs ++ ys)
 ascends-append [] ys p q b = q
 ascends-append (x ∷ xs) ys p q b = (all-append (λ y. place_of x < place_of y) xs ys p.0 b.0, ascends-append xs ys p.1 q b.1)
 
@@ -90,7 +98,8 @@ ascends_filter : (p : Node → Bool) (xs : List Node) → AscendByPlace xs → A
 ascends_filter p [] up = tt
 ascends_filter p (x ∷ xs) up = by_case (p x) (all-filter (λ n. place_of x < place_of n) p xs up.0) (ascends_filter p xs up.1)
   where
-    by_case : (b : Bool) → AllByRecursion (λ n. place_of x < place_of n) (filter p xs) → AscendByPlace (filter p xs) → AscendByPlace (cond b (x ∷ filter p xs) (filter p xs))
+    by_case : (b : Bool) → AllByRecursion (λ n. place_of x < place_of n) (filter p xs) → AscendByPlace (filter p xs)
+        → AscendByPlace (cond b (x ∷ filter p xs) (filter p xs))
     by_case true above rest = (above, rest)
     by_case false above rest = rest
 
@@ -99,32 +108,39 @@ keep_all p [] all = refl
 keep_all p (x ∷ xs) all = ap (λ b. cond b (x ∷ filter p xs) (filter p xs)) all.0 ∙ ap (λ (ys : List Node). x ∷ ys) (keep_all p xs all.1)
 
 -- such a list without its first node
-pub without_first : (n : Node) (rest : List Node) → AllByRecursion (λ m. place_of n < place_of m) rest → filter (λ m. not (is_same_node m n)) (n ∷ rest) ≡ rest
+pub without_first : (n : Node) (rest : List Node) → AllByRecursion (λ m. place_of n < place_of m) rest
+    → filter (λ m. not (is_same_node m n)) (n ∷ rest) ≡ rest
 without_first n rest above =
     ap (λ b. cond (not b) (n ∷ filter (λ m. not (is_same_node m n)) rest) (filter (λ m. not (is_same_node m n)) rest)) (is_node-same n)
-    ∙ keep_all (λ m. not (is_same_node m n)) rest (All-weaker _ _ rest (λ m less. ap not (false_from_ne_true (is_same_node m n) (λ e. omega (arith, less, ap place_of (is_node-true m n e))))) above)
+    ∙ keep_all (λ m. not (is_same_node m n)) rest
+    (All-weaker _ _ rest (λ m less. ap not (false_from_ne_true (is_same_node m n) (λ e. omega (arith, less, ap place_of (is_node-true m n e)))))
+    above)
 
 -- ---- the nodes of a tree
 
 level_at : (d k : ℕ) → AllByRecursion (λ n. (n.depth ≡ d) × (n.index < k)) (first_of_level d k)
 unfolding first_of_level
 level_at d zero = tt
-level_at d (suc k) = all-append (λ n. (n.depth ≡ d) × (n.index < suc k)) (first_of_level d k) _ (All-weaker _ _ (first_of_level d k) (λ n h. (h.0, omega (arith, h.1))) (level_at d k)) ((refl, omega arith), tt)
+level_at d (suc k) = all-append (λ n. (n.depth ≡ d) × (n.index < suc k)) (first_of_level d k) _
+    (All-weaker _ _ (first_of_level d k) (λ n h. (h.0, omega (arith, h.1))) (level_at d k)) ((refl, omega arith), tt)
 
 level_places : (d k : ℕ) → AllByRecursion (λ n. (nodes_above d ≤ place_of n) × (place_of n < nodes_above d + k)) (first_of_level d k)
-level_places d k = All-weaker _ _ (first_of_level d k) (λ n h. (omega (arith, h.1, ap nodes_above h.0), omega (arith, h.1, ap nodes_above h.0))) (level_at d k)
+level_places d k = All-weaker _ _ (first_of_level d k) (λ n h. (omega (arith, h.1, ap nodes_above h.0), omega (arith, h.1, ap nodes_above h.0)))
+    (level_at d k)
 
 level_ascends : (d k : ℕ) → AscendByPlace (first_of_level d k)
 unfolding first_of_level
 level_ascends d zero = tt
-level_ascends d (suc k) = ascends-append (first_of_level d k) (record { depth = d; index = k } ∷ []) (level_ascends d k) (tt, tt) (All-weaker _ _ (first_of_level d k) (λ n h. (omega (arith, h.1), tt)) (level_places d k))
+level_ascends d (suc k) = ascends-append (first_of_level d k) (record { depth = d; index = k } ∷ []) (level_ascends d k) (tt, tt)
+    (All-weaker _ _ (first_of_level d k) (λ n h. (omega (arith, h.1), tt)) (level_places d k))
 
 levels_at : (m : ℕ) → AllByRecursion (λ n. (n.depth < m) × (n.index < 16 ^ n.depth)) (nodes_above_depth m)
 unfolding nodes_above_depth
 levels_at zero = tt
 levels_at (suc m) = all-append (λ n. (n.depth < suc m) × (n.index < 16 ^ n.depth)) (nodes_above_depth m) _
     (All-weaker _ _ (nodes_above_depth m) (λ n h. (omega (arith, h.0), h.1)) (levels_at m))
-    (All-weaker _ _ (first_of_level m (16 ^ m)) (λ n h. (omega (arith, h.0), subst (λ (d : ℕ). n.index < 16 ^ d) (sym h.0) h.1)) (level_at m (16 ^ m)))
+    (All-weaker _ _ (first_of_level m (16 ^ m)) (λ n h. (omega (arith, h.0), subst (λ (d : ℕ). n.index < 16 ^ d) (sym h.0) h.1))
+    (level_at m (16 ^ m)))
 
 levels_below : (m : ℕ) → AllByRecursion (λ n. place_of n < nodes_above m) (nodes_above_depth m)
 levels_below m = All-weaker _ _ (nodes_above_depth m) (λ n h. omega (arith, h.1, above_below n.depth m h.0)) (levels_at m)
@@ -133,7 +149,8 @@ levels_ascend : (m : ℕ) → AscendByPlace (nodes_above_depth m)
 unfolding nodes_above_depth
 levels_ascend zero = tt
 levels_ascend (suc m) = ascends-append (nodes_above_depth m) (first_of_level m (16 ^ m)) (levels_ascend m) (level_ascends m (16 ^ m))
-    (All-weaker _ _ (nodes_above_depth m) (λ x below. All-weaker _ _ (first_of_level m (16 ^ m)) (λ y h. omega (arith, below, h.0)) (level_places m (16 ^ m))) (levels_below m))
+    (All-weaker _ _ (nodes_above_depth m)
+    (λ x below. All-weaker _ _ (first_of_level m (16 ^ m)) (λ y h. omega (arith, below, h.0)) (level_places m (16 ^ m))) (levels_below m))
 
 pub differ_ascends : (own other : RowMap) → AscendByPlace (differ own other)
 differ_ascends own other = ascends_filter _ (all_nodes own.format) (levels_ascend (suc (tree_depth own.format)))

@@ -1,5 +1,6 @@
 -- How a session goes on with a partner that answers truly.
-use Rattle.std.proofs.Common.{◌≡◌, ℕ, zero, ◌+◌, ◌-◌, ◌<◌, Bool, true, false, cond, Option, Some, None, List, [], ◌∷◌, ◌++◌, length, set, refl, sym, ap, subst, ◌∙◌, arith, slice_get}
+use Rattle.std.proofs.Common.{◌≡◌, ℕ, zero, ◌+◌, ◌-◌, ◌<◌, Bool, true, false, cond, Option, Some, None, List, [], ◌∷◌, ◌++◌, length, set, refl, sym}
+use Rattle.std.proofs.Common.{ap, subst, ◌∙◌, arith, slice_get}
 use Rattle.std.specs.Prelude.{nat_eq}
 use Rattle.std.specs.List.{AllByRecursion}
 use Rattle.std.proofs.lemmas.Bool.{eq-eqb, eqb-true, false_from_ne_true}
@@ -30,13 +31,16 @@ abbrev pub stopped : Store → ℕ → Refusal → Progress
 stopped t known e = record { store = t; known = known; fault = Some e }
 
 -- after some leaves more are taken
-pub taken_more : (s t : Store) (seat : ℕ) (other : RowMap) (known count : ℕ) (leaves more : List Node) → taken_leaves s seat other known leaves ≡ so_far t count → taken_leaves s seat other known (leaves ++ more) ≡ taken_leaves t seat other count more
+pub taken_more : (s t : Store) (seat : ℕ) (other : RowMap) (known count : ℕ) (leaves more : List Node)
+    → taken_leaves s seat other known leaves ≡ so_far t count
+    → taken_leaves s seat other known (leaves ++ more) ≡ taken_leaves t seat other count more
 taken_more s t seat other known count [] more h = ap (λ (p : Progress). taken_leaves p.store seat other p.known more) h
 taken_more s t seat other known count (n ∷ leaves) more h =
     by_case (leaf_fault s seat (offers_at other n)) _ _ _
     (taken_more (taken_in s seat (offers_at other n)) t seat other (known + known_in s seat (offers_at other n)) count leaves more) h
   where
-    by_case : (f : Option Refusal) (before later end : Progress) → (before ≡ so_far t count → later ≡ end) → unless_refused f s known before ≡ so_far t count → unless_refused f s known later ≡ end
+    by_case : (f : Option Refusal) (before later end : Progress) → (before ≡ so_far t count → later ≡ end)
+        → unless_refused f s known before ≡ so_far t count → unless_refused f s known later ≡ end
     by_case None before later end again e = again e
     by_case (Some x) before later end again e = absurd (let clash : Some x ≡ None = ap (λ (p : Progress). p.fault) e in cc)
 
@@ -44,7 +48,8 @@ pub leaf_came : (t : Store) (seat : ℕ) (other : RowMap) (known : ℕ) (n : Nod
     → taken_leaves t seat other known (n ∷ []) ≡ so_far (taken_in t seat (offers_at other n)) (known + known_in t seat (offers_at other n))
 leaf_came t seat other known n fits = rw fits refl
 
-pub leaf_refused : (t : Store) (seat : ℕ) (other : RowMap) (known : ℕ) (n : Node) (leaves : List Node) (e : Refusal) → leaf_fault t seat (offers_at other n) ≡ Some e → taken_leaves t seat other known (n ∷ leaves) ≡ stopped t known e
+pub leaf_refused : (t : Store) (seat : ℕ) (other : RowMap) (known : ℕ) (n : Node) (leaves : List Node) (e : Refusal)
+    → leaf_fault t seat (offers_at other n) ≡ Some e → taken_leaves t seat other known (n ∷ leaves) ≡ stopped t known e
 leaf_refused t seat other known n leaves e fault = rw fault refl
 
 -- ---- the leaves among some nodes
@@ -53,7 +58,8 @@ pub leaves-append : (f : Format) (xs ys : List Node) → leaves_in f (xs ++ ys) 
 leaves-append f [] ys = refl
 leaves-append f (x ∷ xs) ys = by_case (nat_eq x.depth (tree_depth f)) (leaves-append f xs ys)
   where
-    by_case : (b : Bool) → leaves_in f (xs ++ ys) ≡ leaves_in f xs ++ leaves_in f ys → cond b (x ∷ leaves_in f (xs ++ ys)) (leaves_in f (xs ++ ys)) ≡ cond b (x ∷ leaves_in f xs) (leaves_in f xs) ++ leaves_in f ys
+    by_case : (b : Bool) → leaves_in f (xs ++ ys) ≡ leaves_in f xs ++ leaves_in f ys
+        → cond b (x ∷ leaves_in f (xs ++ ys)) (leaves_in f (xs ++ ys)) ≡ cond b (x ∷ leaves_in f xs) (leaves_in f xs) ++ leaves_in f ys
     by_case true e = ap (λ (zs : List Node). x ∷ zs) e
     by_case false e = e
 
@@ -61,7 +67,9 @@ pub leaf_counts : (f : Format) (n : Node) (rest : List Node) → n.depth ≡ tre
 leaf_counts f n rest deep = ap (λ b. cond b (n ∷ leaves_in f rest) (leaves_in f rest)) (eq-eqb n.depth (tree_depth f) deep)
 
 pub inner_counts : (f : Format) (n : Node) (rest : List Node) → n.depth < tree_depth f → leaves_in f (n ∷ rest) ≡ leaves_in f rest
-inner_counts f n rest less = ap (λ b. cond b (n ∷ leaves_in f rest) (leaves_in f rest)) (false_from_ne_true (nat_eq n.depth (tree_depth f)) (λ e. omega (arith, less, eqb-true n.depth (tree_depth f) e)))
+inner_counts f n rest less =
+    ap (λ b. cond b (n ∷ leaves_in f rest) (leaves_in f rest))
+    (false_from_ne_true (nat_eq n.depth (tree_depth f)) (λ e. omega (arith, less, eqb-true n.depth (tree_depth f) e)))
 
 pub no_leaves : (f : Format) (nodes : List Node) → AllByRecursion (λ n. n.depth < tree_depth f) nodes → leaves_in f nodes ≡ []
 no_leaves f [] all = refl
@@ -87,9 +95,12 @@ all_last P (x ∷ rs) r all = all_last P rs r all.1
 
 -- ---- the rows that a true text of a leaf spells
 
-pub true_rows : (w : Walk) (other : RowMap) → IsPartners w other → (n : Node) → n.depth ≡ tree_depth w.own.format → (rows : List Row) → AreSpelled w.own n (text_of other n) rows → rows ≡ rows_in_leaf (leaf_in other) n.index other.rows
+pub true_rows : (w : Walk) (other : RowMap) → IsPartners w other → (n : Node) → n.depth ≡ tree_depth w.own.format → (rows : List Row)
+    → AreSpelled w.own n (text_of other n) rows → rows ≡ rows_in_leaf (leaf_in other) n.index other.rows
 true_rows w other p n deep rows is =
     let height : tree_depth other.format - n.depth ≡ zero = omega (arith, deep, ap tree_depth p.format) in
     let texts : leaf_text w.own.format rows ≡ leaf_text w.own.format (leaf_rows other n.index) =
-    sym is.text_is ∙ ap (λ (h : ℕ). text_above other h n.index) height ∙ leaf_node other.format (leaf_in other) other.rows n.index ∙ ap (λ (f : Format). leaf_text f (leaf_rows other n.index)) p.format in
-    same_leaf w.own.format rows (leaf_rows other n.index) is.are.each (subst (λ (f : Format). AllByRecursion (IsRow f) (leaf_rows other n.index)) p.format (leaf_are other p.map n.index).each) texts
+    sym is.text_is ∙ ap (λ (h : ℕ). text_above other h n.index) height ∙ leaf_node other.format (leaf_in other) other.rows n.index
+    ∙ ap (λ (f : Format). leaf_text f (leaf_rows other n.index)) p.format in
+    same_leaf w.own.format rows (leaf_rows other n.index) is.are.each
+    (subst (λ (f : Format). AllByRecursion (IsRow f) (leaf_rows other n.index)) p.format (leaf_are other p.map n.index).each) texts

@@ -1,5 +1,5 @@
--- The size of a range, in bytes. A session keeps the rows of its moment: of leaves that have changed since, the range
--- itself has other rows.
+-- The size of a range, in bytes. A session keeps the rows of its moment; the range itself has other rows in the leaves
+-- that have changed since.
 use Rattle.std.specs.Prelude.{ℕ, ◌+◌, ◌-◌, ◌^◌, Bool, false, bytes_eq, nat_le, min, List, [], ◌∷◌, length, map, Option, Some, None, if◌then◌else◌}
 use Rattle.std.specs.List.{sum, sum_by, range_with_len}
 use Rattle.key_ring.specs.Places.{leaf_bits}
@@ -19,7 +19,7 @@ use Rattle.range_state.specs.State.{State}
 abbrev pub digest_in : RowMap → Node → Option (List ℕ)
 digest_in m n = if nat_le n.depth (tree_depth m.format) then Some (digest_at m n.depth n.index) else None
 
--- the digest of a node in the rows of the first session, or in the tree if there is none
+-- the digest of a node in the rows of the first session, or in the tree without sessions
 abbrev pub later_digest : RangeTree → List Record → Node → Option (List ℕ)
 later_digest t [] n = kept_digest t.marks (place_of n)
 later_digest t (r ∷ rs) n = digest_in r.session.own n
@@ -28,13 +28,13 @@ abbrev pub is_digest : Option (List ℕ) → List ℕ → Bool
 is_digest None other = false
 is_digest (Some digest) other = bytes_eq digest other
 
--- the length of a leaf's texts of rows, if later rows have another digest there or none
+-- the length of the texts of a leaf's rows, if later rows have another digest there or none; otherwise 0
 abbrev pub replaced_leaf_len : RangeTree → RowMap → List Record → ℕ → ℕ
 replaced_leaf_len t own later leaf =
     if is_digest (later_digest t later (record { depth = tree_depth own.format; index = leaf })) (digest_at own (tree_depth own.format) leaf)
     then 0 else rows_len own.format (rows_in_leaf (leaf_in own) leaf own.rows)
 
--- those of all leaves
+-- the length for all leaves
 abbrev pub replaced_len : RangeTree → RowMap → List Record → ℕ
 replaced_len t own later = sum (map (replaced_leaf_len t own later) (range_with_len 0 (2 ^ leaf_bits own.format)))
 
@@ -45,7 +45,7 @@ taken_len taken = sum_by (λ (t : TakenText). length t.text) taken
 abbrev pub session_len : RangeTree → Walk → List Record → ℕ
 session_len t w later = replaced_len t w.own later + taken_len w.taken
 
--- what sessions keep in addition to the tree and to the sessions after them
+-- the length of the data that sessions keep in addition to the tree and to the sessions after them
 unfoldable pub sessions_len : RangeTree → List Record → ℕ
 sessions_len t [] = 0
 sessions_len t (r ∷ later) = session_len t r.session later + sessions_len t later

@@ -6,7 +6,7 @@ use Rattle.range_state.specs.declared.«record».Record.{Record}
 use Rattle.range_state.specs.Records.{is_open}
 use Rattle.range_state.specs.State.{State}
 
--- the state with the records of open sessions alone, and each partner's entry as a copy: so no entry needs the record of
+-- the state with only the records of open sessions, and each partner's entry as a copy: no entry needs the record of
 -- the session that took it
 abbrev pub without_ended_sessions : State → State
 without_ended_sessions s = record s { store = stores.with_copies s.store; records = filter is_open s.records; settled = length s.store.entries }

@@ -1,4 +1,4 @@
--- The judgement of a partner's leaf, whose rows are read one after another.
+-- The judgement of a partner's leaf, row by row.
 use Rattle.std.specs.Prelude.{◌≡◌, ℕ, ◌+◌, false, nat_eq, List, length, Option, Some, None, Result, Ok, Err}
 use Rattle.std.specs.Cmp.Lexicographic.{pointwise}
 use Rattle.std.specs.List.{AllByRecursion}
@@ -17,7 +17,7 @@ use Rattle.range_state.specs.Sessions.{taken_in, leaf_fault}
 abbrev pub HasOtherKeys : Row → List Row → Type 0
 HasOtherKeys r rows = AllByRecursion (λ (x : Row). pointwise nat_eq x.key r.key ≡ false) rows
 
--- the number of versions of rows that are new, each in its turn; None if one of them would be too many for its key
+-- the number of new versions of rows, each in its turn; None if one of them would be too many for its key
 abbrev pub IsCounted : Store → ℕ → List Row → Option ℕ → Type 0
 IsCounted s seat rows (Some n) = (crowded_in s seat Partner (offers_of rows) ≡ None) × (length (taken_in s seat (offers_of rows)).entries ≡ length s.entries + n)
 IsCounted s seat rows None = crowded_in s seat Partner (offers_of rows) ≡ Some refusals.Crowded

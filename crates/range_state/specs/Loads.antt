@@ -1,4 +1,4 @@
--- Loads of a range: those of its store.
+-- Loads of a range, which are loads of its store.
 use Rattle.std.specs.Prelude.{ℕ, List}
 use Rattle.vclock.specs.Outcome.{Outcome, through}
 use Rattle.vclock.specs.declared.format.Format.{Format}

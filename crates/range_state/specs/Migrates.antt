@@ -1,4 +1,4 @@
--- The migration of a range to format 2: its store's, open sessions are cancelled, and the moment is dropped.
+-- The migration of a range to format 2: its store is migrated, open sessions are cancelled, and the moment is dropped.
 use Rattle.std.specs.Prelude.{map, None}
 use Rattle.vclock.specs.Outcome.{Outcome, gives}
 use Rattle.vclock.specs.declared.format.Format.{Format}

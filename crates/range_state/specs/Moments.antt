@@ -1,5 +1,5 @@
--- Moments of a range: the rows that its first entries made, and the digests of their tree: the paper of 2007,
--- section 4.7.
+-- Moments of a range: the rows that its first entries made, and the digests of their tree (the Dynamo paper,
+-- section 4.7).
 use Rattle.std.specs.Prelude.{◌≡◌, ℕ, ◌==◌, ◌+◌, ◌++◌, List, [], ◌∷◌, length, Option, Some, None, if◌then◌else◌}
 use Rattle.vclock.specs.Outcome.{Outcome, gives, refuses, through, ◌>>◌}
 use Rattle.vclock.specs.declared.refusal.Refusal.{Refusal}
@@ -18,12 +18,12 @@ use Rattle.range_state.specs.declared.local_rows.LocalRows.TheVariants as local_
 use Rattle.range_state.specs.State.{State, rows_at}
 use Rattle.range_state.specs.Sessions.{foreign_fault, standings, crowd_fault, open_session}
 
--- the number of a moment's nodes that have no digest; none without a moment
+-- the number of a moment's nodes without a digest; 0 without a moment
 abbrev pub dirty_in : Option Moment → ℕ
 dirty_in None = 0
 dirty_in (Some m) = dirty_count m.tree.marks
 
--- the number of entries at the last moment that was whole: the one that is kept, if each of its nodes has a digest
+-- the number of entries at the last whole moment: the kept one, if each of its nodes has a digest
 abbrev pub whole_from : Option Moment → ℕ → ℕ
 whole_from None before = before
 whole_from (Some m) before = if dirty_count m.tree.marks == 0 then m.front else before
@@ -39,8 +39,7 @@ with_moment s = record s { moment = Some (record { tree = tree_in s.store; front
 abbrev pub without_moment : State → State
 without_moment s = record s { moment = None; whole_before = last_whole s }
 
--- jobs of a moment's dirty nodes whose children are clean: of the first `most`, or of all if there are fewer; none
--- without a moment
+-- jobs of a moment's dirty nodes whose children are clean: of at most the first `most`; no job without a moment
 abbrev pub AreMomentJobs : Option Moment → ℕ → List NodeText → Type 0
 AreMomentJobs None most jobs = jobs ≡ []
 AreMomentJobs (Some m) most jobs = trees.AreJobs m.tree most jobs
@@ -61,7 +60,7 @@ install_in (Some m) s node text = through (with_hashed s node text m) (trees.ins
 abbrev pub install_moment : State → Node → List ℕ → Outcome (Unit {0}) State
 install_moment s node text = install_in s.moment s node text
 
--- the fault of a moment that cannot be offered: there is none, or some node has no digest
+-- the fault of a moment that can't be offered: it is missing, or some node has no digest
 abbrev pub moment_fault : Option Moment → Option Refusal
 moment_fault None = Some Dirty
 moment_fault (Some m) = trees.dirty_fault m.tree
@@ -71,7 +70,8 @@ abbrev pub front_of : Option Moment → ℕ
 front_of None = 0
 front_of (Some m) = m.front
 
--- the state with one more record: a session that compares the rows of the first entries with those of a partner's root
+-- the state with one more record: a session that compares the rows of the first entries with the rows under a partner's
+-- root
 abbrev pub opened_at : State → ℕ → ℕ → List ℕ → State
 opened_at s front partner root = record s { records = s.records ++ (record { number = s.next_session; partner = partner; session = started (rows_at s.store front) root }) ∷ []; next_session = s.next_session + 1 }
 
@@ -83,9 +83,9 @@ open_at_moment s partner offer = do
   moment_fault s.moment
   gives s.next_session (opened_at s (front_of s.moment) partner offer.root)
 
--- ---- the rows now, or those of the moment
+-- ---- the rows now, or the moment's
 
--- the fault of rows that are shown to a partner: some node has no digest
+-- the fault of rows to show to a partner: some node has no digest
 abbrev pub shown_fault : LocalRows → State → Option Refusal
 shown_fault local_rows.Now s = dirty_fault s.store
 shown_fault local_rows.Moment s = moment_fault s.moment
@@ -94,7 +94,7 @@ abbrev pub shown_rows : LocalRows → State → RowMap
 shown_rows local_rows.Now s = rows_now s.store
 shown_rows local_rows.Moment s = rows_at s.store (front_of s.moment)
 
--- a session that compares them with a partner's is opened
+-- a session that compares these rows with a partner's is opened
 abbrev pub opening : LocalRows → State → ℕ → Offer → Outcome ℕ State
 opening local_rows.Now s partner offer = open_session s partner offer
 opening local_rows.Moment s partner offer = open_at_moment s partner offer

@@ -8,17 +8,17 @@ use Rattle.range_state.specs.declared.moment.Moment.{Moment}
 use Rattle.range_state.specs.State.{State}
 use Rattle.range_state.specs.Moments.{AreMomentJobs, install_moment, dirty_in}
 
--- the texts with which a list begins, up to the one with which they have so many bytes together
+-- the first texts of a list, up to the one with which they have this number of bytes together
 abbrev pub begun_within : ℕ → List NodeText → List NodeText
 begun_within bytes [] = []
 begun_within bytes (x ∷ texts) = if bytes == 0 then [] else x ∷ begun_within (bytes - length x.text) texts
 
--- a portion of a moment's dirty nodes whose children are clean: the first of them, no more than `most`, up to the one with
--- which their texts have 262,144 bytes
+-- a portion of a moment's dirty nodes whose children are clean: the first of them, no more than `most`, up to the one
+-- with which their texts have 262,144 bytes
 abbrev pub IsPortion : Option Moment → ℕ → List NodeText → Type 0
 IsPortion m most portion = (jobs : List NodeText) × AreMomentJobs m most jobs × (portion ≡ begun_within 262144 jobs)
 
--- the state after an install: the same, if it was refused
+-- the state after an install, unchanged if it was refused
 abbrev pub after_install : State → Outcome (Unit {0}) State → State
 after_install s (gives x t) = t
 after_install s (refuses e) = s
@@ -28,7 +28,8 @@ abbrev pub installed_all : State → List NodeText → State
 installed_all s [] = s
 installed_all s (x ∷ texts) = installed_all (after_install s (install_moment s x.node x.text)) texts
 
--- The digests of a portion of the moment's nodes are installed. The result is the number of its nodes that are dirty then.
+-- The digests of a portion of the moment's nodes are installed. The result is the number of its nodes that are still
+-- dirty.
 pub record HashesMoment (r : Result ℕ Refusal) (most : ℕ) (s t : State) : Type 0 where
   pub left : Answers r None (λ n. n ≡ dirty_in t.moment)
   pub jobs : OnOk r ((texts : List NodeText) × IsPortion s.moment most texts × (t ≡ installed_all s texts))

@@ -1,4 +1,4 @@
--- The receipts of a caller who keeps them in a list.
+-- The receipts of a caller that keeps them in a list.
 use Rattle.std.specs.Prelude.{◌≡◌, ℕ, List, ◌++◌, length, Result, Ok, Err}
 use Rattle.vclock.specs.declared.refusal.Refusal.{Refusal}
 use Rattle.range_journal.specs.declared.journal.Entry.{Entry}
@@ -8,7 +8,7 @@ use Rattle.range_state.specs.declared.event.AnswerCounted.{AnswerCounted}
 use Rattle.range_state.specs.State.{State}
 use Rattle.range_state.specs.Sessions.{TakesAnswer}
 
--- the outcome with the number of the receipts in their place
+-- the outcome, with the receipts replaced by their number
 abbrev pub count_of : AnswerTaken → AnswerCounted
 count_of a = record { receipts = length a.receipts.items; known = a.known; state = a.state }
 
@@ -19,7 +19,7 @@ pub record IsCounted (s : State) (seat id : ℕ) (t : TakenText) (a : AnswerCoun
   pub count : a ≡ count_of taken
   pub appended : now ≡ before ++ taken.receipts.items
 
--- the result of a text whose receipts go to a list, and state and list afterwards
+-- the result of a text whose receipts go to a list, and the state and the list afterwards
 abbrev pub CountsAnswer : State → ℕ → ℕ → TakenText → Result AnswerCounted Refusal → State → List Entry → List Entry → Type 0
 CountsAnswer s seat id t (Ok a) new before now = IsCounted s seat id t a new before now
 CountsAnswer s seat id t (Err e) new before now = TakesAnswer s seat id t (Err e) new × (now ≡ before)

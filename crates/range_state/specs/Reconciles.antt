@@ -18,7 +18,7 @@ use Rattle.range_state.specs.Syncs.{HasAskedAll, IsSyncedTo, IsPartWay}
 use Rattle.range_state.specs.Trees.{IsSameRange}
 use Rattle.range_state.specs.Unions.{union_of}
 
--- the fault of two ranges that cannot begin: one is dirty, or one has no place for a session
+-- the fault of two ranges that can't begin: one is dirty, or one has no capacity for a session
 abbrev pub pair_fault : State → State → Option Refusal
 pair_fault a b = first_fault (dirty_fault a.store) (first_fault (dirty_fault b.store) (first_fault (crowd_fault (standings a.records)) (crowd_fault (standings b.records))))
 
@@ -32,7 +32,7 @@ pub record HasCaughtUp (s : State) (seat partner : ℕ) (other : RowMap) (nodes 
   pub asked : nodes ≡ sync.asked
   pub accepted : versions ≡ sync.accepted
 
--- a session that was refused a leaf, for this cause, and was then cancelled; the leaves before it stay
+-- a session with a leaf that was refused for this cause; it was cancelled, and the leaves before that one stay
 pub record HasGivenUp (s : State) (seat partner : ℕ) (other : RowMap) (e : Refusal) (new : State) : Type 0 where
   pub last : State
   pub sync : Synced
@@ -41,27 +41,26 @@ pub record HasGivenUp (s : State) (seat partner : ℕ) (other : RowMap) (e : Ref
   pub cause : sync.fault ≡ Some e
   pub cancelled : cancel_at last (length s.records) ≡ gives tt new
 
--- a session that ran out of memory midway, and was then cancelled; the leaves that it took stay
+-- a session that ran out of memory midway; it was cancelled, and the leaves that it took stay
 pub record HasBrokenOff (s : State) (seat partner : ℕ) (other : RowMap) (new : State) : Type 0 where
   pub last : State
   pub part : IsPartWay s seat partner other last
   pub cancelled : cancel_at last (length s.records) ≡ gives tt new
 
--- A session that did not catch up, and the fault: it was refused a leaf, or it ran out of memory, when it was opened or
--- later.
+-- A session that didn't catch up, and the fault: a leaf was refused, or memory ran out, when it was opened or later.
 abbrev pub HasStopped : State → ℕ → ℕ → RowMap → Refusal → State → Type 0
 HasStopped s seat partner other e new =
     HasGivenUp s seat partner other e new
     ⊎ ((e ≡ NoMemory) × ((new ≡ s) ⊎ HasBrokenOff s seat partner other new))
 
--- the first of the two sessions stopped, and the second did not begin; or the first caught up, and the second stopped
+-- the first of the two sessions stopped, and the second didn't begin; or the first caught up, and the second stopped
 abbrev pub HaveStopped : State → ℕ → State → ℕ → ℕ → Refusal → State → State → Type 0
 HaveStopped a at_a b at_b seat e new_a new_b =
     (HasStopped a seat at_b (rows_now b.store) e new_a × (new_b ≡ b))
     ⊎ (((nodes : ℕ) × (versions : ℕ) × HasCaughtUp a seat at_b (rows_now b.store) nodes versions new_a) × HasStopped b seat at_a (rows_now a.store) e new_b)
 
--- the result of the two sessions, and both states afterwards: each session is on the rows that the other had at the
--- beginning
+-- the result of the two sessions, and both states afterwards: each session is on the rows that the other replica had at
+-- the beginning
 abbrev pub Reconciles : State → ℕ → State → ℕ → ℕ → Result Reconciled Refusal → State → State → Type 0
 Reconciles a at_a b at_b seat (Ok r) new_a new_b =
     (pair_fault a b ≡ None)
@@ -85,7 +84,7 @@ pub record HaveAskedAlike (a b new_a new_b : State) (asked_a asked_b : ℕ) : Ty
   pub count_a : asked_a ≡ length (differ (rows_now a.store) (rows_now b.store))
   pub count_b : asked_b ≡ length (differ (rows_now a.store) (rows_now b.store))
 
--- both hold, for each key, the maximal versions of those that they held before
+-- both hold, for each key, the maximal versions of all that they held before
 abbrev pub HoldBoth : State → State → State → State → Type 0
 HoldBoth a b new_a new_b =
     (key : List ℕ)

@@ -1,4 +1,4 @@
--- Records of sessions, and the conditions for them to be right.
+-- Records of sessions, and the conditions for their validity.
 use Rattle.std.specs.Prelude.{◌≡◌, ◌≢◌, ◌⊎◌, ℕ, suc, ◌<◌, ◌==◌, Bool, true, false, length, List, [], ◌∷◌, Option, slice_get, if◌then◌else◌}
 use Rattle.std.specs.List.{filter, AllByRecursion}
 use Rattle.version_set.specs.Order.{Pairwise}
@@ -30,7 +30,7 @@ pub record AreNumbered (next : ℕ) (records : List Record) : Type 0 where
   pub ascending : Pairwise (λ (r s : Record). r.number < s.number) records
   pub below : AllByRecursion (λ (r : Record). r.number < next) records
 
--- the place among the records of the one with a number; past the last one if none has it
+-- the place of the record with a number; past the last one if no record has it
 abbrev pub place_of : ℕ → List Record → ℕ
 place_of id [] = 0
 place_of id (r ∷ records) = if r.number == id then 0 else suc (place_of id records)
@@ -39,24 +39,24 @@ place_of id (r ∷ records) = if r.number == id then 0 else suc (place_of id rec
 abbrev pub record_of : ℕ → List Record → Option Record
 record_of id records = slice_get records (place_of id records)
 
--- a session that was ended early: it failed or was cancelled
+-- a session that ended early: it failed or was cancelled
 abbrev pub IsOver : Walk → Type 0
 IsOver w = (w.state ≡ Failed) ⊎ (w.state ≡ Cancelled)
 
--- the snapshot of a session is of this range
+-- the snapshot of a session belongs to this range
 pub record IsHere (c : Config) (w : Walk) : Type 0 where
   pub bits : w.own.bits ≡ c.bits
   pub range : w.own.range ≡ c.range
 
--- a session that was not ended early: everything that it has seen is held, and each node that was asked is either taken
--- or outstanding
+-- a session that didn't end early: everything that it has seen is held, and each node that was asked is either taken or
+-- outstanding
 pub record IsGoing (entries : List Entry) (w : Walk) : Type 0 where
   pub walked : Walked (held entries) w
   pub orderly : IsOrderly w
 
--- A record that is right for the entries. Its snapshot is of this range, and while it is open in the range's format,
--- since its versions are accepted; the nodes asked and the texts taken agree; if it is not open, no node is
--- outstanding; and it was ended early, or everything that it has seen is held.
+-- A record that is valid for the entries. Its snapshot belongs to this range and, while it is open, has the range's
+-- format, since its versions are accepted; the nodes asked and the texts taken agree; if it isn't open, no node is
+-- outstanding; and it ended early, or everything that it has seen is held.
 pub record IsKept (c : Config) (entries : List Entry) (r : Record) : Type 0 where
   pub here : IsHere c r.session
   pub format : r.session.state ≡ Open → r.session.own.format ≡ c.format

@@ -30,7 +30,7 @@ use Rattle.range_state.specs.Migrates.{migrate}
 use Rattle.rehash.specs.Jobs.{NodeText}
 use Rattle.snapshot.specs.RowMaps.{RowMap}
 
--- a put: NoMemory does not replace a cause that is tested before the clock is raised
+-- a put: NoMemory doesn't replace a cause that is tested before the clock is raised
 abbrev pub PutStep : State → PutEvent → Result Entry Refusal → State → Type 0
 PutStep s p r t = DoesOrNoMemory r s t (put s p.seat p.at p.key p.context p.kind p.value) × IfErr r (λ e. e ≡ NoMemory → ask_fault s.store.config p.at p.key p.context p.kind p.value ≡ None)
 
@@ -70,7 +70,7 @@ CancelStep s id r t = DoesAtOnce r s t (cancel_session s id)
 abbrev pub MigrateStep : State → Result ⊤ Refusal → State → Type 0
 MigrateStep s r t = Does r s t (migrate s)
 
--- from s, the event has this reply, and leads to t
+-- from s, the event has this reply, and the next state is t
 unfoldable pub IsStep : State → Event → Reply → State → Type 0
 IsStep s (events.Put p) reply t = (r : Result Entry Refusal) × (reply ≡ replies.Put r) × PutStep s p r t
 IsStep s (events.Accept a) reply t = (r : Result Accepted Refusal) × (reply ≡ replies.Accept r) × AcceptStep s a r t
@@ -83,7 +83,7 @@ IsStep s (events.TakeAnswer a) reply t = (r : Result AnswerTaken Refusal) × (re
 IsStep s (events.CancelSession id) reply t = (r : Result ⊤ Refusal) × (reply ≡ replies.CancelSession r) × CancelStep s id r t
 IsStep s events.Migrate reply t = (r : Result ⊤ Refusal) × (reply ≡ replies.Migrate r) × MigrateStep s r t
 
--- from s, the events have these replies, one by one, over states that are all right, and lead to t
+-- from s, the events have these replies, in turn, and the last state is t; all states in between are valid
 unfoldable pub Run : State → List Event → List Reply → State → Type 0
 Run s [] [] t = t ≡ s
 Run s [] (r ∷ rs) t = ⊥

@@ -25,7 +25,7 @@ use Rattle.range_state.specs.State.{State, with_store}
 
 -- ---- opening
 
--- the fault of an offer that is not for this range
+-- the fault of an offer that isn't for this range
 abbrev pub foreign_fault : Config → Offer → Option Refusal
 foreign_fault c offer = if offer.format == format_number c.format then (if offer.range == c.range then None else Some refusals.OtherRange) else Some refusals.OtherFormat
 
@@ -33,11 +33,11 @@ foreign_fault c offer = if offer.format == format_number c.format then (if offer
 abbrev pub standings : List Record → List SessionState
 standings records = map (λ (r : Record). r.session.state) records
 
--- the fault of opening a session in addition to those of these states: 64 are open, or there are 1,024
+-- the fault of opening another session in addition to sessions with these states: 64 are open, or there are 1,024
 abbrev pub crowd_fault : List SessionState → Option Refusal
 crowd_fault states = if nat_le 64 (length (filter is_open_state states)) || nat_le 1024 (length states) then Some refusals.SessionsFull else None
 
--- the state with one more record: a session that compares the rows now with those of a partner's root
+-- the state with one more record: a session that compares the rows now with the rows under a partner's root
 abbrev pub opened : State → ℕ → List ℕ → State
 opened s partner root = record s { records = s.records ++ (record { number = s.next_session; partner = partner; session = started (rows_now s.store) root }) ∷ []; next_session = s.next_session + 1 }
 
@@ -56,11 +56,11 @@ open_session s partner offer = do
 
 -- ---- changing a record
 
--- the state with the session of a record at a place at another point
+-- the state with another walk for the record at a place
 abbrev pub walked_to : State → ℕ → Record → Walk → State
 walked_to s place r w = record s { records = slice_set s.records place (record r { session = w }) }
 
--- the session of a record at a place is cancelled, if there is one
+-- the session of the record at a place, if any, is cancelled
 abbrev pub cancel_record : State → ℕ → Option Record → Outcome (Unit {0}) State
 cancel_record s place None = refuses refusals.UnknownSession
 cancel_record s place (Some r) = gives tt (walked_to s place r (cancelled_by r.session r.session.state))
@@ -68,7 +68,7 @@ cancel_record s place (Some r) = gives tt (walked_to s place r (cancelled_by r.s
 abbrev pub cancel_at : State → ℕ → Outcome (Unit {0}) State
 cancel_at s place = cancel_record s place (slice_get s.records place)
 
--- the session of that number is cancelled, if there is one
+-- the session with that number, if any, is cancelled
 abbrev pub cancel_session : State → ℕ → Outcome (Unit {0}) State
 cancel_session s id = cancel_at s (place_of id s.records)
 
@@ -90,25 +90,25 @@ unknown_fault s id = unknown_for (record_of id s.records)
 abbrev pub taken_in : Store → ℕ → List (List ℕ × Version) → Store
 taken_in s seat offers = accepted_in s seat Partner offers
 
--- the fault of accepting them all
+-- the fault of accepting all these versions
 abbrev pub leaf_fault : Store → ℕ → List (List ℕ × Version) → Option Refusal
 leaf_fault s seat offers = accept_fault s seat Partner offers
 
 -- ---- taking a text
 
--- a text that a session awaits, of an inner node
+-- an inner node's text that a session awaits
 pub record IsInnerRead (s : State) (r : Record) (t : TakenText) : Type 0 where
   pub due : IsDue r.session t
   pub inner : t.node.depth < tree_depth s.store.config.format
   pub form : IsInnerText s.store.config.format t.text
 
--- a text that a session awaits, of a leaf that has these rows
+-- a leaf's text that a session awaits, with these rows
 pub record IsLeafRead (s : State) (r : Record) (t : TakenText) (rows : List Row) : Type 0 where
   pub due : IsDue r.session t
   pub leaf : t.node.depth ≡ tree_depth s.store.config.format
   pub spelled : AreSpelled r.session.own t.node t.text rows
 
--- a text that a session awaits, of a leaf, with the news in it
+-- a leaf's text that a session awaits, with the news in it
 pub record IsNewsRead (s : State) (r : Record) (t : TakenText) (news : News) : Type 0 where
   pub rows : List Row
   pub read : IsLeafRead s r t rows
@@ -121,7 +121,7 @@ pub record TakesInner (s : State) (id : ℕ) (r : Record) (t : TakenText) (a : A
   pub known : a.known ≡ 0
   pub new_is : new ≡ walked_to s id r (after r.session t)
 
--- The versions of a leaf's rows are accepted, each in its turn, and the session goes on. The receipts are the new
+-- The versions of a leaf's rows are accepted, each in its turn, and the session continues. The receipts are the new
 -- entries, in order, and every other version was known.
 pub record TakesLeaf (s : State) (seat id : ℕ) (r : Record) (t : TakenText) (a : AnswerTaken) (new : State) : Type 0 where
   pub rows : List Row
@@ -131,25 +131,25 @@ pub record TakesLeaf (s : State) (seat id : ℕ) (r : Record) (t : TakenText) (a
   pub known : length a.receipts.items + a.known ≡ length (offers_of rows)
   pub new_is : new ≡ walked_to (with_store s (taken_in s.store seat (offers_of rows))) id r (after r.session t)
 
--- the versions of a leaf's rows are not all accepted
+-- not all versions of a leaf's rows are accepted
 pub record IsLeafFault (s : State) (seat : ℕ) (r : Record) (t : TakenText) (e : Refusal) : Type 0 where
   pub rows : List Row
   pub read : IsLeafRead s r t rows
   pub fault : leaf_fault s.store seat (offers_of rows) ≡ Some e
 
--- the fault of a text that is not taken
+-- the fault of a text that isn't taken
 abbrev pub TextFault : State → ℕ → Record → TakenText → Refusal → Type 0
 TextFault s seat r t refusals.Crowded = IsLeafFault s seat r t refusals.Crowded
 TextFault s seat r t refusals.JournalFull = IsLeafFault s seat r t refusals.JournalFull
 TextFault s seat r t e = IsTakeFault r.session t e
 
--- the fault of a text, and the state afterwards: a session fails by a text that no node can have, otherwise nothing
--- changes
+-- the fault of a text, and the state afterwards: a session fails after a text that the node can't have, otherwise
+-- nothing changes
 abbrev pub Refuses : State → ℕ → ℕ → Record → TakenText → Refusal → State → Type 0
 Refuses s seat id r t refusals.NotCanonical new = TextFault s seat r t refusals.NotCanonical × (new ≡ walked_to s id r (failed r.session))
 Refuses s seat id r t e new = TextFault s seat r t e × (new ≡ s)
 
--- a text that a session can take: of an inner node, or of a leaf whose versions can all be accepted
+-- a text that a session can take: an inner node's, or a leaf's whose versions can all be accepted
 abbrev pub IsTakable : State → ℕ → Record → TakenText → Type 0
 IsTakable s seat r t = IsInnerRead s r t ⊎ ((rows : List Row) × IsLeafRead s r t rows × (leaf_fault s.store seat (offers_of rows) ≡ None))
 
@@ -163,7 +163,7 @@ abbrev pub TakesText : State → ℕ → ℕ → Record → TakenText → Result
 TakesText s seat id r t (Ok a) new = (a.state ≡ (after r.session t).state) × (TakesInner s id r t a new ⊎ TakesLeaf s seat id r t a new)
 TakesText s seat id r t (Err e) new = Refuses s seat id r t e new
 
--- the result of a text for a session at a place, that may have no record: then nothing changes
+-- the result of a text for the session of a record, if any; nothing changes without a record
 abbrev pub TakesFor : State → ℕ → ℕ → Option Record → TakenText → Result AnswerTaken Refusal → State → Type 0
 TakesFor s seat id (Some r) t result new = TakesText s seat id r t result new
 TakesFor s seat id None t result new = (result ≡ Err refusals.UnknownSession) × (new ≡ s)
@@ -171,6 +171,6 @@ TakesFor s seat id None t result new = (result ≡ Err refusals.UnknownSession) 
 abbrev pub TakesAt : State → ℕ → ℕ → TakenText → Result AnswerTaken Refusal → State → Type 0
 TakesAt s seat place t result new = TakesFor s seat place (slice_get s.records place) t result new
 
--- the result of a text for a session of that number, and the state afterwards
+-- the result of a text for the session with that number, and the state afterwards
 abbrev pub TakesAnswer : State → ℕ → ℕ → TakenText → Result AnswerTaken Refusal → State → Type 0
 TakesAnswer s seat id t result new = TakesAt s seat (place_of id s.records) t result new

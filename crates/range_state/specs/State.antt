@@ -1,5 +1,5 @@
 -- The state of a range: its store, the records of its sessions, and the moment that it keeps. Its calls on versions are
--- those of the store.
+-- calls of the store.
 use Rattle.std.specs.Prelude.{◌≡◌, ℕ, ◌≤◌, List, [], length, take, Any, Contains, Option, None, IfSome}
 use Rattle.std.specs.List.{AllByRecursion}
 use Rattle.vclock.specs.Outcome.{Outcome, through}
@@ -29,9 +29,8 @@ use Rattle.range_state.specs.declared.«record».Record.{Record}
 use Rattle.range_state.specs.declared.moment.Moment.{Moment}
 use Rattle.range_state.specs.Records.{IsKept, AreNumbered, open_count}
 
--- the store, the records of the sessions, in the order of their numbers, the moment that is kept, if any, the number of
--- entries at the last whole moment before it, the number of the next session, and a number of first entries that have none
--- of a partner
+-- the store, the records of the sessions, in the order of their numbers, the kept moment, if any, the number of entries
+-- at the last whole moment before it, the number of the next session, and a number of first entries without a partner's
 pub record State : Type 0 where
   pub store : Store
   pub records : List Record
@@ -48,15 +47,15 @@ fresh c = record { store = stores.fresh c; records = []; moment = None; whole_be
 abbrev pub with_store : State → Store → State
 with_store s t = record s { store = t }
 
--- a version that was made elsewhere is known, or is an entry from then on
+-- a version that was made elsewhere is known, or becomes an entry
 abbrev pub accept : State → ℕ → Source → List ℕ → Version → Outcome Accepted State
 accept s seat source key v = through (with_store s) (stores.accept s.store seat source key v)
 
--- a value that is put at a node is an entry from then on
+-- a value that is put at a node becomes an entry
 abbrev pub put : State → ℕ → ℕ → List ℕ → Pairs → Kind → List ℕ → Outcome Entry State
 put s seat at key context kind value = through (with_store s) (stores.put s.store seat at key context kind value)
 
--- the put whose context is tested so
+-- a put with this test of its context
 abbrev pub put_by : ContextTest → State → ℕ → ℕ → List ℕ → Pairs → Kind → List ℕ → Outcome Entry State
 put_by test s seat at key context kind value = through (with_store s) (tests.put_by test s.store seat at key context kind value)
 
@@ -64,7 +63,7 @@ put_by test s seat at key context kind value = through (with_store s) (tests.put
 abbrev pub install : State → Node → List ℕ → Outcome (Unit {0}) State
 install s node text = through (with_store s) (stores.install s.store node text)
 
--- a leaf's text, of a tree in the format, that spells some rows; one of them has the entry's key and version
+-- a leaf's text, in a tree of the format, that spells some rows; one of them has the entry's key and version
 pub record IsLeafWith (format : Format) (e : Entry) (t : TakenText) : Type 0 where
   pub leaf : t.node.depth ≡ tree_depth format
   pub rows : List Row
@@ -72,11 +71,11 @@ pub record IsLeafWith (format : Format) (e : Entry) (t : TakenText) : Type 0 whe
   pub text : t.text ≡ leaf_text format rows
   pub has : Any (λ (r : Row). (r.key ≡ e.key) × Contains r.versions e.version) rows
 
--- a session took a leaf's text, in the format of its snapshot, that has the entry's version
+-- a session took a leaf's text with the entry's version, in the format of the session's snapshot
 abbrev pub HasTaken : Walk → Entry → Type 0
 HasTaken w e = Any (IsLeafWith w.own.format e) w.taken
 
--- some session took a leaf's text that has the entry's version
+-- some session took a leaf's text with the entry's version
 abbrev pub IsFromPartner : List Record → Entry → Type 0
 IsFromPartner records e = Any (λ (r : Record). HasTaken r.session e) records
 
@@ -90,9 +89,10 @@ pub record IsMomentOf (s : Store) (m : Moment) : Type 0 where
   pub rows : m.tree.map ≡ rows_at s m.front
   pub right : IsRangeTree m.tree
 
--- the facts of each state: its store is sound, each record is right for the entries, there are at most 1,024 records, at
--- most 64 of their sessions are open, their numbers ascend and are below the next one, each version from a partner was in a
--- text that a session took, the first entries that are settled have none, and the moment is one of the store
+-- the facts of each state: its store is sound, each record is valid for the entries, there are at most 1,024 records,
+-- at most 64 of their sessions are open, their numbers ascend and are below the next one, each version from a partner
+-- was in a text that a session took, the settled first entries include none from a partner, and the moment is one of
+-- the store's
 pub record IsRight (s : State) : Type 0 where
   pub store : IsSound s.store
   pub records : AllByRecursion (IsKept s.store.config s.store.entries) s.records

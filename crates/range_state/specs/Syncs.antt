@@ -1,4 +1,4 @@
--- A whole session with a partner that answers truly, as a fold over the leaves at which the two trees differ.
+-- A whole session with an honest partner, as a fold over the leaves at which the two trees differ.
 use Rattle.std.specs.Prelude.{◌≡◌, ℕ, ◌+◌, ◌-◌, nat_eq, List, [], ◌∷◌, ◌++◌, length, Option, Some, None}
 use Rattle.std.specs.List.{filter}
 use Rattle.vclock.specs.declared.refusal.Refusal.{Refusal}
@@ -19,7 +19,7 @@ use Rattle.range_store.specs.Store.{Store, rows_now}
 use Rattle.range_state.specs.Sessions.{standings, taken_in, leaf_fault}
 use Rattle.range_store.specs.Offers.{offers_of}
 
--- rows of a range: they have its format, the bits of its ring and its number
+-- rows that belong to a range: they have its format, the bits of its ring and its number
 pub record IsOfRange (c : Config) (m : RowMap) : Type 0 where
   pub format : m.format ≡ c.format
   pub bits : m.bits ≡ c.bits
@@ -37,23 +37,23 @@ leaves_between own other = leaves_in own.format (differ own other)
 abbrev pub offers_at : RowMap → Node → List (List ℕ × Version)
 offers_at other n = offers_of (rows_in_leaf (leaf_in other) n.index other.rows)
 
--- the progress of a session: the store then, the number of versions that were known already, and the refusal of a leaf,
--- if any
+-- the progress of a session: the store at that point, the number of versions that were already known, and the refusal
+-- of a leaf, if any
 pub record Progress : Type 0 where
   pub store : Store
   pub known : ℕ
   pub fault : Option Refusal
 
--- the number of these versions that make no entry
+-- the number of these versions that don't become entries
 abbrev pub known_in : Store → ℕ → List (List ℕ × Version) → ℕ
 known_in s seat offers = (length s.entries + length offers) - length (taken_in s seat offers).entries
 
--- a leaf that is refused is the end, otherwise there is more
+-- a refused leaf is the end, otherwise there is more
 abbrev pub unless_refused : Option Refusal → Store → ℕ → Progress → Progress
 unless_refused None s known more = more
 unless_refused (Some e) s known more = record { store = s; known = known; fault = Some e }
 
--- the partner's leaves are taken one by one, each all or none, until one is refused
+-- the partner's leaves are taken one by one, each completely or not at all, until one is refused
 abbrev pub taken_leaves : Store → ℕ → RowMap → ℕ → List Node → Progress
 taken_leaves s seat other known [] = record { store = s; known = known; fault = None }
 taken_leaves s seat other known (n ∷ leaves) =
@@ -69,8 +69,9 @@ abbrev pub ended : Option Refusal → SessionState
 ended None = Finished
 ended (Some e) = Open
 
--- One record more, of the next number: a session of the rows now with a partner that has these rows. Each text that it took is that of the
--- partner; the nodes whose texts it took are the first ones that it asked, and the others are outstanding.
+-- One record more, of the next number: a session of the rows now with a partner that has these rows. Each text that it
+-- took is the partner's; the nodes whose texts it took are the first ones that it asked, and the others are
+-- outstanding.
 pub record HasOneMore (s : State) (partner : ℕ) (other : RowMap) (new : List Record) : Type 0 where
   pub r : Record
   pub records : new ≡ s.records ++ r ∷ []
@@ -97,8 +98,8 @@ pub record IsSyncedTo (s : State) (seat : ℕ) (other : RowMap) (new : State) (a
   pub asked : a.asked ≡ length (differ (rows_now s.store) other)
   pub fault : a.fault ≡ (synced s.store seat other).fault
 
--- The state of a session that ran out of memory midway: of the leaves at which the trees differ it has taken the first
--- ones, each whole.
+-- The state of a session that ran out of memory midway: it has taken the first leaves at which the trees differ, each
+-- of them completely.
 pub record IsPartWay (s : State) (seat partner : ℕ) (other : RowMap) (new : State) : Type 0 where
   pub leaves : List Node
   pub rest : List Node

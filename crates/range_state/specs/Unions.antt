@@ -7,7 +7,7 @@ use Rattle.version_set.specs.Version.{offered, maximal, set_from}
 abbrev pub union_of : List Version → List Version → List Version
 union_of S T = maximal (set_from [] (S ++ T))
 
--- a set after versions were offered to it, one after another
+-- a set after versions were offered to it in turn
 abbrev pub offered_all : List Version → List Version → List Version
 offered_all S [] = S
 offered_all S (v ∷ vs) = offered_all (offered v S) vs

@@ -29,7 +29,7 @@ pub struct AnswerTaken {
     pub state: SessionState,
 }
 
-/// The outcome of a text that a session took, if its receipts went to a list of the caller.
+/// The outcome of a text that a session took, with its receipts in the caller's list.
 #[derive(Clone, Copy, Debug)]
 pub struct AnswerCounted {
     /// The number of receipts: 0 for an inner node.
@@ -77,7 +77,7 @@ pub struct AcceptEvent {
 pub struct InstallEvent {
     /// The node.
     pub node: NodeAt,
-    /// A text with its digest: that of the node, if it is to be installed.
+    /// A text with its digest. The digest is installed if the text is the node's.
     pub hashed: Hashed,
 }
 
@@ -97,7 +97,7 @@ pub struct AnswerEvent {
     pub seat: u16,
     /// The number of the session.
     pub id: u64,
-    /// The node that the text is said to be of.
+    /// The node that the text claims to belong to.
     pub node: NodeAt,
     /// The text, with its digest.
     pub text: Hashed,

@@ -31,36 +31,35 @@ ghost use Rattle.range_state.specs.Syncs.{IsOfRange, synced};
 ghost use Rattle.range_state.specs.Unions.{union_of, offered_all};
 
 /// After a finished session each version of the partner's rows is held or is below a held version. The partner's rows
-/// are any rows of the range, in the format of the session's snapshot, whose root is the offered one. The law assumes
-/// that no two different texts among those compared share a digest, and nothing about the answers. It holds from then
-/// on, whatever else the range accepts.
+/// are any rows of the range, in the format of the session's snapshot, whose root is the offered root. The law assumes
+/// that no two different compared texts share a digest, and nothing about the answers. It continues to hold, whatever
+/// else the range accepts.
 pub fn finished_sessions_are_held()
     ensures { (s : State) → IsRight s → (r : Record) → Contains s.records r → r.session.state ≡ Finished
         → (other : RowMap) → IsPartners r.session other → NoTwoShareADigest r.session.own other r.session.taken
         → Held other.rows (held s.store.entries) }
 {}
 
-/// What the first entries of a journal held is held by all of them, or is below a version that is. So a session at a
-/// moment compares rows that are held, as one of the rows now does, and that is the case of all entries.
+/// A version that the first entries of a journal held is held by all of them, or is below a version that is. A session
+/// at a moment thus compares rows that are held, like a session of the rows now, which is the case of all entries.
 pub fn what_was_held_stays_covered()
     ensures held { (s : Store) (front : ℕ) → Held (rows_at s front).rows (held s.entries) }
     ensures now { (s : State) (partner : ℕ) (root : List ℕ)
         → opened_at s (length s.store.entries) partner root ≡ opened s partner root }
 {}
 
-/// Each version received from a partner is in a leaf's text that some session took, and that spells rows in the format
+/// Each version received from a partner is in a leaf's text that some session took. The text spells rows in the format
 /// of that session's snapshot.
 pub fn partners_versions_were_taken()
     ensures { (s : State) → IsRight s → (e : Entry) → Contains s.store.entries e → e.source ≡ Partner → IsFromPartner s.records e }
 {}
 
-/// Each text that a session took is one that its node can have, and had the digest that was expected there. Nodes,
-/// texts and partners are in the format of the session's snapshot, which is that of the range while the session is
-/// open. A session asks no node twice. It asks by depth and then by index if the texts were taken in the order of the
-/// asks.
+/// Each text that a session took is canonical for its node, and had the digest that was expected there. Nodes, texts
+/// and partners are in the format of the session's snapshot, which is the range's format while the session is open. A
+/// session asks no node twice. It asks by depth, then by index, if the texts were taken in the order of the asks.
 ///
-/// If each text that it took is that of the partner, it asks only nodes at which the trees differ, and the partner's
-/// text of an outstanding node is never refused. All of this holds for a session that failed or was cancelled, too.
+/// If each text that it took is the partner's, it asks only nodes at which the trees differ, and the partner's text of
+/// an outstanding node is never refused. All of this holds for a session that failed or was cancelled, too.
 ///
 /// A session that neither failed nor was cancelled has asked all the nodes at which the trees differ once no inner node
 /// is outstanding, as when it is finished. A session that isn't open has no outstanding nodes.
@@ -87,8 +86,8 @@ pub fn sessions_ask_where_the_trees_differ()
         → r.session.state ≢ Open → r.session.outstanding ≡ [] }
 {}
 
-/// A range without its ended sessions holds the same, so the versions that their partners had are held still. A number
-/// names an open session as before, and no ended one.
+/// A range without its ended sessions holds the same versions, so the versions that their partners had are still held.
+/// A number names an open session as before, and no ended one.
 pub fn ranges_without_ended_sessions_hold_the_same()
     ensures held { (s : State) (key : List ℕ) → held (without_ended_sessions s).store.entries key ≡ held s.store.entries key }
     ensures rows { (s : State) → rows_now (without_ended_sessions s).store ≡ rows_now s.store }
@@ -99,8 +98,8 @@ pub fn ranges_without_ended_sessions_hold_the_same()
         → Held other.rows (held (without_ended_sessions s).store.entries) }
 {}
 
-/// Offering the members of one set to another, one by one, makes the maximal versions of both, and the union is equal
-/// with the two sets exchanged.
+/// Offering the members of one set to another, one by one, makes the maximal versions of both. The union is the same if
+/// the two sets are exchanged.
 pub fn offers_make_the_union()
     ensures each { (S T : List Version) → Ascends S → maximal S ≡ S → offered_all S T ≡ union_of S T }
     ensures sides { (S T : List Version) → union_of S T ≡ union_of T S }
@@ -129,8 +128,8 @@ pub fn ranges_that_hold_the_same_have_equal_roots()
         → kept_digest a.marks 0 ≡ kept_digest b.marks 0 }
 {}
 
-/// No call lowers the greatest counter of a node for a key: not an event, or a whole session. (A load doesn't, and a renewal
-/// keeps it, by `range_store`'s laws.)
+/// No call lowers the greatest counter of a node for a key: neither an event nor a whole session. (A load doesn't, and
+/// a renewal keeps it, by `range_store`'s laws.)
 pub fn no_call_lowers_a_counter()
     ensures run { (s t : State) (events : List Event) (replies : List Reply) (key : List ℕ) (node : ℕ)
         → Run s events replies t → top_counter s.store.entries key node ≤ top_counter t.store.entries key node }
@@ -138,13 +137,13 @@ pub fn no_call_lowers_a_counter()
         → top_counter s.entries key node ≤ top_counter (synced s seat other).store.entries key node }
 {}
 
-/// A range that is renewed beside its puts holds what the old one holds. The new range begins with the rows of a moment
-/// of the old one, and then accepts, one after another, the entries that the old one accepted since.
+/// A range that is renewed alongside its puts holds the same versions as the old one. The new range begins with the
+/// rows of a moment of the old one, then accepts the entries that the old one accepted since, in order.
 ///
-/// From the rows now it begins as a renewed range, with the digests of the moment. What it begins with doesn't change
-/// while the old one goes on. With k later entries it holds for each key what the first entries and these k held. No
-/// later entry is refused but for want of room: each is new, and none is one too many for its key. And the old one's entry
-/// of number `front` + i is the new one's entry of number `begun_count` + i: a constant less.
+/// From the rows now it begins as a renewed range, with the digests of the moment. Its first rows don't change while
+/// the old range accepts entries. With k later entries it holds for each key the versions that the first entries and
+/// these k held. A later entry's only possible fault is a full journal: each is new, and none is one too many for its
+/// key. The old range's entry number `front` + i is the new one's entry number `begun_count` + i: a constant less.
 pub fn a_range_that_caught_up_holds_the_same()
     ensures begins { (s : State) (m : Moment) (seat limit : ℕ) → m.front ≡ length s.store.entries
         → begun_from (start_at s m) seat limit

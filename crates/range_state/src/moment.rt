@@ -1,8 +1,8 @@
 //! Moments of a range.
 use range_tree::Tree;
 
-/// The rows that a range had at a moment, and the digests of their tree. They stay as they are while the range goes on,
-/// so their nodes can be hashed beside it.
+/// The rows that a range had at a moment, and the digests of their tree. They are unchanged while the range changes, so
+/// their nodes can be hashed in parallel with it.
 pub struct Moment {
     /// The rows, and the digests of the clean nodes of their tree.
     pub(crate) tree: Tree,

@@ -11,7 +11,7 @@ use std::mem::replace;
 use tree_nodes::{Hashed, NodeAt};
 use vclock::Refusal;
 
-/// The number of bytes of its texts with which a portion ends. So a range compares about as many under its lock.
+/// The size in bytes of texts at which a portion ends. A range compares about this number of bytes under its lock.
 const PORTION_LEN: usize = 262_144;
 
 /// A node of a moment, and its hashed text.
@@ -29,8 +29,8 @@ impl Model for HashedNode {
     ghost view = { λ h. record { node = h.node; text = h.hashed } };
 }
 
-/// Some dirty nodes of a moment, whose texts are to be hashed. A range makes a portion in little time, any thread hashes
-/// it, and the range takes the digests.
+/// Some dirty nodes of a moment, to be hashed. A range makes a portion in little time, any thread hashes it, and the
+/// range takes the digests.
 /// ```
 /// let mut portion = state.take_portion(alloc, 20)?;
 /// portion.run(alloc);
@@ -38,7 +38,7 @@ impl Model for HashedNode {
 /// ```
 #[derive(Drop)]
 pub struct Portion {
-    /// The nodes that are hashed, with room for the others.
+    /// The hashed nodes, with capacity for the others.
     hashed: Vec<HashedNode>,
     /// The jobs of the others.
     jobs: Vec<Job>,
@@ -57,8 +57,8 @@ impl Model for Portion {
 }
 
 impl Portion {
-    /// Makes a portion of the first jobs, up to the one with which their texts have 262,144 bytes. Refused: NoMemory.
-    /// The jobs that it doesn't have are lost.
+    /// Makes a portion of the first jobs, up to the one with which their texts have 262,144 bytes. Other jobs are
+    /// dropped. Refused: NoMemory.
     pub(crate) fn of(alloc: Global, mut jobs: Vec<Job>) -> Result<Portion, Refusal>
         ensures { Answers result None (λ portion. portion ≡ begun_within 262144 jobs.items) }
     {
@@ -86,7 +86,7 @@ impl Portion {
     }
 }
 
-/// Returns the number of the first jobs that a portion has. Doesn't allocate.
+/// Returns the number of jobs that a portion takes. Doesn't allocate.
 fn portion_len(jobs: &[Job]) -> usize
     ensures { take result jobs.now ≡ begun_within 262144 jobs.now }
 {
@@ -100,7 +100,7 @@ fn portion_len(jobs: &[Job]) -> usize
     jobs.len()
 }
 
-/// Hashes the nodes of some jobs, and returns them after others that are hashed. Doesn't allocate.
+/// Hashes the nodes of some jobs, and appends them to others that are hashed. Doesn't allocate.
 fn hash_all(mut hashed: Vec<HashedNode>, jobs: Vec<Job>) -> Vec<HashedNode>
     requires room { length hashed.items + length jobs.items ≤ vec_capacity hashed }
     ensures nodes { result.items ≡ hashed.items ++ jobs.items }

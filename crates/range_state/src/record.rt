@@ -3,8 +3,8 @@ ghost use Rattle.std.specs.Prelude.{◌≡◌};
 
 use sync_session::Session;
 
-/// A session of a range, with its number and its partner. A range gives its sessions the numbers from 0 on, and gives
-/// none twice. It keeps each record, so the texts that a session compared and took can be looked up later, until
+/// A session of a range, with its number and its partner. A range numbers its sessions from 0, and uses no number
+/// twice. It keeps each record, so the texts that a session compared and took can be looked up later, until
 /// `drop_ended_sessions`.
 ///
 /// ```
@@ -17,21 +17,21 @@ pub struct Record {
 }
 
 impl Record {
-    /// The number of the session.
+    /// Returns the number of the session.
     pub fn number(&self) -> u64
         ensures { result ≡ self.now.number }
     {
         self.number
     }
 
-    /// The number of the partner.
+    /// Returns the number of the partner.
     pub fn partner(&self) -> u16
         ensures { result ≡ self.now.partner }
     {
         self.partner
     }
 
-    /// The session.
+    /// Returns the session.
     pub fn session(&self) -> &Session
         ensures { result.now ≡ self.now.session }
     {

@@ -11,10 +11,10 @@ use std::alloc::Global;
 use vclock::Refusal;
 
 impl RangeState {
-    /// Runs events in order, and returns the reply to each. The refusal of an event is its reply, and the later events
-    /// are run.
+    /// Runs events in order, and returns the reply to each. If an event is refused, its reply is the refusal, and the
+    /// later events are still run.
     ///
-    /// Refused: NoMemory, before any event is run. Then nothing changes, and the events are dropped.
+    /// Refused: NoMemory, before any event is run. On error nothing changes, and the events are dropped.
     pub fn run_events(&mut self, alloc: Global, events: Vec<Event>) -> Result<Vec<Reply>, Refusal>
         ensures run { Answers result None (λ replies. Run self.old events.items replies.items self.new) }
         ensures err { OnErr result (self.new ≡ self.old) }
@@ -49,7 +49,7 @@ impl RangeState {
             Event::CancelSession(id) => Reply::CancelSession(self.cancel_session(id)),
             Event::Migrate => Reply::Migrate(self.migrate(alloc)),
         };
-        // Called for its clause alone: the state is right.
+        // Called only for its clause: the state is valid.
         let _right = self.journal();
         reply
     }

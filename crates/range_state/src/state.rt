@@ -36,7 +36,7 @@ pub mod sync;
 mod tree;
 
 /// One replica of a range, for one thread: its store, which has the versions that it accepted, the sessions with its
-/// partners, and a moment, whose rows are offered while the range goes on.
+/// partners, and a moment, whose rows are offered while the range changes.
 ///
 /// Threads that share a range keep it in `ring_node`'s `SharedRange`, which has `copy` in place of `accept`, workers in
 /// place of `rehash` and `sync_with`, and no `store` or `reconcile`.
@@ -51,12 +51,12 @@ pub struct RangeState {
     store: RangeStore,
     records: Vec<Record>,
     moment: Option<Moment>,
-    /// The number of entries at the last moment before that was whole: that had a digest at each node. 0 if there was
-    /// none.
+    /// The number of entries at the last whole moment before this one, which had a digest at each node; 0 if none was
+    /// whole.
     whole_before: u64,
-    /// The number of the next session: no session had it.
+    /// The number of the next session, which no session had.
     next_session: u64,
-    /// The number of the journal's first entries that are known to have none of a partner.
+    /// The number of the journal's first entries that are known to include no partner's entry.
     settled: u64,
 }
 
@@ -78,7 +78,7 @@ impl RangeState {
         RangeState::seeded(alloc, config, Seed::default())
     }
 
-    /// Makes a range as `new` does, whose store is `RangeStore::seeded`. Refused: NoMemory.
+    /// Makes a range, like `new`, with a store from `RangeStore::seeded`. Refused: NoMemory.
     pub fn seeded(alloc: Global, config: RangeConfig, seed: Seed) -> Result<RangeState, Refusal>
         ensures { Answers result None (λ state. state ≡ fresh config) }
     {
@@ -92,7 +92,7 @@ impl RangeState {
         })
     }
 
-    /// The store: its configuration and its tree, and the versions that are held for a key. Doesn't allocate.
+    /// Returns the store: its configuration, its tree, and the versions held for a key. Doesn't allocate.
     pub fn store(&self) -> &RangeStore
         ensures store { result.now ≡ self.now.store }
         ensures valid { IsRight self.now }
@@ -100,8 +100,9 @@ impl RangeState {
         &self.store
     }
 
-    /// The journal. Its entries are of this range, and each was new when it was accepted; no key ever held over 64
-    /// versions; the rows that it makes have texts; and the marks of the tree are right for them. Doesn't allocate.
+    /// Returns the journal. Its entries belong to this range, and each was new when it was accepted; no key ever held
+    /// over 64 versions; the rows that it makes have texts; and the marks of the tree are valid for them. Doesn't
+    /// allocate.
     pub fn journal(&self) -> &Journal
         ensures entries { result.now.entries ≡ self.now.store.entries }
         ensures limit { result.now.limit ≡ self.now.store.config.limit }
@@ -110,7 +111,7 @@ impl RangeState {
         self.store.journal()
     }
 
-    /// Copies the versions that are held for a key: an empty set if the key isn't held. Refused: NoMemory.
+    /// Copies the versions held for a key: an empty set if the key isn't held. Refused: NoMemory.
     pub fn get(&self, alloc: Global, key: &[u8]) -> Result<VersionSet, Refusal>
         ensures held { Answers result None (λ set. set ≡ held self.now.store.entries key.now) }
         ensures fit { IfOk result (AllByRecursion (λ v. value_fault self.now.store.config.format v.kind v.value ≡ None)) }
@@ -121,9 +122,9 @@ impl RangeState {
     /// Accepts a version that another node sent, as a copy or as a hint. A version that is equal to or below one
     /// accepted before is known, and isn't journaled again.
     ///
-    /// Refused, in order: BadKey, BadValue (of the range's format), OtherRange (the key is of another range); then, if
-    /// the version isn't known, Crowded (the key would hold over 64 versions), JournalFull, NoMemory. On error the
-    /// state is unchanged.
+    /// Refused, in order: BadKey, BadValue (of the range's format), OtherRange (the key belongs to another range);
+    /// then, if the version isn't known, Crowded (the key would hold over 64 versions), JournalFull, NoMemory. On error
+    /// the state is unchanged.
     pub fn accept(
         &mut self,
         alloc: Global,
@@ -136,17 +137,17 @@ impl RangeState {
         ensures { Does result self.old self.new (accept self.old seat source key.now version) }
     {
         let done = self.store.accept(alloc, seat, source, key, version);
-        // Called for its clause alone: the store is sound.
+        // Called only for its clause: the store is sound.
         let _sound = self.store.journal();
         done
     }
 
     /// Puts a value at a node, 1 to 65,535, or a tombstone: the new version's clock is the context with the node's
-    /// counter raised by one (the paper of 2007, section 4.4).
+    /// counter raised by one (the Dynamo paper, section 4.4).
     ///
-    /// Refused, in order: BadKey, BadValue (of the range's format), OtherRange (the key is of another range), ClockFull
-    /// and CounterFull (the context can't be raised), StaleContext with the clocks that are held (some held version has
-    /// seen everything that the raised clock has), Crowded (the key would hold over 64 versions), JournalFull,
+    /// Refused, in order: BadKey, BadValue (of the range's format), OtherRange (the key belongs to another range),
+    /// ClockFull and CounterFull (the context can't be raised), StaleContext with the held clocks (some held version
+    /// has seen everything that the raised clock has), Crowded (the key would hold over 64 versions), JournalFull,
     /// NoMemory. On error the state is unchanged. The raised clock and the list of clocks are allocated, so NoMemory
     /// may replace a cause from StaleContext on.
     pub fn put(
@@ -175,15 +176,15 @@ impl RangeState {
             kind,
             value,
         );
-        // Called for its clause alone: the store is sound.
+        // Called only for its clause: the store is sound.
         let _sound = self.store.journal();
         done
     }
 
-    /// Puts a value at a node as `put` does, if its client has read all that the node put: otherwise the put could
-    /// replace a version that the client never read. So each version that it replaces is one that the context has seen.
+    /// Puts a value at a node, like `put`, but only if the client has read all that the node put: otherwise the put
+    /// could replace a version that the client never read. The context has seen each version that the put replaces.
     ///
-    /// Refused as `put` is, and as StaleContext also if some held version has a greater counter of the node than the
+    /// Refused like `put`, and as StaleContext also if some held version has a greater counter of the node than the
     /// context.
     pub fn put_read(
         &mut self,
@@ -211,7 +212,7 @@ impl RangeState {
             kind,
             value,
         );
-        // Called for its clause alone: the store is sound.
+        // Called only for its clause: the store is sound.
         let _sound = self.store.journal();
         done
     }

@@ -1,5 +1,6 @@
 -- What becomes of a store and of its tree when the versions of a leaf are accepted.
-use Rattle.std.proofs.Common.{◌≡◌, ◌≢◌, ℕ, ◌+◌, ◌<◌, Bool, true, false, cond, Option, Some, None, List, [], ◌∷◌, ◌++◌, length, set, refl, sym, ap, ◌∙◌, inl, inr, arith, append_assoc, append-nil}
+use Rattle.std.proofs.Common.{◌≡◌, ◌≢◌, ℕ, ◌+◌, ◌<◌, Bool, true, false, cond, Option, Some, None, List, [], ◌∷◌, ◌++◌, length, set, refl, sym, ap}
+use Rattle.std.proofs.Common.{◌∙◌, inl, inr, arith, append_assoc, append-nil}
 use Rattle.std.specs.Prelude.{nat_eq, nat_lt}
 use Rattle.std.specs.List.{AllByRecursion}
 use Rattle.std.proofs.lemmas.Bool.Decides.{nat_tests}
@@ -45,11 +46,14 @@ first_cause (Some x) b e f g h = f h
 
 pub crowded_is : (s : Store) (seat : ℕ) (source : Source) (offers : Offers) (e : Refusal) → crowded_in s seat source offers ≡ Some e → e ≡ Crowded
 crowded_is s seat source [] e h = absurd (let clash : None ≡ Some e = h in cc)
-crowded_is s seat source (o ∷ offers) e h = first_cause (offer_fault o.1 (held s.entries o.0)) _ e (crowded_cause o.1 (held s.entries o.0) e) (crowded_is (accept_step s seat source o.0 o.1) seat source offers e) h
+crowded_is s seat source (o ∷ offers) e h =
+    first_cause (offer_fault o.1 (held s.entries o.0)) _ e (crowded_cause o.1 (held s.entries o.0) e)
+    (crowded_is (accept_step s seat source o.0 o.1) seat source offers e) h
 
 -- ---- versions of a leaf that are accepted
 
-leaf_off : (c : Config) (i leaf : ℕ) (es more : List Entry) → i ≢ leaf → AllByRecursion (λ (e : Entry). leaf ≡ leaf_in c e.key) more → rows_in_leaf (leaf_in c) i (rows_of (es ++ more)) ≡ rows_in_leaf (leaf_in c) i (rows_of es)
+leaf_off : (c : Config) (i leaf : ℕ) (es more : List Entry) → i ≢ leaf → AllByRecursion (λ (e : Entry). leaf ≡ leaf_in c e.key) more
+    → rows_in_leaf (leaf_in c) i (rows_of (es ++ more)) ≡ rows_in_leaf (leaf_in c) i (rows_of es)
 leaf_off c i leaf es [] other all = ap (λ (xs : List Entry). rows_in_leaf (leaf_in c) i (rows_of xs)) (append-nil es)
 leaf_off c i leaf es (e ∷ more) other all =
     let off : nat_eq (leaf_in c e.key) i ≡ false = apart (leaf_in c e.key) i (λ h. other (sym (all.0 ∙ h))) in
@@ -61,8 +65,11 @@ leaf_off c i leaf es (e ∷ more) other all =
     apart a b h = grind (arith, nat_tests)
 
 -- the leaves with another in the place of the one that the entries are of
-pub batch_change : (s : Store) (more : List Entry) (leaf : ℕ) (leaves : List Bucket) (b : Bucket) → IsRowMap (rows_now (record s { entries = s.entries ++ more })) → leaf < leaf_count s.config → AllByRecursion (λ (e : Entry). leaf ≡ leaf_in s.config e.key) more
-    → b ≡ bucket_of s.config (s.entries ++ more) leaf → leaves ≡ set (leaves_of (rows_now s)) leaf b → IsChange (rows_now s) leaf leaves (rows_now (record s { entries = s.entries ++ more }))
+pub batch_change : (s : Store) (more : List Entry) (leaf : ℕ) (leaves : List Bucket) (b : Bucket)
+    → IsRowMap (rows_now (record s { entries = s.entries ++ more })) → leaf < leaf_count s.config
+    → AllByRecursion (λ (e : Entry). leaf ≡ leaf_in s.config e.key) more
+    → b ≡ bucket_of s.config (s.entries ++ more) leaf → leaves ≡ set (leaves_of (rows_now s)) leaf b
+    → IsChange (rows_now s) leaf leaves (rows_now (record s { entries = s.entries ++ more }))
 batch_change s more leaf leaves b rows within all is are = record {
   rows = rows;
   same = refl;
@@ -79,9 +86,14 @@ no_news : (n : ℕ) → n ≡ 0 → nat_eq n 0 ≡ true
 no_news n h = grind (arith, nat_tests)
 
 -- the tree that is kept has the rows then
-pub kept_rows : (s : Store) (more : List Entry) (leaf : ℕ) (old new : RangeTree) → old ≡ tree_in s → new ≡ cond (nat_eq (length more) 0) old (with_rows old leaf (rows_now (record s { entries = s.entries ++ more })))
-    → new ≡ record { map = rows_now (record s { entries = s.entries ++ more }); marks = cond (nat_eq (length more) 0) s.marks (dirtied s.config.format leaf s.marks) }
-kept_rows s [] leaf old new was is = is ∙ was ∙ (λ i. record { map = rows_now (record s { entries = sym (append-nil s.entries) i }); marks = s.marks })
+pub kept_rows : (s : Store) (more : List Entry) (leaf : ℕ) (old new : RangeTree) → old ≡ tree_in s
+    → new ≡ cond (nat_eq (length more) 0) old (with_rows old leaf (rows_now (record s { entries = s.entries ++ more })))
+    → new ≡ record {
+      map = rows_now (record s { entries = s.entries ++ more });
+      marks = cond (nat_eq (length more) 0) s.marks (dirtied s.config.format leaf s.marks);
+    }
+kept_rows s [] leaf old new was is = is ∙ was
+    ∙ (λ i. record { map = rows_now (record s { entries = sym (append-nil s.entries) i }); marks = s.marks })
 kept_rows s (e ∷ more) leaf old new was is =
     let news = some_news (length (e ∷ more)) (omega arith) in
     rw news (rw news at is ∙ ap (λ (t : RangeTree). with_rows t leaf (rows_now (record s { entries = s.entries ++ e ∷ more }))) was)
@@ -89,5 +101,8 @@ kept_rows s (e ∷ more) leaf old new was is =
 -- a store that was reached by so many entries more
 pub reached_is : (s : Store) (leaf : ℕ) (t : Store) (n : ℕ) → length t.entries ≡ length s.entries + n → Reached s leaf t
     → record { config = s.config; entries = t.entries; marks = cond (nat_eq n 0) s.marks (dirtied s.config.format leaf s.marks) } ≡ t
-reached_is s leaf t n count (inl e) = rw (no_news n (omega (arith, count, ap (λ (x : Store). length x.entries) e))) (λ i. record { config = (sym e i).config; entries = t.entries; marks = (sym e i).marks })
-reached_is s leaf t n count (inr news) = rw (some_news n (omega (arith, count, news.more))) (λ i. record { config = sym news.config i; entries = t.entries; marks = sym news.marks i })
+reached_is s leaf t n count (inl e) =
+    rw (no_news n (omega (arith, count, ap (λ (x : Store). length x.entries) e)))
+    (λ i. record { config = (sym e i).config; entries = t.entries; marks = (sym e i).marks })
+reached_is s leaf t n count (inr news) =
+    rw (some_news n (omega (arith, count, news.more))) (λ i. record { config = sym news.config i; entries = t.entries; marks = sym news.marks i })

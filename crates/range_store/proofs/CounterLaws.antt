@@ -32,21 +32,29 @@ one : (s t : Store) (e : Entry) → t ≡ journaled s e → Grows s t
 one s t e is = record { more = e ∷ []; entries = ap (λ (x : Store). x.entries) is }
 
 both : (s m t : Store) → Grows s m → Grows m t → Grows s t
-both s m t a b = record { more = a.more ++ b.more; entries = b.entries ∙ ap (λ (es : List Entry). es ++ b.more) a.entries ∙ append_assoc s.entries a.more b.more }
+both s m t a b = record {
+  more = a.more ++ b.more;
+  entries = b.entries ∙ ap (λ (es : List Entry). es ++ b.more) a.entries
+      ∙ append_assoc s.entries a.more b.more;
+}
 
 offered_on : (s : Store) (seat : ℕ) (source : Source) (offers : List (List ℕ × Version)) → Grows s (accepted_in s seat source offers)
 offered_on s seat source offers = let g = taken_grown Nothing s seat source offers (nothing offers) in record { more = g.more; entries = g.entries }
 
 top_grows : (s t : Store) (key : List ℕ) (node : ℕ) → Grows s t → top_counter s.entries key node ≤ top_counter t.entries key node
-top_grows s t key node g = subst (λ (es : List Entry). top_counter s.entries key node ≤ top_counter es key node) (sym g.entries) (top-later s.entries g.more key node)
+top_grows s t key node g = subst (λ (es : List Entry). top_counter s.entries key node ≤ top_counter es key node) (sym g.entries)
+    (top-later s.entries g.more key node)
 
 -- ---- loads, whole sessions and renewals
 
-pub load_top : (s t : Store) (seat : ℕ) (rows : List Row) (a : Loaded) (key : List ℕ) (node : ℕ) → load s seat rows ≡ gives a t → top_counter s.entries key node ≤ top_counter t.entries key node
+pub load_top : (s t : Store) (seat : ℕ) (rows : List Row) (a : Loaded) (key : List ℕ) (node : ℕ) → load s seat rows ≡ gives a t
+    → top_counter s.entries key node ≤ top_counter t.entries key node
 load_top s t seat rows a key node h =
     let g = offered_on s seat Copy (offers_of rows) in
     let came = load_gives s seat rows a t h in
     top_grows s t key node (record { more = g.more; entries = ap (λ (y : Store). y.entries) came.1 ∙ g.entries })
 
-pub renewed_top : (s : Store) (seat limit : ℕ) (key : List ℕ) (node : ℕ) → top_counter (renewed_by s seat limit).entries key node ≡ top_counter s.entries key node
-renewed_top s seat limit key node = top-held (renewed_by s seat limit).entries key node ∙ ap (λ (S : List Version). top_in S node) (renewed_holds s seat key) ∙ sym (top-held s.entries key node)
+pub renewed_top : (s : Store) (seat limit : ℕ) (key : List ℕ) (node : ℕ)
+    → top_counter (renewed_by s seat limit).entries key node ≡ top_counter s.entries key node
+renewed_top s seat limit key node = top-held (renewed_by s seat limit).entries key node
+    ∙ ap (λ (S : List Version). top_in S node) (renewed_holds s seat key) ∙ sym (top-held s.entries key node)

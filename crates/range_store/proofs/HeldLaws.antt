@@ -89,7 +89,8 @@ has_first v S = or_left (is_same v v) (list_any (is_same v) S) (covered-itself v
 abbrev but : (Version → Bool) → Version → Version → Bool
 but p v w = p w && not (is_same v w)
 
-but_none : (p : Version → Bool) (v : Version) (S : List Version) → AllByRecursion (λ w. version_cmp v w ≡ Less) S → list_any (but p v) S ≡ list_any p S
+but_none : (p : Version → Bool) (v : Version) (S : List Version) → AllByRecursion (λ w. version_cmp v w ≡ Less) S
+    → list_any (but p v) S ≡ list_any p S
 but_none p v [] all = refl
 but_none p v (w ∷ S) all = rw (all.0, but_none p v S all.1) (ap (λ b. b || list_any p S) (and_true (p w)))
   where
@@ -112,7 +113,8 @@ same_sets [] (w ∷ T) a b h = absurd (let clash : false ≡ true = h (λ x. tru
 same_sets (v ∷ S) [] a b h = absurd (let clash : true ≡ false = h (λ x. true) in cc)
 same_sets (v ∷ S) (w ∷ T) a b h =
     elim (version_cmp v w) as (λ o. version_cmp v w ≡ o → v ∷ S ≡ w ∷ T) [
-      | Less ↦ λ o. absurd (both_ways (list_any (is_same v) (w ∷ T)) (no_same v (w ∷ T) (o, less_all version_cmp version_total v w T o b.0)) (sym (h (is_same v)) ∙ has_first v S))
+      | Less ↦ λ o. absurd (both_ways (list_any (is_same v) (w ∷ T)) (no_same v (w ∷ T) (o, less_all version_cmp version_total v w T o b.0))
+          (sym (h (is_same v)) ∙ has_first v S))
       | Equal ↦ λ o.
           let same : v ≡ w = version_exact v w o in
           let above = subst (λ (x : Version). AllByRecursion (λ y. version_cmp x y ≡ Less) T) (sym same) b.0 in
@@ -125,7 +127,8 @@ same_sets (v ∷ S) (w ∷ T) a b h =
           λ i. same i ∷ same_sets S T a.1 b.1 tails i
       | Greater ↦ λ o.
           let less : version_cmp w v ≡ Less = version_total.antisymm w v ∙ ap ordering_reverse o in
-          absurd (both_ways (list_any (is_same w) (v ∷ S)) (no_same w (v ∷ S) (less, less_all version_cmp version_total w v S less a.0)) (h (is_same w) ∙ has_first w T))
+          absurd (both_ways (list_any (is_same w) (v ∷ S)) (no_same w (v ∷ S) (less, less_all version_cmp version_total w v S less a.0))
+          (h (is_same w) ∙ has_first w T))
     ] refl
 
 -- ---- unions
@@ -158,7 +161,9 @@ pub offers_for-append : (key : List ℕ) (xs ys : Offers) → offers_for key (xs
 offers_for-append key [] ys = refl
 offers_for-append key (x ∷ xs) ys = by_key (pointwise nat_eq x.0 key) (offers_for-append key xs ys)
   where
-    by_key : (b : Bool) → offers_for key (xs ++ ys) ≡ offers_for key xs ++ offers_for key ys → cond b (x.1 ∷ offers_for key (xs ++ ys)) (offers_for key (xs ++ ys)) ≡ cond b (x.1 ∷ offers_for key xs) (offers_for key xs) ++ offers_for key ys
+    by_key : (b : Bool) → offers_for key (xs ++ ys) ≡ offers_for key xs ++ offers_for key ys
+        → cond b (x.1 ∷ offers_for key (xs ++ ys)) (offers_for key (xs ++ ys)) ≡ cond b (x.1 ∷ offers_for key xs)
+        (offers_for key xs) ++ offers_for key ys
     by_key true e = ap (λ (vs : List Version). x.1 ∷ vs) e
     by_key false e = e
 
@@ -170,7 +175,8 @@ of_other : (key k : List ℕ) (vs : List Version) → pointwise nat_eq k key ≡
 of_other key k [] is = refl
 of_other key k (v ∷ vs) is = rw is (of_other key k vs is)
 
-pub none_of : (key : List ℕ) (rows : List Row) → AllByRecursion (λ (r : Row). pointwise nat_eq r.key key ≡ false) rows → offers_for key (offers_of rows) ≡ []
+pub none_of : (key : List ℕ) (rows : List Row) → AllByRecursion (λ (r : Row). pointwise nat_eq r.key key ≡ false) rows
+    → offers_for key (offers_of rows) ≡ []
 none_of key [] all = refl
 none_of key (r ∷ rows) all =
     offers_for-append key (offers_in r) (offers_of rows)
@@ -179,7 +185,8 @@ none_of key (r ∷ rows) all =
 less_apart : (key k : List ℕ) → key_cmp key k ≡ Less → pointwise nat_eq k key ≡ false
 less_apart key k h = rw (texts_ties k key, turned key k Less h) refl
 
-all_apart : (key : List ℕ) (rows : List Row) → AllByRecursion (λ (r : Row). key_cmp key r.key ≡ Less) rows → AllByRecursion (λ (r : Row). pointwise nat_eq r.key key ≡ false) rows
+all_apart : (key : List ℕ) (rows : List Row) → AllByRecursion (λ (r : Row). key_cmp key r.key ≡ Less) rows
+    → AllByRecursion (λ (r : Row). pointwise nat_eq r.key key ≡ false) rows
 all_apart key [] all = tt
 all_apart key (r ∷ rows) all = (less_apart key r.key all.0, all_apart key rows all.1)
 
@@ -192,8 +199,11 @@ pub for_rows : (key : List ℕ) (rows : List Row) → AscendByKey rows → offer
 for_rows key [] a = refl
 for_rows key (r ∷ rows) a =
     offers_for-append key (offers_in r) (offers_of rows)
-    ∙ elim (key_cmp key r.key) as (λ o. key_cmp key r.key ≡ o → offers_for key (offers_in r) ++ offers_for key (offers_of rows) ≡ place_by o [] r.versions (versions_in key rows)) [
-      | Less ↦ λ o. (λ i. of_other key r.key r.versions (less_apart key r.key o) i ++ none_of key rows (all_apart key rows (less_rows key r.key rows o a.0)) i)
+    ∙ elim (key_cmp key r.key) as
+    (λ o. key_cmp key r.key ≡ o
+    → offers_for key (offers_in r) ++ offers_for key (offers_of rows) ≡ place_by o [] r.versions (versions_in key rows)) [
+      | Less ↦ λ o. (λ i. of_other key r.key r.versions (less_apart key r.key o) i ++ none_of key rows
+          (all_apart key rows (less_rows key r.key rows o a.0)) i)
       | Equal ↦ λ o.
           let same : key ≡ r.key = key_exact key r.key o in
           let above = subst (λ (k : List ℕ). AllByRecursion (λ (x : Row). key_cmp k x.key ≡ Less) rows) (sym same) a.0 in
@@ -205,17 +215,21 @@ for_rows key (r ∷ rows) a =
     ] refl
 
 -- a leaf that is not the key's offers nothing for it
-pub other_leaf : (leaf : List ℕ → ℕ) (i : ℕ) (key : List ℕ) (rows : List Row) → nat_eq i (leaf key) ≡ false → AllByRecursion (λ (r : Row). pointwise nat_eq r.key key ≡ false) (rows_in_leaf leaf i rows)
+pub other_leaf : (leaf : List ℕ → ℕ) (i : ℕ) (key : List ℕ) (rows : List Row) → nat_eq i (leaf key) ≡ false
+    → AllByRecursion (λ (r : Row). pointwise nat_eq r.key key ≡ false) (rows_in_leaf leaf i rows)
 other_leaf leaf i key [] away = tt
 other_leaf leaf i key (r ∷ rows) away = by_leaf (nat_eq (leaf r.key) i) refl (other_leaf leaf i key rows away)
   where
     apart : nat_eq (leaf r.key) i ≡ true → (b : Bool) → Decides b (r.key ≡ key) → b ≡ false
-    apart here true is = absurd (both_ways (nat_eq i (leaf key)) away (ap (λ (n : ℕ). nat_eq n (leaf key)) (sym (eqb-true (leaf r.key) i here)) ∙ ap (λ (k : List ℕ). nat_eq (leaf r.key) (leaf k)) (sym (is.0 refl)) ∙ itself (leaf r.key)))
+    apart here true is = absurd
+        (both_ways (nat_eq i (leaf key)) away (ap (λ (n : ℕ). nat_eq n (leaf key)) (sym (eqb-true (leaf r.key) i here))
+        ∙ ap (λ (k : List ℕ). nat_eq (leaf r.key) (leaf k)) (sym (is.0 refl)) ∙ itself (leaf r.key)))
       where
         itself : (n : ℕ) → nat_eq n n ≡ true
         itself n = grind (arith, nat_tests)
     apart here false is = refl
 
-    by_leaf : (b : Bool) → nat_eq (leaf r.key) i ≡ b → AllByRecursion (λ (x : Row). pointwise nat_eq x.key key ≡ false) (rows_in_leaf leaf i rows) → AllByRecursion (λ (x : Row). pointwise nat_eq x.key key ≡ false) (cond b (r ∷ rows_in_leaf leaf i rows) (rows_in_leaf leaf i rows))
+    by_leaf : (b : Bool) → nat_eq (leaf r.key) i ≡ b → AllByRecursion (λ (x : Row). pointwise nat_eq x.key key ≡ false) (rows_in_leaf leaf i rows)
+        → AllByRecursion (λ (x : Row). pointwise nat_eq x.key key ≡ false) (cond b (r ∷ rows_in_leaf leaf i rows) (rows_in_leaf leaf i rows))
     by_leaf true here all = (apart here (pointwise nat_eq r.key key) (bytes_eq-Decides r.key key), all)
     by_leaf false there all = all

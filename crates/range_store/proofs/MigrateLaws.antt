@@ -62,12 +62,14 @@ right_in_two s ok one = record {
   own = All-weaker (IsOwn s.config) (IsOwn (config_in_two s.config)) s.entries (own_in_two s.config one) ok.own;
   news = ok.news;
   short = ok.short;
-  rows = All-weaker (IsRow One) (IsRow Two) (rows_of s.entries) row_in_two (subst (λ (f : Format). AllByRecursion (IsRow f) (rows_of s.entries)) one ok.rows);
+  rows = All-weaker (IsRow One) (IsRow Two) (rows_of s.entries) row_in_two
+      (subst (λ (f : Format). AllByRecursion (IsRow f) (rows_of s.entries)) one ok.rows);
   marks = record { tree = tree_fresh Two; digests = true_fresh Two (leaf_in (config_in_two s.config)) (rows_of s.entries) (node_count Two) };
 }
 
 -- its journal can be replayed in format 2
-pub replay_in_two : (s : Store) → IsSound s → s.config.format ≡ One → IsReplay (record { config = config_in_two s.config; entries = s.entries; front = 0 })
+pub replay_in_two : (s : Store) → IsSound s → s.config.format ≡ One
+    → IsReplay (record { config = config_in_two s.config; entries = s.entries; front = 0 })
 replay_in_two s ok one = record {
   config = ok.config;
   own = All-weaker (IsOwn s.config) (IsOwn (config_in_two s.config)) s.entries (own_in_two s.config one) ok.own;
@@ -76,12 +78,20 @@ replay_in_two s ok one = record {
 }
 
 -- a store with the configuration and the tree of one that went over
-pub went_over : (s : Store) (c : Config) (es : List Entry) (tree : RangeTree) → IsSound s → s.config.format ≡ One → c ≡ config_in_two s.config → es ≡ s.entries → tree ≡ replayed_tree (record { config = c; entries = es; front = length es })
-    → IsSound (record { config = c; entries = s.entries; marks = tree.marks }) × (tree.map ≡ rows_now (record { config = c; entries = s.entries; marks = tree.marks })) × (record { config = c; entries = s.entries; marks = tree.marks } ≡ in_two s)
+pub went_over : (s : Store) (c : Config) (es : List Entry) (tree : RangeTree) → IsSound s → s.config.format ≡ One → c ≡ config_in_two s.config
+    → es ≡ s.entries → tree ≡ replayed_tree (record { config = c; entries = es; front = length es })
+    → IsSound (record { config = c; entries = s.entries; marks = tree.marks })
+    × (tree.map ≡ rows_now (record { config = c; entries = s.entries; marks = tree.marks }))
+    × (record { config = c; entries = s.entries; marks = tree.marks } ≡ in_two s)
 went_over s c es tree ok one config same is =
     let whole : take (length es) es ≡ s.entries = take_all (length es) es (omega arith) ∙ same in
     let rows : tree.map ≡ record { format = c.format; bits = c.bits; range = c.range; rows = rows_of s.entries } =
-    ap (λ (t : RangeTree). t.map) is ∙ ap (λ (xs : List Entry). record { format = c.format; bits = c.bits; range = c.range; rows = rows_of xs }) whole in
+    ap (λ (t : RangeTree). t.map) is
+    ∙ ap (λ (xs : List Entry). record { format = c.format; bits = c.bits; range = c.range; rows = rows_of xs }) whole in
     let dirty : tree.marks ≡ all_dirty Two = ap (λ (t : RangeTree). t.marks) is ∙ ap (λ (x : Config). all_dirty x.format) config in
-    let back : record { config = c; entries = s.entries; marks = tree.marks } ≡ in_two s = λ i. record { config = config i; entries = s.entries; marks = dirty i } in
+    let back : record { config = c; entries = s.entries; marks = tree.marks } ≡ in_two s = λ i. record {
+      config = config i;
+      entries = s.entries;
+      marks = dirty i;
+    } in
     (subst IsSound (sym back) (right_in_two s ok one), rows, back)

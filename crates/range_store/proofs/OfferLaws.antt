@@ -33,15 +33,18 @@ all-with_key P k (x ∷ ks) h all = elim (key_cmp k x) as (λ o. AllByRecursion 
   | Greater ↦ (all.0, all-with_key P k ks h all.1)
 ]
 
-all-keys_from : (P : List ℕ → Type 0) (ks : List (List ℕ)) (es : List Entry) → AllByRecursion P ks → AllByRecursion (λ (e : Entry). P e.key) es → AllByRecursion P (keys_from ks es)
+all-keys_from : (P : List ℕ → Type 0) (ks : List (List ℕ)) (es : List Entry) → AllByRecursion P ks → AllByRecursion (λ (e : Entry). P e.key) es
+    → AllByRecursion P (keys_from ks es)
 all-keys_from P ks [] all each = all
 all-keys_from P ks (e ∷ es) all each = all-keys_from P (with_key e.key ks) es (all-with_key P e.key ks each.0 all) each.1
 
-all-keyed : (P : List ℕ → Type 0) (f : List ℕ → List Version) (ks : List (List ℕ)) → AllByRecursion P ks → AllByRecursion (λ (r : Row). P r.key) (map (λ k. record { key = k; versions = f k }) ks)
+all-keyed : (P : List ℕ → Type 0) (f : List ℕ → List Version) (ks : List (List ℕ)) → AllByRecursion P ks
+    → AllByRecursion (λ (r : Row). P r.key) (map (λ k. record { key = k; versions = f k }) ks)
 all-keyed P f [] all = tt
 all-keyed P f (k ∷ ks) all = (all.0, all-keyed P f ks all.1)
 
-all-rows_of : (P : List ℕ → Type 0) (es : List Entry) → AllByRecursion (λ (e : Entry). P e.key) es → AllByRecursion (λ (r : Row). P r.key) (rows_of es)
+all-rows_of : (P : List ℕ → Type 0) (es : List Entry) → AllByRecursion (λ (e : Entry). P e.key) es
+    → AllByRecursion (λ (r : Row). P r.key) (rows_of es)
 unfolding rows_of
 all-rows_of P es each = all-keyed P (held es) (keys_from [] es) (all-keys_from P [] es tt each)
 
@@ -64,7 +67,9 @@ pub range_fits : (c : Config) → IsTrue (is_config c) → c.range < 2 ^ c.bits
 range_fits c config = ltb-true c.range (2 ^ c.bits) (and_parts _ _ (and_parts _ _ (and_parts _ _ config).0).0).1
 
 -- the rows now are those of a range, and their tree is right
-pub tree_right : (s : Store) → IsTrue (is_config s.config) → AllByRecursion (IsOwn s.config) s.entries → AllByRecursion (IsRow s.config.format) (rows_of s.entries) → IsTreeFor (leaf_in s.config) (rows_of s.entries) (tree_of s) → IsRangeTree (tree_in s)
+pub tree_right : (s : Store) → IsTrue (is_config s.config) → AllByRecursion (IsOwn s.config) s.entries
+    → AllByRecursion (IsRow s.config.format) (rows_of s.entries) → IsTreeFor (leaf_in s.config) (rows_of s.entries) (tree_of s)
+    → IsRangeTree (tree_in s)
 tree_right s config own rows marks =
     let c = s.config in
     record {
@@ -104,7 +109,8 @@ pub hashed_map : (r : Result ℕ Refusal) (most : ℕ) (t u : RangeTree) → Has
 hashed_map (Ok left) most t u h = h.1.same.map
 hashed_map (Err e) most t u h = ap (λ (x : RangeTree). x.map) h.3
 
-pub some_hashed : (r : Result ℕ Refusal) (most : ℕ) (now : Store) (t u : RangeTree) → t ≡ tree_in now → HashesSome r most t u → HashesSome r most (tree_in now) (tree_in (with_tree now u))
+pub some_hashed : (r : Result ℕ Refusal) (most : ℕ) (now : Store) (t u : RangeTree) → t ≡ tree_in now → HashesSome r most t u
+    → HashesSome r most (tree_in now) (tree_in (with_tree now u))
 some_hashed r most now t u is h =
     let map : u.map ≡ rows_now now = hashed_map r most t u h ∙ ap (λ (x : RangeTree). x.map) is in
     let new : u ≡ tree_in (with_tree now u) = λ i. record { map = map i; marks = u.marks } in

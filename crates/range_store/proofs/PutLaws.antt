@@ -1,5 +1,6 @@
 -- What a put, an accept and a load give, and what a put that checks its client's reading replaces.
-use Rattle.std.proofs.Common.{◌≡◌, ◌⊎◌, map, ℕ, ◌+◌, ◌<◌, ◌≤◌, Bool, true, false, cond, not, List, [], ◌∷◌, Option, Some, None, Contains, get_or, refl, sym, ap, subst, ◌∙◌, ◌||◌, ◌&&◌, inl, inr, arith}
+use Rattle.std.proofs.Common.{◌≡◌, ◌⊎◌, map, ℕ, ◌+◌, ◌<◌, ◌≤◌, Bool, true, false, cond, not, List, [], ◌∷◌, Option, Some, None, Contains, get_or}
+use Rattle.std.proofs.Common.{refl, sym, ap, subst, ◌∙◌, ◌||◌, ◌&&◌, inl, inr, arith}
 use Rattle.std.specs.Prelude.{All, nat_eq, nat_lt}
 use Rattle.std.specs.List.{list_any, filter, AllByRecursion}
 use Rattle.std.proofs.lemmas.Bool.{cases_Bool, cases_lt, lt-ltb, le-ltb, or_right, eqb-true}
@@ -33,7 +34,8 @@ use Rattle.range_store.specs.declared.context_test.ContextTest.TheVariants.{Fres
 use Rattle.range_store.specs.ContextTests.{unread_fault, put_by, put_read}
 use Rattle.range_store.specs.Loads.{apart_fault, load, loaded}
 use Rattle.range_store.specs.Offers.{accepted_in, accept_fault, offers_of}
-use Rattle.range_store.specs.Store.{Store, place_fault, ask_fault, stale_fault, full_fault, put_version, put_entry, entry_of, knows, journaled, accept, admit, put}
+use Rattle.range_store.specs.Store.{Store, place_fault, ask_fault, stale_fault, full_fault, put_version, put_entry, entry_of, knows, journaled}
+use Rattle.range_store.specs.Store.{accept, admit, put}
 use Rattle.range_store.proofs.StoreLaws.{eq_itself}
 use Rattle.range_store.proofs.HeldLaws.{covered-itself, held_own}
 
@@ -44,35 +46,48 @@ past c o x s h = (passed c o x s h).1
 pub admitted : (s : Store) (e x : Entry) (t : Store) → admit s e ≡ gives x t → (x ≡ e) × (t ≡ journaled s e)
 admitted s e x t h = let g : gives e (journaled s e) ≡ gives x t = past (full_fault s) (gives e (journaled s e)) x t h in (cc, cc)
 
-put_gives : (s : Store) (seat at : ℕ) (key : List ℕ) (context : Pairs) (kind : Kind) (value : List ℕ) (x : Entry) (t : Store) → put s seat at key context kind value ≡ gives x t
+put_gives : (s : Store) (seat at : ℕ) (key : List ℕ) (context : Pairs) (kind : Kind) (value : List ℕ) (x : Entry) (t : Store)
+    → put s seat at key context kind value ≡ gives x t
     → (x ≡ put_entry s seat at key context kind value) × (t ≡ journaled s (put_entry s seat at key context kind value))
 put_gives s seat at key context kind value x t h =
     let entry = put_entry s seat at key context kind value in
-    admitted s entry x t (past (offer_fault (put_version at context kind value) (held s.entries key)) _ x t (past (stale_fault (held s.entries key) (raised context at)) _ x t (past (raise_fault context at) _ x t (past (place_fault s.config key kind value) _ x t h))))
+    admitted s entry x t (past (offer_fault (put_version at context kind value) (held s.entries key)) _ x t
+    (past (stale_fault (held s.entries key) (raised context at)) _ x t
+    (past (raise_fault context at) _ x t (past (place_fault s.config key kind value) _ x t h))))
 
 -- a put that checks is a put
-pub put_by_is_put : (test : ContextTest) (s : Store) (seat at : ℕ) (key : List ℕ) (context : Pairs) (kind : Kind) (value : List ℕ) (x : Entry) (t : Store) → put_by test s seat at key context kind value ≡ gives x t
+pub put_by_is_put : (test : ContextTest) (s : Store) (seat at : ℕ) (key : List ℕ) (context : Pairs) (kind : Kind) (value : List ℕ) (x : Entry)
+    (t : Store) → put_by test s seat at key context kind value ≡ gives x t
     → put s seat at key context kind value ≡ gives x t
 put_by_is_put Fresh s seat at key context kind value x t h = h
-put_by_is_put Read s seat at key context kind value x t h = past (unread_fault (held s.entries key) at context) _ x t (past (ask_fault s.config at key context kind value) _ x t h)
+put_by_is_put Read s seat at key context kind value x t h =
+    past (unread_fault (held s.entries key) at context) _ x t (past (ask_fault s.config at key context kind value) _ x t h)
 
-pub put_by_gives : (test : ContextTest) (s : Store) (seat at : ℕ) (key : List ℕ) (context : Pairs) (kind : Kind) (value : List ℕ) (x : Entry) (t : Store) → put_by test s seat at key context kind value ≡ gives x t
+pub put_by_gives : (test : ContextTest) (s : Store) (seat at : ℕ) (key : List ℕ) (context : Pairs) (kind : Kind) (value : List ℕ) (x : Entry)
+    (t : Store) → put_by test s seat at key context kind value ≡ gives x t
     → (x ≡ put_entry s seat at key context kind value) × (t ≡ journaled s (put_entry s seat at key context kind value))
-put_by_gives test s seat at key context kind value x t h = put_gives s seat at key context kind value x t (put_by_is_put test s seat at key context kind value x t h)
+put_by_gives test s seat at key context kind value x t h =
+    put_gives s seat at key context kind value x t (put_by_is_put test s seat at key context kind value x t h)
 
 -- a refusal of a put that checks is that of a put, or a stale context that was tested for this alone
-pub put_by_refuses : (test : ContextTest) (s : Store) (seat at : ℕ) (key : List ℕ) (context : Pairs) (kind : Kind) (value : List ℕ) (e : Refusal) → put_by test s seat at key context kind value ≡ refuses e
-    → (put s seat at key context kind value ≡ refuses e) ⊎ ((ask_fault s.config at key context kind value ≡ None) × ((clocks : List Pairs) × (e ≡ StaleContext clocks)))
+pub put_by_refuses : (test : ContextTest) (s : Store) (seat at : ℕ) (key : List ℕ) (context : Pairs) (kind : Kind) (value : List ℕ) (e : Refusal)
+    → put_by test s seat at key context kind value ≡ refuses e
+    → (put s seat at key context kind value ≡ refuses e) ⊎
+    ((ask_fault s.config at key context kind value ≡ None) × ((clocks : List Pairs) × (e ≡ StaleContext clocks)))
 put_by_refuses Fresh s seat at key context kind value e h = inl h
-put_by_refuses Read s seat at key context kind value e h = by_causes (place_fault s.config key kind value) (raise_fault context at) (list_any (λ v. nat_lt (counter context at) (counter v.clock at)) (held s.entries key)) h
+put_by_refuses Read s seat at key context kind value e h =
+    by_causes (place_fault s.config key kind value) (raise_fault context at)
+    (list_any (λ v. nat_lt (counter context at) (counter v.clock at)) (held s.entries key)) h
   where
     rest : Outcome Entry Store
-    rest = stale_fault (held s.entries key) (raised context at) >> (offer_fault (put_version at context kind value) (held s.entries key) >> admit s (put_entry s seat at key context kind value))
+    rest = stale_fault (held s.entries key) (raised context at) >>
+        (offer_fault (put_version at context kind value) (held s.entries key) >> admit s (put_entry s seat at key context kind value))
 
     clocks : List Pairs
     clocks = map (λ (v : Version). v.clock) (held s.entries key)
 
-    by_causes : (place raise : Option Refusal) (b : Bool) → (first_fault place raise >> (cond b (Some (StaleContext clocks)) None >> (place >> (raise >> rest)))) ≡ refuses e
+    by_causes : (place raise : Option Refusal) (b : Bool)
+        → (first_fault place raise >> (cond b (Some (StaleContext clocks)) None >> (place >> (raise >> rest)))) ≡ refuses e
         → ((place >> (raise >> rest)) ≡ refuses e) ⊎ ((first_fault place raise ≡ None) × ((cs : List Pairs) × (e ≡ StaleContext cs)))
     by_causes (Some f) raise b is = inl is
     by_causes None (Some f) b is = inl is
@@ -84,7 +99,8 @@ abbrev pub IsSentTo : Store → ℕ → Source → List ℕ → Version → Acce
 IsSentTo s seat source key v (Taken x) t = (x ≡ entry_of s seat source key v) × (t ≡ journaled s (entry_of s seat source key v))
 IsSentTo s seat source key v Known t = t ≡ s
 
-pub accept_gives : (s : Store) (seat : ℕ) (source : Source) (key : List ℕ) (v : Version) (r : Accepted) (t : Store) → accept s seat source key v ≡ gives r t → IsSentTo s seat source key v r t
+pub accept_gives : (s : Store) (seat : ℕ) (source : Source) (key : List ℕ) (v : Version) (r : Accepted) (t : Store)
+    → accept s seat source key v ≡ gives r t → IsSentTo s seat source key v r t
 accept_gives s seat source key v r t h = by_news (knows s key v) (past (place_fault s.config key v.kind v.value) _ r t h)
   where
     entry : Entry
@@ -93,14 +109,17 @@ accept_gives s seat source key v r t h = by_news (knows s key v) (past (place_fa
     taken : Outcome Accepted Store
     taken = admit s (entry_of s seat source key v) >>= λ p. gives (Taken p.0) p.1
 
-    by_admit : (o : Outcome Entry Store) → o ≡ admit s (entry_of s seat source key v) → (o >>= λ p. gives (Taken p.0) p.1) ≡ gives r t → IsSentTo s seat source key v r t
+    by_admit : (o : Outcome Entry Store) → o ≡ admit s (entry_of s seat source key v) → (o >>= λ p. gives (Taken p.0) p.1) ≡ gives r t
+        → IsSentTo s seat source key v r t
     by_admit (gives x u) is e =
         let both = admitted s (entry_of s seat source key v) x u (sym is) in
         let reply : Taken x ≡ r = cc in
         subst (λ (q : Accepted). IsSentTo s seat source key v q t) reply (both.0, let now : u ≡ t = cc in sym now ∙ both.1)
     by_admit (refuses c) is e = absurd (let no : refuses c ≡ gives r t = e in cc)
 
-    by_news : (b : Bool) → cond b (gives Known s) (offer_fault v (held s.entries key) >> (admit s (entry_of s seat source key v) >>= λ p. gives (Taken p.0) p.1)) ≡ gives r t → IsSentTo s seat source key v r t
+    by_news : (b : Bool) → cond b (gives Known s)
+        (offer_fault v (held s.entries key) >> (admit s (entry_of s seat source key v) >>= λ p. gives (Taken p.0) p.1)) ≡ gives r t
+        → IsSentTo s seat source key v r t
     by_news true e =
         let reply : Known ≡ r = cc in
         subst (λ (q : Accepted). IsSentTo s seat source key v q t) reply (let now : s ≡ t = cc in sym now)
@@ -152,16 +171,19 @@ stays new v S has own free = elim (cases_Bool (covered new S)) [
   | inr news ↦
       let apart = uncovered new S news in
       let none : list_any (is_below v) (with_version new S) ≡ false = any-with_version (is_below v) new S apart ∙ (λ k. free k || own k) in
-      let there : list_any (is_same v) (with_version new S) ≡ true = any-with_version (is_same v) new S apart ∙ or_right (is_same v new) (list_any (is_same v) S) (among v S has) in
+      let there : list_any (is_same v) (with_version new S) ≡ true = any-with_version (is_same v) new S apart
+      ∙ or_right (is_same v new) (list_any (is_same v) S) (among v S has) in
       rw news (passes (λ w. not (list_any (is_below w) (with_version new S))) (with_version new S) v there (ap not none))
 ]
 
 -- a version below one whose clock is a context with a node's counter raised: the context has seen it, if it has its
 -- counter of the node
-seen : (new v : Version) (context : Pairs) (at : ℕ) → new.clock ≡ raised context at → nat_lt (counter context at) (counter v.clock at) ≡ false → is_below v new ≡ true → IsAtMost v.clock context
+seen : (new v : Version) (context : Pairs) (at : ℕ) → new.clock ≡ raised context at → nat_lt (counter context at) (counter v.clock at) ≡ false
+    → is_below v new ≡ true → IsAtMost v.clock context
 seen new v context at is read below n =
     let under = at_most-counters v.clock new.clock (first (at_most v.clock new.clock) _ below) n in
-    let clock : counter new.clock n ≡ cond (nat_eq at n) (counter context at + 1) (counter context n) = ap (λ (c : Pairs). counter c n) is ∙ counter-with_counter context at (counter context at + 1) n in
+    let clock : counter new.clock n ≡ cond (nat_eq at n) (counter context at + 1) (counter context n) = ap (λ (c : Pairs). counter c n) is
+    ∙ counter-with_counter context at (counter context at + 1) n in
     elim (cases_Bool (nat_eq at n)) [
       | inl same ↦
           let here : at ≡ n = eqb-true at n same in
@@ -188,7 +210,8 @@ none_of : (p : Version → Bool) (S : List Version) → list_any p S ≡ false �
 none_of p [] h = tt
 none_of p (v ∷ S) h = parts (p v) refl (none_of p S) h
   where
-    parts : (b : Bool) → p v ≡ b → (list_any p S ≡ false → AllByRecursion (λ w. p w ≡ false) S) → (b || list_any p S) ≡ false → (p v ≡ false) × AllByRecursion (λ w. p w ≡ false) S
+    parts : (b : Bool) → p v ≡ b → (list_any p S ≡ false → AllByRecursion (λ w. p w ≡ false) S) → (b || list_any p S) ≡ false
+        → (p v ≡ false) × AllByRecursion (λ w. p w ≡ false) S
     parts true is rest e = absurd (cc)
     parts false is rest e = (is, rest e)
 
@@ -197,8 +220,10 @@ replaced : (new : Version) (context : Pairs) (at : ℕ) (S : List Version) → m
 replaced new context at S own is read = recursion_from_All (IsKeptOrRead (offered new S) context) S (λ k d less.
     let v = get_or S k d in
     let has : Contains S v = Contains-get_or S k d less in
-    let known = All-from_recursion (λ (w : Version). nat_lt (counter context at) (counter w.clock at) ≡ false) S (none_of (λ w. nat_lt (counter context at) (counter w.clock at)) S read) k d less in
-    let top = subst (All (λ (w : Version). not (list_any (is_below w) S) ≡ true)) own (filter_passes (λ (w : Version). not (list_any (is_below w) S)) S) k d less in
+    let known = All-from_recursion (λ (w : Version). nat_lt (counter context at) (counter w.clock at) ≡ false) S
+    (none_of (λ w. nat_lt (counter context at) (counter w.clock at)) S read) k d less in
+    let top = subst (All (λ (w : Version). not (list_any (is_below w) S) ≡ true)) own
+    (filter_passes (λ (w : Version). not (list_any (is_below w) S)) S) k d less in
     elim (cases_Bool (is_below v new)) [
       | inl below ↦ inr (seen new v context at is known below)
       | inr free ↦ inl (stays new v S has (not_true (list_any (is_below v) S) top) free)
@@ -209,11 +234,13 @@ replaced new context at S own is read = recursion_from_All (IsKeptOrRead (offere
     not_true false e = refl
 
 -- no counter of the node is greater than the context's
-read_top : (S : List Version) (context : Pairs) (at : ℕ) → list_any (λ v. nat_lt (counter context at) (counter v.clock at)) S ≡ false → top_in S at ≤ counter context at
+read_top : (S : List Version) (context : Pairs) (at : ℕ) → list_any (λ v. nat_lt (counter context at) (counter v.clock at)) S ≡ false
+    → top_in S at ≤ counter context at
 read_top [] context at read = omega arith
 read_top (v ∷ S) context at read = elim (cases_lt (counter context at) (counter v.clock at)) [
   | inl more ↦ absurd (let no = rw (lt-ltb (counter context at) (counter v.clock at) more) at read in cc)
-  | inr most ↦ let rest = rw (le-ltb (counter context at) (counter v.clock at) most) at read in let below = read_top S context at rest in omega (arith, most, below)
+  | inr most ↦ let rest = rw (le-ltb (counter context at) (counter v.clock at) most) at read in let below = read_top S context at rest in
+      omega (arith, most, below)
 ]
 
 -- what a put that checks did
@@ -221,18 +248,21 @@ pub record Checked (s t : Store) (at : ℕ) (key : List ℕ) (context : Pairs) (
   pub read : AllByRecursion (IsKeptOrRead (held t.entries key) context) (held s.entries key)
   pub counter : top_counter s.entries key at < counter e.version.clock at
 
-pub checked : (s t : Store) (seat at : ℕ) (key : List ℕ) (context : Pairs) (kind : Kind) (value : List ℕ) (e : Entry) → put_read s seat at key context kind value ≡ gives e t → Checked s t at key context e
+pub checked : (s t : Store) (seat at : ℕ) (key : List ℕ) (context : Pairs) (kind : Kind) (value : List ℕ) (e : Entry)
+    → put_read s seat at key context kind value ≡ gives e t → Checked s t at key context e
 checked s t seat at key context kind value e h =
     let entry = put_entry s seat at key context kind value in
     let came = put_by_gives Read s seat at key context kind value e t h in
     let none = (passed (unread_fault (held s.entries key) at context) _ e t (past (ask_fault s.config at key context kind value) _ e t h)).0 in
     let read = no_fault (list_any (λ v. nat_lt (counter context at) (counter v.clock at)) (held s.entries key)) _ none in
     let now : held t.entries key ≡ offered entry.version (held s.entries key) =
-    ap (λ (x : Store). held x.entries key) came.1 ∙ held-push s.entries entry key ∙ ap (λ b. cond b (offered entry.version (held s.entries key)) (held s.entries key)) ((bytes_eq-Decides key key).1 refl) in
+    ap (λ (x : Store). held x.entries key) came.1 ∙ held-push s.entries entry key
+    ∙ ap (λ b. cond b (offered entry.version (held s.entries key)) (held s.entries key)) ((bytes_eq-Decides key key).1 refl) in
     let least = read_top (held s.entries key) context at read in
     let top = top-held s.entries key at in
     let own : counter e.version.clock at ≡ counter context at + 1 =
-    ap (λ (x : Entry). counter x.version.clock at) came.0 ∙ counter-with_counter context at (counter context at + 1) at ∙ ap (λ b. cond b (counter context at + 1) (counter context at)) (eq_itself at) in
+    ap (λ (x : Entry). counter x.version.clock at) came.0 ∙ counter-with_counter context at (counter context at + 1) at
+    ∙ ap (λ b. cond b (counter context at + 1) (counter context at)) (eq_itself at) in
     record {
       read = subst (λ (T : List Version). AllByRecursion (IsKeptOrRead T context) (held s.entries key)) (sym now)
           (replaced entry.version context at (held s.entries key) (held_own s.entries key) refl read);

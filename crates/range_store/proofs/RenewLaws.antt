@@ -1,5 +1,6 @@
 -- Ranges that begin with the versions that others hold.
-use Rattle.std.proofs.Common.{◌≡◌, ℕ, zero, suc, ◌+◌, ◌-◌, ◌<◌, ◌≤◌, Bool, true, false, cond, not, Some, None, List, [], ◌∷◌, ◌++◌, length, map, take, refl, sym, ap, subst, ◌∙◌, arith, inl, inr, append_assoc, append-nil}
+use Rattle.std.proofs.Common.{◌≡◌, ℕ, zero, suc, ◌+◌, ◌-◌, ◌<◌, ◌≤◌, Bool, true, false, cond, not, Some, None, List, [], ◌∷◌, ◌++◌, length, map}
+use Rattle.std.proofs.Common.{take, refl, sym, ap, subst, ◌∙◌, arith, inl, inr, append_assoc, append-nil}
 use Rattle.std.specs.Prelude.{nat_eq, min, IsTrue}
 use Rattle.std.specs.List.{filter, flat_map, list_any, range_with_len, AllByRecursion}
 use Rattle.std.specs.Cmp.Lexicographic.{pointwise}
@@ -39,7 +40,8 @@ use Rattle.range_store.specs.Config.{Config, is_config}
 use Rattle.range_store.specs.Rows.{rows_of}
 use Rattle.range_store.specs.Store.{Store, leaf_in, leaf_count, rows_now, tree_in, tree_of, IsOwn, IsSound}
 use Rattle.range_store.specs.Offers.{offers_in, offers_of}
-use Rattle.range_store.specs.Renewals.{IsOfConfig, copies_from, by_leaf, offers_by_leaf, held_offers, config_to, renewed_by, short_fault, renew_fault, with_copies, limit_fault, Basis, IsBasis, begun_by, basis_fault}
+use Rattle.range_store.specs.Renewals.{IsOfConfig, copies_from, by_leaf, offers_by_leaf, held_offers, config_to, renewed_by, short_fault}
+use Rattle.range_store.specs.Renewals.{renew_fault, with_copies, limit_fault, Basis, IsBasis, begun_by, basis_fault}
 use Rattle.range_store.proofs.BatchLaws.{Offers}
 use Rattle.range_store.proofs.OfferLaws.{row_map_now}
 use Rattle.range_store.proofs.SameRowLaws.{same_rows}
@@ -75,11 +77,14 @@ copies_of n seat (o ∷ os) key = ap (λ (vs : List Version). cond (pointwise na
 
 -- ---- journals
 
-pub with_copies_of : (log : Log) (seat : ℕ) (xs ys all : Offers) → all ≡ xs ++ ys → with_copies (with_copies log seat xs) seat ys ≡ with_copies log seat all
+pub with_copies_of : (log : Log) (seat : ℕ) (xs ys all : Offers) → all ≡ xs ++ ys
+    → with_copies (with_copies log seat xs) seat ys ≡ with_copies log seat all
 with_copies_of log seat xs ys all is =
     let n = length log.entries in
-    let long : length (log.entries ++ copies_from n seat xs) ≡ n + length xs = omega (arith, length-append log.entries (copies_from n seat xs), length-copies n seat xs) in
-    let entries : (log.entries ++ copies_from n seat xs) ++ copies_from (length (log.entries ++ copies_from n seat xs)) seat ys ≡ log.entries ++ copies_from n seat (xs ++ ys) =
+    let long : length (log.entries ++ copies_from n seat xs) ≡ n + length xs = omega
+    (arith, length-append log.entries (copies_from n seat xs), length-copies n seat xs) in
+    let entries : (log.entries ++ copies_from n seat xs) ++ copies_from
+    (length (log.entries ++ copies_from n seat xs)) seat ys ≡ log.entries ++ copies_from n seat (xs ++ ys) =
     ap (λ m. (log.entries ++ copies_from n seat xs) ++ copies_from m seat ys) long
     ∙ append_assoc log.entries (copies_from n seat xs) (copies_from (n + length xs) seat ys)
     ∙ ap (λ (es : List Entry). log.entries ++ es) (sym (copies-append n seat xs ys)) in
@@ -105,19 +110,22 @@ pub leaf_filter : (leaf : List ℕ → ℕ) (i : ℕ) (rows : List Row) → AllB
 leaf_filter leaf i [] = tt
 leaf_filter leaf i (r ∷ rows) = by_test (nat_eq (leaf r.key) i) refl (leaf_filter leaf i rows)
   where
-    by_test : (b : Bool) → nat_eq (leaf r.key) i ≡ b → AllByRecursion (λ (x : Row). leaf x.key ≡ i) (rows_in_leaf leaf i rows) → AllByRecursion (λ (x : Row). leaf x.key ≡ i) (cond b (r ∷ rows_in_leaf leaf i rows) (rows_in_leaf leaf i rows))
+    by_test : (b : Bool) → nat_eq (leaf r.key) i ≡ b → AllByRecursion (λ (x : Row). leaf x.key ≡ i) (rows_in_leaf leaf i rows)
+        → AllByRecursion (λ (x : Row). leaf x.key ≡ i) (cond b (r ∷ rows_in_leaf leaf i rows) (rows_in_leaf leaf i rows))
     by_test true e rest = (eqb-true (leaf r.key) i e, rest)
     by_test false e rest = rest
 
 -- a leaf that is not the key's
-none_here : (leaf : List ℕ → ℕ) (key : List ℕ) (rows : List Row) (i : ℕ) → (i ≡ leaf key → ⊥) → offers_for key (offers_of (rows_in_leaf leaf i rows)) ≡ []
+none_here : (leaf : List ℕ → ℕ) (key : List ℕ) (rows : List Row) (i : ℕ) → (i ≡ leaf key → ⊥)
+    → offers_for key (offers_of (rows_in_leaf leaf i rows)) ≡ []
 none_here leaf key rows i apart = none_of key (rows_in_leaf leaf i rows) (other_leaf leaf i key rows (away i (leaf key) apart))
   where
     away : (m n : ℕ) → (m ≡ n → ⊥) → nat_eq m n ≡ false
     away m n ne = elim (cases_Bool (nat_eq m n)) [ inl e ↦ absurd (ne (eqb-true m n e)) | inr f ↦ f ]
 
 -- leaves after the key's offer nothing for it
-none_after : (leaf : List ℕ → ℕ) (key : List ℕ) (rows : List Row) (from n : ℕ) → leaf key < from → offers_for key (offers_of (leaves_from leaf rows from n)) ≡ []
+none_after : (leaf : List ℕ → ℕ) (key : List ℕ) (rows : List Row) (from n : ℕ) → leaf key < from
+    → offers_for key (offers_of (leaves_from leaf rows from n)) ≡ []
 none_after leaf key rows from zero later = refl
 none_after leaf key rows from (suc n) later =
     ap (offers_for key) (offers-append (rows_in_leaf leaf from rows) (leaves_from leaf rows (from + 1) n))
@@ -125,7 +133,8 @@ none_after leaf key rows from (suc n) later =
     ∙ (λ i. none_here leaf key rows from (λ e. absurd (omega (arith, e, later))) i ++ none_after leaf key rows (from + 1) n (omega (arith, later)) i)
 
 -- leaves with the key's among them offer for it what the rows have
-all_within : (leaf : List ℕ → ℕ) (key : List ℕ) (rows : List Row) (from n : ℕ) → AscendByKey rows → from ≤ leaf key → leaf key < from + n → offers_for key (offers_of (leaves_from leaf rows from n)) ≡ versions_in key rows
+all_within : (leaf : List ℕ → ℕ) (key : List ℕ) (rows : List Row) (from n : ℕ) → AscendByKey rows → from ≤ leaf key → leaf key < from + n
+    → offers_for key (offers_of (leaves_from leaf rows from n)) ≡ versions_in key rows
 all_within leaf key rows from zero a low high = absurd (omega (arith, low, high))
 all_within leaf key rows from (suc n) a low high =
     ap (offers_for key) (offers-append (rows_in_leaf leaf from rows) (leaves_from leaf rows (from + 1) n))
@@ -149,7 +158,8 @@ all_within leaf key rows from (suc n) a low high =
 -- what is offered for a key is what is held for it
 pub listed_held : (s : Store) (key : List ℕ) → offers_for key (held_offers s) ≡ held s.entries key
 listed_held s key =
-    all_within (leaf_in s.config) key (rows_of s.entries) 0 (leaf_count s.config) (rows_of-ascend s.entries) (omega arith) (omega (arith, leaf_below s.config key))
+    all_within (leaf_in s.config) key (rows_of s.entries) 0 (leaf_count s.config) (rows_of-ascend s.entries) (omega arith)
+    (omega (arith, leaf_below s.config key))
     ∙ versions_in-rows_of s.entries key
 
 -- an ascending set is in order
@@ -178,16 +188,19 @@ filter_passes : {X : Type 0} (p : X → Bool) (xs : List X) → AllByRecursion (
 filter_passes p [] = tt
 filter_passes p (x ∷ xs) = by_test (p x) refl (filter_passes p xs)
   where
-    by_test : (b : Bool) → p x ≡ b → AllByRecursion (λ y. p y ≡ true) (filter p xs) → AllByRecursion (λ y. p y ≡ true) (cond b (x ∷ filter p xs) (filter p xs))
+    by_test : (b : Bool) → p x ≡ b → AllByRecursion (λ y. p y ≡ true) (filter p xs)
+        → AllByRecursion (λ y. p y ≡ true) (cond b (x ∷ filter p xs) (filter p xs))
     by_test true e rest = (e, rest)
     by_test false e rest = rest
 
 -- no member of a set that is its own maximum is below a member
-none_above : (xs : List Version) (v : Version) (vs : List Version) → maximal (xs ++ v ∷ vs) ≡ xs ++ v ∷ vs → list_any (is_below v) (xs ++ v ∷ vs) ≡ false
+none_above : (xs : List Version) (v : Version) (vs : List Version) → maximal (xs ++ v ∷ vs) ≡ xs ++ v ∷ vs
+    → list_any (is_below v) (xs ++ v ∷ vs) ≡ false
 none_above xs v vs own =
     let S = xs ++ v ∷ vs in
     let top = λ (w : Version). not (list_any (is_below w) S) in
-    off (list_any (is_below v) S) (all-inner (λ (w : Version). top w ≡ true) xs v vs (subst (AllByRecursion (λ (w : Version). top w ≡ true)) own (filter_passes top S)))
+    off (list_any (is_below v) S)
+    (all-inner (λ (w : Version). top w ≡ true) xs v vs (subst (AllByRecursion (λ (w : Version). top w ≡ true)) own (filter_passes top S)))
   where
     off : (b : Bool) → not b ≡ true → b ≡ false
     off true e = sym e
@@ -209,31 +222,41 @@ member_news v xs vs set =
     uncovered v xs vs set.ascending (or_parts (list_any (is_below v) xs) (list_any (is_below v) (v ∷ vs)) none).0
 
 -- where the versions of each key are apart, each copy is news
-copies_news : (before : List Entry) (n seat : ℕ) (os : Offers) → ((key : List ℕ) → IsApart (versions_of before key ++ offers_for key os)) → AreNewsAfter before (copies_from n seat os)
+copies_news : (before : List Entry) (n seat : ℕ) (os : Offers) → ((key : List ℕ) → IsApart (versions_of before key ++ offers_for key os))
+    → AreNewsAfter before (copies_from n seat os)
 copies_news before n seat [] apart = tt
-copies_news before n seat (o ∷ os) apart = (here, copies_news (before ++ copy n seat o ∷ []) (n + 1) seat os (λ key. subst IsApart (next key) (apart key)))
+copies_news before n seat (o ∷ os) apart =
+    (here, copies_news (before ++ copy n seat o ∷ []) (n + 1) seat os (λ key. subst IsApart (next key) (apart key)))
   where
     same : pointwise nat_eq o.0 o.0 ≡ true
     same = (bytes_eq-Decides o.0 o.0).1 refl
 
     here : covered o.1 (versions_of before o.0) ≡ false
-    here = member_news o.1 (versions_of before o.0) (offers_for o.0 os) (subst (λ (b : Bool). IsApart (versions_of before o.0 ++ cond b (o.1 ∷ offers_for o.0 os) (offers_for o.0 os))) same (apart o.0))
+    here = member_news o.1 (versions_of before o.0) (offers_for o.0 os)
+        (subst (λ (b : Bool). IsApart (versions_of before o.0 ++ cond b (o.1 ∷ offers_for o.0 os) (offers_for o.0 os))) same (apart o.0))
 
     by_key : (b : Bool) (vs ws : List Version) → vs ++ cond b (o.1 ∷ ws) ws ≡ cond b (vs ++ o.1 ∷ []) vs ++ ws
     by_key true vs ws = sym (append_assoc vs (o.1 ∷ []) ws)
     by_key false vs ws = refl
 
     next : (key : List ℕ) → versions_of before key ++ offers_for key (o ∷ os) ≡ versions_of (before ++ copy n seat o ∷ []) key ++ offers_for key os
-    next key = by_key (pointwise nat_eq o.0 key) (versions_of before key) (offers_for key os) ∙ ap (λ (vs : List Version). vs ++ offers_for key os) (sym (versions_of-push before (copy n seat o) key))
+    next key = by_key (pointwise nat_eq o.0 key) (versions_of before key) (offers_for key os)
+        ∙ ap (λ (vs : List Version). vs ++ offers_for key os) (sym (versions_of-push before (copy n seat o) key))
 
 renewed_news : (s : Store) (seat : ℕ) → AreNews (copies_from 0 seat (held_offers s))
-renewed_news s seat = copies_news [] 0 seat (held_offers s) (λ key. subst IsApart (sym (listed_held s key)) (record { ascending = held-Ascends s.entries key; own = held_own s.entries key }))
+renewed_news s seat = copies_news [] 0 seat (held_offers s)
+    (λ key. subst IsApart (sym (listed_held s key)) (record { ascending = held-Ascends s.entries key; own = held_own s.entries key }))
 
 -- ---- few versions
 
 filter_few : {X : Type 0} (p : X → Bool) (xs : List X) → length (filter p xs) ≤ length xs
 filter_few p [] = omega arith
-filter_few p (x ∷ xs) = elim (p x) as (λ b. length (cond b (x ∷ filter p xs) (filter p xs)) ≤ length (x ∷ xs)) [ true ↦ omega (arith, filter_few p xs) | false ↦ omega (arith, filter_few p xs) ]
+filter_few p (x ∷ xs) = elim (p x) as
+    (λ b. length (cond b (x ∷ filter p xs) (filter p xs)) ≤ length (x ∷ xs)) [
+      | true ↦ omega (arith, filter_few p xs)
+      | false ↦ omega
+          (arith, filter_few p xs)
+    ]
 
 maximal_few : (S : List Version) → length (maximal S) ≤ length S
 maximal_few S = filter_few (λ v. not (list_any (is_below v) S)) S
@@ -257,8 +280,10 @@ offers_few key (suc k) (o ∷ os) = by_key (pointwise nat_eq o.0 key) (offers_fo
 renewed_short : (s : Store) (seat : ℕ) → IsSound s → (key : List ℕ) → NeverCrowded (copies_from 0 seat (held_offers s)) key
 renewed_short s seat ok key n =
     let os = held_offers s in
-    let taken : versions_of (take n (copies_from 0 seat os)) key ≡ offers_for key (take n os) = ap (λ (es : List Entry). versions_of es key) (copies_take 0 seat n os) ∙ copies_of 0 seat (take n os) key in
-    let few : length (held s.entries key) ≤ 64 = subst (λ (xs : List Entry). length (held xs key) ≤ 64) (take_all (length s.entries) s.entries (omega arith)) (ok.short key (length s.entries)) in
+    let taken : versions_of (take n (copies_from 0 seat os)) key ≡ offers_for key (take n os) = ap (λ (es : List Entry). versions_of es key)
+    (copies_take 0 seat n os) ∙ copies_of 0 seat (take n os) key in
+    let few : length (held s.entries key) ≤ 64 = subst (λ (xs : List Entry). length (held xs key) ≤ 64)
+    (take_all (length s.entries) s.entries (omega arith)) (ok.short key (length s.entries)) in
     omega (arith, held_few (take n (copies_from 0 seat os)) key, ap length taken, offers_few key n os, ap length (listed_held s key), few)
 
 -- ---- limits
@@ -272,32 +297,44 @@ record IsOwnRow (c : Config) (r : Row) : Type 0 where
 abbrev IsOwnOffer : Config → List ℕ × Version → Type 0
 IsOwnOffer c o = IsOwn c (copy 0 0 o)
 
-rows_own : (c : Config) (rows : List Row) → AllByRecursion (IsRow c.format) rows → AllByRecursion (λ (r : Row). range_at c.bits r.key ≡ c.range) rows → AllByRecursion (IsOwnRow c) rows
+rows_own : (c : Config) (rows : List Row) → AllByRecursion (IsRow c.format) rows → AllByRecursion (λ (r : Row). range_at c.bits r.key ≡ c.range) rows
+    → AllByRecursion (IsOwnRow c) rows
 rows_own c [] are here = tt
 rows_own c (r ∷ rows) are here =
     let fits = row_fits c.format r are.0 in
     (record { key = fits.key; each = fits.each; here = here.0 }, rows_own c rows are.1 here.1)
 
-leaves_own : (P : Row → Type 0) (leaf : List ℕ → ℕ) (rows : List Row) (ns : List ℕ) → AllByRecursion P rows → AllByRecursion P (flat_map (λ i. rows_in_leaf leaf i rows) ns)
+leaves_own : (P : Row → Type 0) (leaf : List ℕ → ℕ) (rows : List Row) (ns : List ℕ) → AllByRecursion P rows
+    → AllByRecursion P (flat_map (λ i. rows_in_leaf leaf i rows) ns)
 leaves_own P leaf rows [] all = tt
-leaves_own P leaf rows (n ∷ ns) all = all-append P (rows_in_leaf leaf n rows) (flat_map (λ i. rows_in_leaf leaf i rows) ns) (all-filter P (λ (r : Row). nat_eq (leaf r.key) n) rows all) (leaves_own P leaf rows ns all)
+leaves_own P leaf rows (n ∷ ns) all =
+    all-append P (rows_in_leaf leaf n rows) (flat_map (λ i. rows_in_leaf leaf i rows) ns) (all-filter P (λ (r : Row). nat_eq (leaf r.key) n) rows all)
+    (leaves_own P leaf rows ns all)
 
-versions_own : (c : Config) (key : List ℕ) (vs : List Version) → key_fault key ≡ None → range_at c.bits key ≡ c.range → AllByRecursion (λ (v : Version). value_fault c.format v.kind v.value ≡ None) vs → AllByRecursion (IsOwnOffer c) (map (λ (v : Version). (key, v)) vs)
+versions_own : (c : Config) (key : List ℕ) (vs : List Version) → key_fault key ≡ None → range_at c.bits key ≡ c.range
+    → AllByRecursion (λ (v : Version). value_fault c.format v.kind v.value ≡ None) vs
+    → AllByRecursion (IsOwnOffer c) (map (λ (v : Version). (key, v)) vs)
 versions_own c key [] k here all = tt
 versions_own c key (v ∷ vs) k here all = (record { key = k; value = all.0; here = here }, versions_own c key vs k here all.1)
 
 offers_own : (c : Config) (rows : List Row) → AllByRecursion (IsOwnRow c) rows → AllByRecursion (IsOwnOffer c) (offers_of rows)
 offers_own c [] all = tt
-offers_own c (r ∷ rows) all = all-append (IsOwnOffer c) (offers_in r) (offers_of rows) (versions_own c r.key r.versions all.0.key all.0.here all.0.each) (offers_own c rows all.1)
+offers_own c (r ∷ rows) all =
+    all-append (IsOwnOffer c) (offers_in r) (offers_of rows) (versions_own c r.key r.versions all.0.key all.0.here all.0.each)
+    (offers_own c rows all.1)
 
-copies_own : (c : Config) (limit n seat : ℕ) (os : Offers) → AllByRecursion (IsOwnOffer c) os → AllByRecursion (IsOwn (config_to c limit)) (copies_from n seat os)
+copies_own : (c : Config) (limit n seat : ℕ) (os : Offers) → AllByRecursion (IsOwnOffer c) os
+    → AllByRecursion (IsOwn (config_to c limit)) (copies_from n seat os)
 copies_own c limit n seat [] all = tt
-copies_own c limit n seat (o ∷ os) all = (record { key = all.0.key; value = all.0.value; here = all.0.here }, copies_own c limit (n + 1) seat os all.1)
+copies_own c limit n seat (o ∷ os) all =
+    (record { key = all.0.key; value = all.0.value; here = all.0.here }, copies_own c limit (n + 1) seat os all.1)
 
 renewed_own : (s : Store) (seat limit : ℕ) → IsSound s → AllByRecursion (IsOwn (config_to s.config limit)) (copies_from 0 seat (held_offers s))
 renewed_own s seat limit ok =
     let rows = rows_own s.config (rows_of s.entries) ok.rows (row_map_now s ok).here in
-    copies_own s.config limit 0 seat (held_offers s) (offers_own s.config (by_leaf s.config (rows_of s.entries)) (leaves_own (IsOwnRow s.config) (leaf_in s.config) (rows_of s.entries) (range_with_len 0 (leaf_count s.config)) rows))
+    copies_own s.config limit 0 seat (held_offers s)
+    (offers_own s.config (by_leaf s.config (rows_of s.entries))
+    (leaves_own (IsOwnRow s.config) (leaf_in s.config) (rows_of s.entries) (range_with_len 0 (leaf_count s.config)) rows))
 
 -- ---- the state
 
@@ -322,7 +359,12 @@ limit_fits s limit none = by_config (is_config (config_to s.config limit)) none
 
 -- A range that is renewed once more in the same way is unchanged.
 pub renewed_again : (s : Store) (seat limit : ℕ) → renewed_by (renewed_by s seat limit) seat limit ≡ renewed_by s seat limit
-renewed_again s seat limit = ap (λ (rows : List Row). record { config = config_to s.config limit; entries = copies_from 0 seat (offers_of (by_leaf s.config rows)); marks = s.marks }) (renewed_rows s seat)
+renewed_again s seat limit =
+    ap (λ (rows : List Row). record {
+      config = config_to s.config limit;
+      entries = copies_from 0 seat (offers_of (by_leaf s.config rows));
+      marks = s.marks;
+    }) (renewed_rows s seat)
 
 -- ---- how many versions are held
 
@@ -344,17 +386,32 @@ offered_few v S = elim (covered v S) as (λ b. length (cond b S (maximal (with_v
 -- an offer makes one version more at most
 offer_counts : (k : List ℕ) (v : Version) (rows : List Row) → length (offers_of (with_offer k v rows)) ≤ length (offers_of rows) + 1
 offer_counts k v [] = omega (arith, count_first (record { key = k; versions = offered v [] }) [], offered_few v [])
-offer_counts k v (r ∷ rows) = elim (key_cmp k r.key) as (λ o. length (offers_of (place_by o (record { key = k; versions = offered v [] } ∷ r ∷ rows) (record { key = r.key; versions = offered v r.versions } ∷ rows) (r ∷ with_offer k v rows))) ≤ length (offers_of (r ∷ rows)) + 1) [
-  | Less ↦ omega (arith, count_first (record { key = k; versions = offered v [] }) (r ∷ rows), offered_few v [])
-  | Equal ↦ omega (arith, count_first (record { key = r.key; versions = offered v r.versions }) rows, count_first r rows, offered_few v r.versions)
-  | Greater ↦ omega (arith, count_first r (with_offer k v rows), count_first r rows, offer_counts k v rows)
-]
+offer_counts k v (r ∷ rows) =
+    elim (key_cmp k r.key) as
+    (λ o. length (offers_of (place_by o (record { key = k; versions = offered v [] } ∷ r ∷ rows)
+    (record { key = r.key; versions = offered v r.versions } ∷ rows) (r ∷ with_offer k v rows))) ≤ length (offers_of (r ∷ rows)) + 1) [
+      | Less ↦ omega (arith, count_first (record { key = k; versions = offered v [] }) (r ∷ rows), offered_few v [])
+      | Equal ↦ omega (
+        arith,
+        count_first (record { key = r.key; versions = offered v r.versions }) rows,
+        count_first r rows,
+        offered_few v r.versions,
+      )
+      | Greater ↦ omega (arith, count_first r (with_offer k v rows), count_first r rows, offer_counts k v rows)
+    ]
 
-rows_few : (before es : List Entry) → length (offers_of (rows_of before)) ≤ length before → length (offers_of (rows_of (before ++ es))) ≤ length (before ++ es)
+rows_few : (before es : List Entry) → length (offers_of (rows_of before)) ≤ length before
+    → length (offers_of (rows_of (before ++ es))) ≤ length (before ++ es)
 rows_few before [] h = subst (λ (xs : List Entry). length (offers_of (rows_of xs)) ≤ length xs) (sym (append-nil before)) h
 rows_few before (e ∷ es) h =
     let one : length (offers_of (rows_of (before ++ e ∷ []))) ≤ length (before ++ e ∷ []) =
-    omega (arith, h, offer_counts e.key e.version (rows_of before), ap (λ (rows : List Row). length (offers_of rows)) (rows_of-push before e), length-append before (e ∷ [])) in
+    omega (
+      arith,
+      h,
+      offer_counts e.key e.version (rows_of before),
+      ap (λ (rows : List Row). length (offers_of rows)) (rows_of-push before e),
+      length-append before (e ∷ []),
+    ) in
     subst (λ (xs : List Entry). length (offers_of (rows_of xs)) ≤ length xs) (append_assoc before (e ∷ []) es) (rows_few (before ++ e ∷ []) es one)
 
 none_few : length (offers_of (rows_of [])) ≤ 0
@@ -362,10 +419,12 @@ unfolding rows_of
 none_few = omega arith
 
 -- a row is in no leaf after its own
-count_after : (leaf : List ℕ → ℕ) (r : Row) (rows : List Row) (from n : ℕ) → leaf r.key < from → leaves_from leaf (r ∷ rows) from n ≡ leaves_from leaf rows from n
+count_after : (leaf : List ℕ → ℕ) (r : Row) (rows : List Row) (from n : ℕ) → leaf r.key < from
+    → leaves_from leaf (r ∷ rows) from n ≡ leaves_from leaf rows from n
 count_after leaf r rows from zero later = refl
 count_after leaf r rows from (suc n) later =
-    let off : rows_in_leaf leaf from (r ∷ rows) ≡ rows_in_leaf leaf from rows = ap (λ b. cond b (r ∷ rows_in_leaf leaf from rows) (rows_in_leaf leaf from rows)) (apart (leaf r.key) from later) in
+    let off : rows_in_leaf leaf from (r ∷ rows) ≡ rows_in_leaf leaf from rows = ap
+    (λ b. cond b (r ∷ rows_in_leaf leaf from rows) (rows_in_leaf leaf from rows)) (apart (leaf r.key) from later) in
     let rest = count_after leaf r rows (from + 1) n (omega (arith, later)) in
     λ i. off i ++ rest i
   where
@@ -373,17 +432,21 @@ count_after leaf r rows from (suc n) later =
     apart m k lt = grind (arith, nat_tests)
 
 -- and in one leaf at most
-count_one : (leaf : List ℕ → ℕ) (r : Row) (rows : List Row) (from n : ℕ) → length (offers_of (leaves_from leaf (r ∷ rows) from n)) ≤ length r.versions + length (offers_of (leaves_from leaf rows from n))
+count_one : (leaf : List ℕ → ℕ) (r : Row) (rows : List Row) (from n : ℕ)
+    → length (offers_of (leaves_from leaf (r ∷ rows) from n)) ≤ length r.versions + length (offers_of (leaves_from leaf rows from n))
 count_one leaf r rows from zero = omega arith
 count_one leaf r rows from (suc n) = elim (cases_Bool (nat_eq (leaf r.key) from)) [
   | inl here ↦
-      let first : rows_in_leaf leaf from (r ∷ rows) ≡ r ∷ rows_in_leaf leaf from rows = ap (λ b. cond b (r ∷ rows_in_leaf leaf from rows) (rows_in_leaf leaf from rows)) here in
+      let first : rows_in_leaf leaf from (r ∷ rows) ≡ r ∷ rows_in_leaf leaf from rows = ap
+      (λ b. cond b (r ∷ rows_in_leaf leaf from rows) (rows_in_leaf leaf from rows)) here in
       let rest = count_after leaf r rows (from + 1) n (omega (arith, eqb-true (leaf r.key) from here)) in
       let whole : leaves_from leaf (r ∷ rows) from (suc n) ≡ r ∷ leaves_from leaf rows from (suc n) = λ i. first i ++ rest i in
       omega (arith, ap (λ (xs : List Row). length (offers_of xs)) whole, count_first r (leaves_from leaf rows from (suc n)))
   | inr off ↦
-      let first : rows_in_leaf leaf from (r ∷ rows) ≡ rows_in_leaf leaf from rows = ap (λ b. cond b (r ∷ rows_in_leaf leaf from rows) (rows_in_leaf leaf from rows)) off in
-      let new = ap (λ (xs : List Row). length (offers_of (xs ++ leaves_from leaf (r ∷ rows) (from + 1) n))) first ∙ count-append (rows_in_leaf leaf from rows) (leaves_from leaf (r ∷ rows) (from + 1) n) in
+      let first : rows_in_leaf leaf from (r ∷ rows) ≡ rows_in_leaf leaf from rows = ap
+      (λ b. cond b (r ∷ rows_in_leaf leaf from rows) (rows_in_leaf leaf from rows)) off in
+      let new = ap (λ (xs : List Row). length (offers_of (xs ++ leaves_from leaf (r ∷ rows) (from + 1) n))) first
+      ∙ count-append (rows_in_leaf leaf from rows) (leaves_from leaf (r ∷ rows) (from + 1) n) in
       omega (arith, new, count-append (rows_in_leaf leaf from rows) (leaves_from leaf rows (from + 1) n), count_one leaf r rows (from + 1) n)
 ]
 
@@ -421,7 +484,8 @@ range_more from zero last is = let same : from ≡ last = omega (arith, is) in a
 range_more from (suc n) last is = ap (λ (ks : List ℕ). from ∷ ks) (range_more (from + 1) n last (omega (arith, is)))
 
 -- one leaf more
-pub rows_more : (leaf : List ℕ → ℕ) (rows : List Row) (n : ℕ) → leaves_from leaf rows 0 (n + 1) ≡ leaves_from leaf rows 0 n ++ rows_in_leaf leaf n rows
+pub rows_more : (leaf : List ℕ → ℕ) (rows : List Row) (n : ℕ)
+    → leaves_from leaf rows 0 (n + 1) ≡ leaves_from leaf rows 0 n ++ rows_in_leaf leaf n rows
 rows_more leaf rows n =
     let f = λ (i : ℕ). rows_in_leaf leaf i rows in
     let more : n + 1 ≡ suc n = omega arith in
@@ -430,26 +494,31 @@ rows_more leaf rows n =
     ∙ flat_map-append f (range_with_len 0 n) (n ∷ [])
     ∙ ap (λ (xs : List Row). leaves_from leaf rows 0 n ++ xs) (append-nil (f n))
 
-pub leaves_more : (leaf : List ℕ → ℕ) (rows : List Row) (n : ℕ) → offers_of (leaves_from leaf rows 0 (n + 1)) ≡ offers_of (leaves_from leaf rows 0 n) ++ offers_of (rows_in_leaf leaf n rows)
+pub leaves_more : (leaf : List ℕ → ℕ) (rows : List Row) (n : ℕ)
+    → offers_of (leaves_from leaf rows 0 (n + 1)) ≡ offers_of (leaves_from leaf rows 0 n) ++ offers_of (rows_in_leaf leaf n rows)
 leaves_more leaf rows n = ap offers_of (rows_more leaf rows n) ∙ offers-append (leaves_from leaf rows 0 n) (rows_in_leaf leaf n rows)
 
 -- the first leaves have no more versions than more of them
-pub leaves_part : (leaf : List ℕ → ℕ) (rows : List Row) (m n : ℕ) → m ≤ n → length (offers_of (leaves_from leaf rows 0 m)) ≤ length (offers_of (leaves_from leaf rows 0 n))
+pub leaves_part : (leaf : List ℕ → ℕ) (rows : List Row) (m n : ℕ) → m ≤ n
+    → length (offers_of (leaves_from leaf rows 0 m)) ≤ length (offers_of (leaves_from leaf rows 0 n))
 leaves_part leaf rows m zero le = let none : m ≡ 0 = omega (arith, le) in rw none (omega arith)
 leaves_part leaf rows m (suc n) le = elim (cases_lt n m) [
   | inl last ↦ let all : m ≡ suc n = omega (arith, le, last) in rw all (omega arith)
   | inr part ↦
       let more : n + 1 ≡ suc n = omega arith in
-      let next = ap (λ (k : ℕ). length (offers_of (leaves_from leaf rows 0 k))) (sym more) ∙ ap length (leaves_more leaf rows n) ∙ length-append (offers_of (leaves_from leaf rows 0 n)) (offers_of (rows_in_leaf leaf n rows)) in
+      let next = ap (λ (k : ℕ). length (offers_of (leaves_from leaf rows 0 k))) (sym more) ∙ ap length (leaves_more leaf rows n)
+      ∙ length-append (offers_of (leaves_from leaf rows 0 n)) (offers_of (rows_in_leaf leaf n rows)) in
       omega (arith, leaves_part leaf rows m n part, next)
 ]
 
 -- a leaf and those before it have no more versions than all
 pub leaf_part : (c : Config) (rows : List Row) (leaf : ℕ) → leaf < leaf_count c
-    → length (offers_of (leaves_from (leaf_in c) rows 0 leaf)) + length (offers_of (rows_in_leaf (leaf_in c) leaf rows)) ≤ length (offers_by_leaf c rows)
+    → length (offers_of (leaves_from (leaf_in c) rows 0 leaf)) + length (offers_of (rows_in_leaf (leaf_in c) leaf rows)) ≤ length
+    (offers_by_leaf c rows)
 leaf_part c rows leaf within =
     let f = leaf_in c in
-    let next = ap (λ (os : Offers). length os) (leaves_more f rows leaf) ∙ length-append (offers_of (leaves_from f rows 0 leaf)) (offers_of (rows_in_leaf f leaf rows)) in
+    let next = ap (λ (os : Offers). length os) (leaves_more f rows leaf)
+    ∙ length-append (offers_of (leaves_from f rows 0 leaf)) (offers_of (rows_in_leaf f leaf rows)) in
     omega (arith, leaves_part f rows (leaf + 1) (leaf_count c) (omega (arith, within)), next)
 
 -- the rows of a leaf of a tree
@@ -459,16 +528,25 @@ rows_here c m leaf of = λ i. rows_in_leaf (leaf_at (of.format i) (of.bits i)) l
 -- ---- a new range
 
 -- what a renewed range has
-pub renewed_range : (s now : Store) (seat limit : ℕ) (config : Config) (entries : List Entry) (old tree : RangeTree) → s ≡ now → IsSound s → old.map ≡ rows_now s → old.marks ≡ s.marks
+pub renewed_range : (s now : Store) (seat limit : ℕ) (config : Config) (entries : List Entry) (old tree : RangeTree) → s ≡ now → IsSound s
+    → old.map ≡ rows_now s → old.marks ≡ s.marks
     → renew_fault now limit ≡ None → config ≡ config_to now.config limit → entries ≡ copies_from 0 seat (held_offers now) → tree ≡ old
-    → IsSound (record { config = config; entries = entries; marks = tree.marks }) × (tree.map ≡ rows_now (record { config = config; entries = entries; marks = tree.marks })) × (record { config = config; entries = entries; marks = tree.marks } ≡ renewed_by now seat limit)
+    → IsSound (record { config = config; entries = entries; marks = tree.marks })
+    × (tree.map ≡ rows_now (record { config = config; entries = entries; marks = tree.marks }))
+    × (record { config = config; entries = entries; marks = tree.marks } ≡ renewed_by now seat limit)
 renewed_range s now seat limit config entries old tree view ok map marks fits limited copies same =
     let fits_s : renew_fault s limit ≡ None = ap (λ (t : Store). renew_fault t limit) view ∙ fits in
     let config_is : config ≡ config_to s.config limit = limited ∙ ap (λ (t : Store). config_to t.config limit) (sym view) in
     let es : entries ≡ copies_from 0 seat (held_offers s) = copies ∙ ap (λ (t : Store). copies_from 0 seat (held_offers t)) (sym view) in
     let digests : tree.marks ≡ s.marks = ap (λ (t : RangeTree). t.marks) same ∙ marks in
-    let back : record { config = config; entries = entries; marks = tree.marks } ≡ renewed_by s seat limit = λ i. record { config = config_is i; entries = es i; marks = digests i } in
-    let rows : rows_now s ≡ rows_now (renewed_by s seat limit) = ap (λ (rs : List Row). record { format = s.config.format; bits = s.config.bits; range = s.config.range; rows = rs }) (sym (renewed_rows s seat)) in (
+    let back : record { config = config; entries = entries; marks = tree.marks } ≡ renewed_by s seat limit = λ i. record {
+      config = config_is i;
+      entries = es i;
+      marks = digests i;
+    } in
+    let rows : rows_now s ≡ rows_now (renewed_by s seat limit) = ap
+    (λ (rs : List Row). record { format = s.config.format; bits = s.config.bits; range = s.config.range; rows = rs })
+    (sym (renewed_rows s seat)) in (
       subst IsSound (sym back) (renewed_right s seat limit ok (limit_fits s limit fits_s)),
       ap (λ (t : RangeTree). t.map) same ∙ map ∙ rows ∙ ap rows_now (sym back),
       back ∙ ap (λ (t : Store). renewed_by t seat limit) view,
@@ -484,11 +562,13 @@ news_first (suc n) before (e ∷ es) news = (news.0, news_first n (before ++ e �
 both : {X : Type 0} (m n : ℕ) (xs : List X) → take m (take n xs) ≡ take (min m n) xs
 both m n xs = elim (cases_lt m n) [
   | inl less ↦ let one : min m n ≡ m = omega (arith, less) in take-take m n xs (omega (arith, less)) ∙ ap (λ k. take k xs) (sym one)
-  | inr more ↦ let one : min m n ≡ n = omega (arith, more) in take_all m (take n xs) (omega (arith, more, length-take n xs)) ∙ ap (λ k. take k xs) (sym one)
+  | inr more ↦ let one : min m n ≡ n = omega (arith, more) in take_all m (take n xs) (omega (arith, more, length-take n xs))
+      ∙ ap (λ k. take k xs) (sym one)
 ]
 
 -- the rows of a tree that the first entries made are a basis
-pub basis_right : (s : Store) (front : ℕ) (t : RangeTree) → IsSound s → length s.entries ≤ 1000000 → IsRangeTree t → t.map ≡ rows_now (record s { entries = take front s.entries })
+pub basis_right : (s : Store) (front : ℕ) (t : RangeTree) → IsSound s → length s.entries ≤ 1000000 → IsRangeTree t
+    → t.map ≡ rows_now (record s { entries = take front s.entries })
     → IsBasis (record { config = s.config; rows = t.map.rows; marks = t.marks })
 basis_right s front t ok few right is = record {
   entries = take front s.entries;
@@ -508,13 +588,18 @@ basis_right s front t ok few right is = record {
     short_first key n = subst (λ (es : List Entry). length (held es key) ≤ 64) (sym (both n front s.entries)) (ok.short key (min n front))
 
 -- what a range that begins with the rows of a basis has
-pub begun_range : (b : Basis) (seat limit : ℕ) (config : Config) (entries : List Entry) (tree : RangeTree) → IsBasis b → basis_fault b limit ≡ None → config ≡ config_to b.config limit → entries ≡ copies_from 0 seat (offers_by_leaf b.config b.rows)
+pub begun_range : (b : Basis) (seat limit : ℕ) (config : Config) (entries : List Entry) (tree : RangeTree) → IsBasis b → basis_fault b limit ≡ None
+    → config ≡ config_to b.config limit → entries ≡ copies_from 0 seat (offers_by_leaf b.config b.rows)
     → tree.map ≡ record { format = b.config.format; bits = b.config.bits; range = b.config.range; rows = b.rows } → tree.marks ≡ b.marks
-    → IsSound (record { config = config; entries = entries; marks = tree.marks }) × (tree.map ≡ rows_now (record { config = config; entries = entries; marks = tree.marks })) × (record { config = config; entries = entries; marks = tree.marks } ≡ begun_by b seat limit)
+    → IsSound (record { config = config; entries = entries; marks = tree.marks })
+    × (tree.map ≡ rows_now (record { config = config; entries = entries; marks = tree.marks }))
+    × (record { config = config; entries = entries; marks = tree.marks } ≡ begun_by b seat limit)
 begun_range b seat limit config entries tree is fits limited copies map marks =
     let s : Store = record { config = b.config; entries = is.entries; marks = b.marks } in
-    let rows_s : tree.map ≡ rows_now s = map ∙ ap (λ (rs : List Row). record { format = b.config.format; bits = b.config.bits; range = b.config.range; rows = rs }) is.rows in
+    let rows_s : tree.map ≡ rows_now s = map
+    ∙ ap (λ (rs : List Row). record { format = b.config.format; bits = b.config.bits; range = b.config.range; rows = rs }) is.rows in
     let same : tree ≡ tree_in s = λ i. record { map = rows_s i; marks = marks i } in
-    let range = renewed_range s s seat limit config entries (tree_in s) tree refl is.sound refl refl (ap (λ (rs : List Row). limit_fault b.config rs limit) (sym is.rows) ∙ fits) limited
+    let range = renewed_range s s seat limit config entries (tree_in s) tree refl is.sound refl refl
+    (ap (λ (rs : List Row). limit_fault b.config rs limit) (sym is.rows) ∙ fits) limited
     (copies ∙ ap (λ (rs : List Row). copies_from 0 seat (offers_by_leaf b.config rs)) is.rows) same in
     (range.0, range.1, range.2 ∙ ap (λ (rs : List Row). begun_by (record { config = b.config; rows = rs; marks = b.marks }) seat limit) (sym is.rows))

@@ -25,8 +25,10 @@ next_own : (r : Replayed) (e : Entry) → IsReplay r → r.front < length r.entr
 next_own r e ok below is = subst (IsOwn r.config) (sym is) (All-from_recursion (IsOwn r.config) r.entries ok.own r.front e below)
 
 -- its offer is not refused
-next_fits : (r : Replayed) (e : Entry) → IsReplay r → r.front < length r.entries → e ≡ get_or r.entries r.front e → offer_fault e.version (versions_in e.key (replayed_tree r).map.rows) ≡ None
-next_fits r e ok below is = never_refused r.entries r.front e e.key (versions_in e.key (rows_of (take r.front r.entries))) e.version below is ((bytes_eq-Decides e.key e.key).1 refl) (versions_in-rows_of (take r.front r.entries) e.key) refl (ok.short e.key)
+next_fits : (r : Replayed) (e : Entry) → IsReplay r → r.front < length r.entries → e ≡ get_or r.entries r.front e
+    → offer_fault e.version (versions_in e.key (replayed_tree r).map.rows) ≡ None
+next_fits r e ok below is = never_refused r.entries r.front e e.key (versions_in e.key (rows_of (take r.front r.entries))) e.version below is
+    ((bytes_eq-Decides e.key e.key).1 refl) (versions_in-rows_of (take r.front r.entries) e.key) refl (ok.short e.key)
 
 -- the key and the version of the next entry can be offered to a tree
 pub record IsNext (t : RangeTree) (i : ℕ) (k : List ℕ) (v : Version) : Type 0 where
@@ -37,11 +39,19 @@ pub record IsNext (t : RangeTree) (i : ℕ) (k : List ℕ) (v : Version) : Type 
   pub room : offer_fault v (versions_in k t.map.rows) ≡ None
 
 -- the next entry can be offered to the tree of those before it
-pub next_is : (now r : Replayed) (e : Entry) (t : RangeTree) (leaf : ℕ) (key : List ℕ) (v : Version) → r ≡ now → IsReplay r → t ≡ replayed_tree r → now.front < length now.entries → e ≡ get_or r.entries r.front e → leaf ≡ leaf_in now.config key → key ≡ e.key → v ≡ e.version → IsNext t leaf key v
+pub next_is : (now r : Replayed) (e : Entry) (t : RangeTree) (leaf : ℕ) (key : List ℕ) (v : Version) → r ≡ now → IsReplay r → t ≡ replayed_tree r
+    → now.front < length now.entries → e ≡ get_or r.entries r.front e → leaf ≡ leaf_in now.config key → key ≡ e.key → v ≡ e.version
+    → IsNext t leaf key v
 next_is now r e t leaf key v view ok tree below is at same copy =
     let before : r.front < length r.entries = subst (λ (x : Replayed). x.front < length x.entries) (sym view) below in
     let own = next_own r e ok before is in
-    let here : IsNext (replayed_tree r) (leaf_in r.config e.key) e.key e.version = record { leaf = refl; here = own.here; key = own.key; value = own.value; room = next_fits r e ok before is } in
+    let here : IsNext (replayed_tree r) (leaf_in r.config e.key) e.key e.version = record {
+      leaf = refl;
+      here = own.here;
+      key = own.key;
+      value = own.value;
+      room = next_fits r e ok before is;
+    } in
     let place : leaf_in r.config e.key ≡ leaf = (λ i. leaf_in (view i).config (sym same i)) ∙ sym at in
     subst (λ (x : RangeTree). IsNext x leaf key v) (sym tree)
     (subst (λ (w : Version). IsNext (replayed_tree r) leaf key w) (sym copy)
@@ -49,15 +59,18 @@ next_is now r e t leaf key v view ok tree below is at same copy =
     (subst (λ (n : ℕ). IsNext (replayed_tree r) n e.key e.version) place here)))
 
 -- the tree after it
-pub next_tree : (r : Replayed) (e : Entry) (t new : RangeTree) (key : List ℕ) (v : Version) → t ≡ replayed_tree r → r.front < length r.entries → e ≡ get_or r.entries r.front e → key ≡ e.key → v ≡ e.version → new ≡ offered_to t key v → new ≡ replayed_tree (record r { front = r.front + 1 })
+pub next_tree : (r : Replayed) (e : Entry) (t new : RangeTree) (key : List ℕ) (v : Version) → t ≡ replayed_tree r → r.front < length r.entries
+    → e ≡ get_or r.entries r.front e → key ≡ e.key → v ≡ e.version → new ≡ offered_to t key v → new ≡ replayed_tree (record r { front = r.front + 1 })
 next_tree r e t new key v tree below is same copy now =
     let es = take r.front r.entries in
     let more : es ++ e ∷ [] ≡ take (r.front + 1) r.entries = ap (λ (x : Entry). es ++ x ∷ []) is ∙ sym (take_more r.entries r.front e below) in
     let rows = sym (rows_of-push es e) ∙ ap rows_of more in
     let dirty = still_dirty r.config.format (leaf_in r.config e.key) in
-    now ∙ (λ i. offered_to (tree i) (same i) (copy i)) ∙ (λ i. record { map = record { format = r.config.format; bits = r.config.bits; range = r.config.range; rows = rows i }; marks = dirty i })
+    now ∙ (λ i. offered_to (tree i) (same i) (copy i))
+    ∙ (λ i. record { map = record { format = r.config.format; bits = r.config.bits; range = r.config.range; rows = rows i }; marks = dirty i })
 
 -- the tree before the first entry
-pub none_replayed : (c : Config) (es : List Entry) (t : RangeTree) → t ≡ bare c.format c.bits c.range → t ≡ replayed_tree (record { config = c; entries = es; front = 0 })
+pub none_replayed : (c : Config) (es : List Entry) (t : RangeTree) → t ≡ bare c.format c.bits c.range
+    → t ≡ replayed_tree (record { config = c; entries = es; front = 0 })
 unfolding rows_of
 none_replayed c es t is = is

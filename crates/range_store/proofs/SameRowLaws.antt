@@ -31,7 +31,8 @@ first_in : (x : Row) (xs : List Row) → Contains (x ∷ xs) x
 first_in x xs = (0, omega arith, refl)
 
 -- rows that ascend by key are known by their members
-same_ascending : (xs ys : List Row) → AscendByKey xs → AscendByKey ys → ((r : Row) → Contains xs r → Contains ys r) → ((r : Row) → Contains ys r → Contains xs r) → xs ≡ ys
+same_ascending : (xs ys : List Row) → AscendByKey xs → AscendByKey ys → ((r : Row) → Contains xs r → Contains ys r)
+    → ((r : Row) → Contains ys r → Contains xs r) → xs ≡ ys
 same_ascending [] [] a b f g = refl
 same_ascending [] (y ∷ ys) a b f g = absurd (let c = g y (first_in y ys) in omega (arith, c.1))
 same_ascending (x ∷ xs) [] a b f g = absurd (let c = f x (first_in x xs) in omega (arith, c.1))
@@ -40,7 +41,8 @@ same_ascending (x ∷ xs) (y ∷ ys) a b f g =
       | inl e ↦ sym e
       | inr above ↦ elim (contains_cons x xs y (g y (first_in y ys))) [
         | inl e ↦ e
-        | inr below ↦ absurd (not_both x.key y.key (all_of (λ (r : Row). key_cmp x.key r.key ≡ Less) xs y a.0 below) (all_of (λ (r : Row). key_cmp y.key r.key ≡ Less) ys x b.0 above))
+        | inr below ↦ absurd (not_both x.key y.key (all_of (λ (r : Row). key_cmp x.key r.key ≡ Less) xs y a.0 below)
+            (all_of (λ (r : Row). key_cmp y.key r.key ≡ Less) ys x b.0 above))
       ]
     ] in
     let rest = same_ascending xs ys a.1 b.1
@@ -65,7 +67,8 @@ any_entry : (es : List Entry) (k : List ℕ) → list_any (λ (e : Entry). point
 any_entry [] k = refl
 any_entry (e ∷ es) k = by_key (pointwise nat_eq e.key k) (any_entry es k)
   where
-    by_key : (b : Bool) → list_any (λ (x : Entry). pointwise nat_eq x.key k) es ≡ any_version (versions_of es k) → (b || list_any (λ (x : Entry). pointwise nat_eq x.key k) es) ≡ any_version (cond b (e.version ∷ versions_of es k) (versions_of es k))
+    by_key : (b : Bool) → list_any (λ (x : Entry). pointwise nat_eq x.key k) es ≡ any_version (versions_of es k)
+        → (b || list_any (λ (x : Entry). pointwise nat_eq x.key k) es) ≡ any_version (cond b (e.version ∷ versions_of es k) (versions_of es k))
     by_key true h = refl
     by_key false h = h
 
@@ -78,12 +81,17 @@ any_held es k = by_list (versions_of es k) refl
   where
     by_list : (vs : List Version) → versions_of es k ≡ vs → any_version vs ≡ any_version (held es k)
     by_list [] e = sym (ap (λ (vs : List Version). any_version (maximal (set_from [] vs))) e)
-    by_list (v ∷ vs) e = sym (some_found _ (held es k) (covered-held v es k ∙ ap (covered v) e ∙ or_left (is_same v v || is_below v v) (covered v vs) (or_left (is_same v v) (is_below v v) (covered-itself v))))
+    by_list (v ∷ vs) e = sym
+        (some_found _ (held es k)
+        (covered-held v es k ∙ ap (covered v) e
+        ∙ or_left (is_same v v || is_below v v) (covered v vs) (or_left (is_same v v) (is_below v v) (covered-itself v))))
 
 keyed : (es : List Entry) (k : List ℕ) → Any (λ (e : Entry). e.key ≡ k) es ↔ (any_version (held es k) ≡ true)
 keyed es k = (
-  (λ a. sym (any_entry es k ∙ any_held es k) ∙ list_any-from_Any (λ (e : Entry). pointwise nat_eq e.key k) es (a.0, a.1, a.2, a.3, (bytes_eq-Decides a.1.key k).1 a.4)),
-  (λ h. let a = Any-from_list_any (λ (e : Entry). pointwise nat_eq e.key k) es (any_entry es k ∙ any_held es k ∙ h) in (a.0, a.1, a.2, a.3, (bytes_eq-Decides a.1.key k).0 a.4)),
+  (λ a. sym (any_entry es k ∙ any_held es k)
+      ∙ list_any-from_Any (λ (e : Entry). pointwise nat_eq e.key k) es (a.0, a.1, a.2, a.3, (bytes_eq-Decides a.1.key k).1 a.4)),
+  (λ h. let a = Any-from_list_any (λ (e : Entry). pointwise nat_eq e.key k) es (any_entry es k ∙ any_held es k ∙ h) in
+      (a.0, a.1, a.2, a.3, (bytes_eq-Decides a.1.key k).0 a.4)),
 )
 
 rows_among : (es fs : List Entry) → ((key : List ℕ) → held es key ≡ held fs key) → (r : Row) → Contains (rows_of es) r → Contains (rows_of fs) r
@@ -93,4 +101,5 @@ rows_among es fs same r c =
 
 -- Journals that hold the same have the same rows.
 pub same_rows : (es fs : List Entry) → ((key : List ℕ) → held es key ≡ held fs key) → rows_of es ≡ rows_of fs
-same_rows es fs same = same_ascending (rows_of es) (rows_of fs) (rows_of-ascend es) (rows_of-ascend fs) (rows_among es fs same) (rows_among fs es (λ key. sym (same key)))
+same_rows es fs same = same_ascending (rows_of es) (rows_of fs) (rows_of-ascend es) (rows_of-ascend fs) (rows_among es fs same)
+    (rows_among fs es (λ key. sym (same key)))

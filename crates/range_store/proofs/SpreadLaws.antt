@@ -1,5 +1,6 @@
 -- What becomes of a range when rows of any leaves are loaded.
-use Rattle.std.proofs.Common.{◌≡◌, ◌⊎◌, ℕ, ◌+◌, ◌<◌, ◌≤◌, true, false, cond, Option, Some, None, List, [], ◌∷◌, ◌++◌, length, map, get_or, take, drop, refl, sym, ap, subst, ◌∙◌, inl, inr, arith, append_assoc, append-nil}
+use Rattle.std.proofs.Common.{◌≡◌, ◌⊎◌, ℕ, ◌+◌, ◌<◌, ◌≤◌, true, false, cond, Option, Some, None, List, [], ◌∷◌, ◌++◌, length, map, get_or, take}
+use Rattle.std.proofs.Common.{drop, refl, sym, ap, subst, ◌∙◌, inl, inr, arith, append_assoc, append-nil}
 use Rattle.std.specs.Prelude.{Ok, nat_le}
 use Rattle.std.specs.List.{AllByRecursion}
 use Rattle.std.proofs.lemmas.Bool.{eqb-true, and_parts, lt-ltb, le-ltb, cases_lt}
@@ -47,7 +48,8 @@ use Rattle.range_store.proofs.TakenLaws.{config_stays, accepted_sound, offers_al
 -- ---- versions of an older format
 
 -- a value that fits a format fits a format that is not older
-value_newer : (own format : Format) (kind : Kind) (value : List ℕ) → newer_fault own format ≡ None → value_fault format kind value ≡ None → value_fault own kind value ≡ None
+value_newer : (own format : Format) (kind : Kind) (value : List ℕ) → newer_fault own format ≡ None → value_fault format kind value ≡ None
+    → value_fault own kind value ≡ None
 value_newer One One kind value older fits = fits
 value_newer One Two kind value older fits = absurd (cc)
 value_newer Two Two kind value older fits = fits
@@ -71,7 +73,8 @@ here_none c rows all = rw all refl
 abbrev IsPlaced : Config → Row → Type 0
 IsPlaced c r = AllByRecursion (λ (v : Version). IsOfferFor c (leaf_in c r.key) r.key v) r.versions
 
-row_placed : (c : Config) (format : Format) (r : Row) → newer_fault c.format format ≡ None → IsRow format r → range_at c.bits r.key ≡ c.range → IsPlaced c r
+row_placed : (c : Config) (format : Format) (r : Row) → newer_fault c.format format ≡ None → IsRow format r → range_at c.bits r.key ≡ c.range
+    → IsPlaced c r
 row_placed c format r older is range =
     All-weaker (IsVersion format) (λ v. IsOfferFor c (leaf_in c r.key) r.key v) r.versions (λ v fits. record {
       leaf_is = refl;
@@ -79,16 +82,23 @@ row_placed c format r older is range =
       clock = fits.clock;
     }) is.each
 
-rows_placed : (c : Config) (format : Format) (rows : List Row) → newer_fault c.format format ≡ None → AllByRecursion (IsRow format) rows → AllByRecursion (λ (r : Row). range_at c.bits r.key ≡ c.range) rows → AllByRecursion (IsPlaced c) rows
+rows_placed : (c : Config) (format : Format) (rows : List Row) → newer_fault c.format format ≡ None → AllByRecursion (IsRow format) rows
+    → AllByRecursion (λ (r : Row). range_at c.bits r.key ≡ c.range) rows → AllByRecursion (IsPlaced c) rows
 rows_placed c format [] older each range = tt
 rows_placed c format (r ∷ rows) older each range = (row_placed c format r older each.0 range.0, rows_placed c format rows older each.1 range.1)
 
 -- the same of each row, by their places alone
-pub row_here : (c : Config) (format : Format) (r : Row) → newer_fault c.format format ≡ None → IsRow format r → range_at c.bits r.key ≡ c.range → AllByRecursion (λ (v : Version). place_fault c r.key v.kind v.value ≡ None) r.versions
-row_here c format r older is range = All-weaker (λ v. IsOfferFor c (leaf_in c r.key) r.key v) (λ (v : Version). place_fault c r.key v.kind v.value ≡ None) r.versions (λ v x. x.here) (row_placed c format r older is range)
+pub row_here : (c : Config) (format : Format) (r : Row) → newer_fault c.format format ≡ None → IsRow format r → range_at c.bits r.key ≡ c.range
+    → AllByRecursion (λ (v : Version). place_fault c r.key v.kind v.value ≡ None) r.versions
+row_here c format r older is range =
+    All-weaker (λ v. IsOfferFor c (leaf_in c r.key) r.key v) (λ (v : Version). place_fault c r.key v.kind v.value ≡ None) r.versions (λ v x. x.here)
+    (row_placed c format r older is range)
 
-pub spread_offers : (s : Store) (seat : ℕ) (rows : List Row) (sp : Spread) → IsSpreadable s seat rows sp → AllByRecursion (λ o. IsOfferFor s.config (leaf_in s.config o.0) o.0 o.1) (offers_of rows)
-spread_offers s seat rows sp is = offers_all (λ key v. IsOfferFor s.config (leaf_in s.config key) key v) rows (rows_placed s.config is.format rows is.older is.rows_are.each (rows_here s.config rows is.here))
+pub spread_offers : (s : Store) (seat : ℕ) (rows : List Row) (sp : Spread) → IsSpreadable s seat rows sp
+    → AllByRecursion (λ o. IsOfferFor s.config (leaf_in s.config o.0) o.0 o.1) (offers_of rows)
+spread_offers s seat rows sp is =
+    offers_all (λ key v. IsOfferFor s.config (leaf_in s.config key) key v) rows
+    (rows_placed s.config is.format rows is.older is.rows_are.each (rows_here s.config rows is.here))
 
 -- ---- one version more
 
@@ -103,13 +113,15 @@ spread_start s seat sp tree none known = record {
 }
 
 -- the rows with the versions so far are of the range
-pub spread_map : (s : Store) (seat : ℕ) (xs : Offers) (sp : Spread) → IsSpread s seat xs sp → sp.tree.map ≡ record (rows_now s) { rows = sp.tree.map.rows }
+pub spread_map : (s : Store) (seat : ℕ) (xs : Offers) (sp : Spread) → IsSpread s seat xs sp
+    → sp.tree.map ≡ record (rows_now s) { rows = sp.tree.map.rows }
 spread_map s seat xs sp is =
     let map : sp.tree.map ≡ rows_now (accepted_in s seat Copy xs) = ap (λ (t : RangeTree). t.map) is.tree in
     let config = config_stays s seat Copy xs in
     map ∙ (λ i. record { format = (config i).format; bits = (config i).bits; range = (config i).range; rows = (sym map i).rows })
 
-pub spread_leaf : (s : Store) (seat : ℕ) (xs : Offers) (sp : Spread) (leaf : ℕ) (key : List ℕ) → IsSpread s seat xs sp → leaf ≡ leaf_in s.config key → leaf ≡ maps.leaf_in sp.tree.map key
+pub spread_leaf : (s : Store) (seat : ℕ) (xs : Offers) (sp : Spread) (leaf : ℕ) (key : List ℕ) → IsSpread s seat xs sp → leaf ≡ leaf_in s.config key
+    → leaf ≡ maps.leaf_in sp.tree.map key
 spread_leaf s seat xs sp leaf key is at = at ∙ ap (λ (m : RowMap). maps.leaf_in m key) (sym (spread_map s seat xs sp is))
 
 -- a key and a value that have their place in the range have one in its tree
@@ -117,21 +129,26 @@ pub record HasPlace (m : RowMap) (key : List ℕ) (kind : Kind) (value : List �
   pub value_fits : value_fault m.format kind value ≡ None
   pub here : range_at m.bits key ≡ m.range
 
-pub spread_place : (s : Store) (seat : ℕ) (xs : Offers) (sp : Spread) (key : List ℕ) (kind : Kind) (value : List ℕ) → IsSpread s seat xs sp → place_fault s.config key kind value ≡ None → HasPlace sp.tree.map key kind value
+pub spread_place : (s : Store) (seat : ℕ) (xs : Offers) (sp : Spread) (key : List ℕ) (kind : Kind) (value : List ℕ) → IsSpread s seat xs sp
+    → place_fault s.config key kind value ≡ None → HasPlace sp.tree.map key kind value
 spread_place s seat xs sp key kind value is placed =
     let later = later_none (key_fault key) _ placed in
     let here : HasPlace (record (rows_now s) { rows = sp.tree.map.rows }) key kind value = record {
       value_fits = first_none (value_fault s.config.format kind value) _ later;
-      here = eqb-true (range_at s.config.bits key) s.config.range (no_fault_else _ OtherRange (later_none (value_fault s.config.format kind value) _ later));
+      here = eqb-true (range_at s.config.bits key) s.config.range
+          (no_fault_else _ OtherRange (later_none (value_fault s.config.format kind value) _ later));
     } in
     subst (λ (m : RowMap). HasPlace m key kind value) (sym (spread_map s seat xs sp is)) here
 
 -- the versions that a key has with those so far
-pub spread_set : (s : Store) (seat : ℕ) (xs : Offers) (sp : Spread) (key : List ℕ) → IsSpread s seat xs sp → versions_in key sp.tree.map.rows ≡ held (accepted_in s seat Copy xs).entries key
-spread_set s seat xs sp key is = ap (λ (t : RangeTree). versions_in key t.map.rows) is.tree ∙ versions_in-rows_of (accepted_in s seat Copy xs).entries key
+pub spread_set : (s : Store) (seat : ℕ) (xs : Offers) (sp : Spread) (key : List ℕ) → IsSpread s seat xs sp
+    → versions_in key sp.tree.map.rows ≡ held (accepted_in s seat Copy xs).entries key
+spread_set s seat xs sp key is = ap (λ (t : RangeTree). versions_in key t.map.rows) is.tree
+    ∙ versions_in-rows_of (accepted_in s seat Copy xs).entries key
 
 -- whether one of the versions so far, or the next one, would be too many
-spread_next : (s : Store) (seat : ℕ) (xs : Offers) (sp : Spread) (key : List ℕ) (v : Version) → IsSpread s seat xs sp → crowded_in s seat Copy (xs ++ (key, v) ∷ []) ≡ offer_fault v (versions_in key sp.tree.map.rows)
+spread_next : (s : Store) (seat : ℕ) (xs : Offers) (sp : Spread) (key : List ℕ) (v : Version) → IsSpread s seat xs sp
+    → crowded_in s seat Copy (xs ++ (key, v) ∷ []) ≡ offer_fault v (versions_in key sp.tree.map.rows)
 spread_next s seat xs sp key v is =
     let t = accepted_in s seat Copy xs in
     crowded-append s seat Copy xs ((key, v) ∷ [])
@@ -140,11 +157,13 @@ spread_next s seat xs sp key v is =
     ∙ ap (offer_fault v) (sym (spread_set s seat xs sp key is))
 
 -- a version that would be too many
-pub spread_crowded : (s : Store) (seat : ℕ) (xs : Offers) (sp : Spread) (key : List ℕ) (v : Version) (e : Refusal) → IsSpread s seat xs sp → offer_fault v (versions_in key sp.tree.map.rows) ≡ Some e → crowded_in s seat Copy (xs ++ (key, v) ∷ []) ≡ Some e
+pub spread_crowded : (s : Store) (seat : ℕ) (xs : Offers) (sp : Spread) (key : List ℕ) (v : Version) (e : Refusal) → IsSpread s seat xs sp
+    → offer_fault v (versions_in key sp.tree.map.rows) ≡ Some e → crowded_in s seat Copy (xs ++ (key, v) ∷ []) ≡ Some e
 spread_crowded s seat xs sp key v e is full = spread_next s seat xs sp key v is ∙ full
 
 -- a version that is known
-pub spread_known : (s : Store) (seat : ℕ) (xs : Offers) (key : List ℕ) (v : Version) (a : Spread) → IsSpread s seat xs a → covered v (versions_in key a.tree.map.rows) ≡ true
+pub spread_known : (s : Store) (seat : ℕ) (xs : Offers) (key : List ℕ) (v : Version) (a : Spread) → IsSpread s seat xs a
+    → covered v (versions_in key a.tree.map.rows) ≡ true
     → IsSpread s seat (xs ++ (key, v) ∷ []) (record { tree = a.tree; entries = a.entries; known = a.known + 1 })
 spread_known s seat xs key v a is known =
     let t = accepted_in s seat Copy xs in
@@ -161,14 +180,17 @@ spread_known s seat xs key v a is known =
     }
 
 -- a version that is news
-pub spread_news : (s : Store) (seat : ℕ) (xs : Offers) (key : List ℕ) (v w : Version) (a b : Spread) (e : Entry) → IsSpread s seat xs a → covered v (versions_in key a.tree.map.rows) ≡ false → offer_fault v (versions_in key a.tree.map.rows) ≡ None → w ≡ v
-    → e ≡ record { number = length s.entries + length a.entries.items; seat = seat; source = Copy; key = key; version = v } → b.tree ≡ offered_to a.tree key w → b.entries.items ≡ a.entries.items ++ e ∷ [] → b.known ≡ a.known
+pub spread_news : (s : Store) (seat : ℕ) (xs : Offers) (key : List ℕ) (v w : Version) (a b : Spread) (e : Entry) → IsSpread s seat xs a
+    → covered v (versions_in key a.tree.map.rows) ≡ false → offer_fault v (versions_in key a.tree.map.rows) ≡ None → w ≡ v
+    → e ≡ record { number = length s.entries + length a.entries.items; seat = seat; source = Copy; key = key; version = v }
+    → b.tree ≡ offered_to a.tree key w → b.entries.items ≡ a.entries.items ++ e ∷ [] → b.known ≡ a.known
     → IsSpread s seat (xs ++ (key, v) ∷ []) b
 spread_news s seat xs key v w a b e is news fits copy made tree entries known =
     let t = accepted_in s seat Copy xs in
     let here : covered v (held t.entries key) ≡ false = ap (covered v) (sym (spread_set s seat xs a key is)) ∙ news in
     let long : length t.entries ≡ length s.entries + length a.entries.items = sym (ap length is.entries) ∙ length-append s.entries a.entries.items in
-    let entry : entry_of t seat Copy key v ≡ e = ap (λ (n : ℕ). record { number = n; seat = seat; source = Copy; key = key; version = v }) long ∙ sym made in
+    let entry : entry_of t seat Copy key v ≡ e = ap (λ (n : ℕ). record { number = n; seat = seat; source = Copy; key = key; version = v }) long
+    ∙ sym made in
     let step : accept_step t seat Copy key v ≡ journaled t e = rw (sym (knows_held t key v) ∙ here) (ap (journaled t) entry) in
     let whole : accepted_in s seat Copy (xs ++ (key, v) ∷ []) ≡ journaled t e = taken-append s seat Copy xs ((key, v) ∷ []) ∙ step in
     let k : key ≡ e.key = ap (λ (y : Entry). y.key) (sym made) in
@@ -178,9 +200,11 @@ spread_news s seat xs key v w a b e is news fits copy made tree entries known =
           tree ∙ (λ i. offered_to (is.tree i) (k i) (ver i)) ∙ (λ i. record { map = rows_after t e i; marks = (journaled t e).marks })
           ∙ ap tree_in (sym whole);
       entries =
-          ap (λ (es : List Entry). s.entries ++ es) entries ∙ sym (append_assoc s.entries a.entries.items (e ∷ [])) ∙ ap (λ (es : List Entry). es ++ e ∷ []) is.entries
+          ap (λ (es : List Entry). s.entries ++ es) entries ∙ sym (append_assoc s.entries a.entries.items (e ∷ []))
+          ∙ ap (λ (es : List Entry). es ++ e ∷ []) is.entries
           ∙ ap (λ (u : Store). u.entries) (sym whole);
-      numbered = subst (AreNumberedFrom (length s.entries)) (sym entries) (AreNumberedFrom-push (length s.entries) a.entries.items e is.numbered (ap (λ (y : Entry). y.number) made));
+      numbered = subst (AreNumberedFrom (length s.entries)) (sym entries)
+          (AreNumberedFrom-push (length s.entries) a.entries.items e is.numbered (ap (λ (y : Entry). y.number) made));
       fits = spread_next s seat xs a key v is ∙ fits;
       count = omega (arith, is.count, known, ap length entries, length-append a.entries.items (e ∷ []), length-append xs ((key, v) ∷ []));
     }
@@ -192,27 +216,39 @@ abbrev pub offers_at : List ℕ → List Version → Offers
 offers_at key vs = map (λ (v : Version). (key, v)) vs
 
 -- at a step of a loop over the versions of a row
-pub row_next : (xs : Offers) (key : List ℕ) (vs : List Version) (i : ℕ) (v : Version) → i < length vs → v ≡ get_or vs i v → (xs ++ offers_at key (take i vs)) ++ (key, v) ∷ [] ≡ xs ++ offers_at key (take (i + 1) vs)
+pub row_next : (xs : Offers) (key : List ℕ) (vs : List Version) (i : ℕ) (v : Version) → i < length vs → v ≡ get_or vs i v
+    → (xs ++ offers_at key (take i vs)) ++ (key, v) ∷ [] ≡ xs ++ offers_at key (take (i + 1) vs)
 row_next xs key vs i v less is =
-    append_assoc xs (offers_at key (take i vs)) ((key, v) ∷ []) ∙ ap (λ (os : Offers). xs ++ os) (sym (map_next {Y = List ℕ × Version} (λ (w : Version). (key, w)) vs i v less is))
+    append_assoc xs (offers_at key (take i vs)) ((key, v) ∷ [])
+    ∙ ap (λ (os : Offers). xs ++ os) (sym (map_next {Y = List ℕ × Version} (λ (w : Version). (key, w)) vs i v less is))
 
 -- the versions of a row up to one, and those after it
-pub row_split : (xs : Offers) (key : List ℕ) (vs : List Version) (i : ℕ) (v : Version) → i < length vs → v ≡ get_or vs i v → xs ++ offers_at key vs ≡ ((xs ++ offers_at key (take i vs)) ++ (key, v) ∷ []) ++ offers_at key (drop (i + 1) vs)
+pub row_split : (xs : Offers) (key : List ℕ) (vs : List Version) (i : ℕ) (v : Version) → i < length vs → v ≡ get_or vs i v
+    → xs ++ offers_at key vs ≡ ((xs ++ offers_at key (take i vs)) ++ (key, v) ∷ []) ++ offers_at key (drop (i + 1) vs)
 row_split xs key vs i v less is =
     ap (λ (os : Offers). xs ++ os) (map_split {Y = List ℕ × Version} (λ (w : Version). (key, w)) vs (i + 1))
     ∙ sym (append_assoc xs (offers_at key (take (i + 1) vs)) (offers_at key (drop (i + 1) vs)))
     ∙ ap (λ (os : Offers). os ++ offers_at key (drop (i + 1) vs)) (sym (row_next xs key vs i v less is))
 
 -- the versions of a row up to one are fewer than all
-pub row_room : (xs : Offers) (key : List ℕ) (vs : List Version) (i : ℕ) → i < length vs → length (xs ++ offers_at key (take i vs)) < length xs + length vs
+pub row_room : (xs : Offers) (key : List ℕ) (vs : List Version) (i : ℕ) → i < length vs
+    → length (xs ++ offers_at key (take i vs)) < length xs + length vs
 row_room xs key vs i less =
-    omega (arith, less, length-append xs (offers_at key (take i vs)), length-map {B = List ℕ × Version} (take i vs) (λ (v : Version). (key, v)), length-take i vs)
+    omega (
+      arith,
+      less,
+      length-append xs (offers_at key (take i vs)),
+      length-map {B = List ℕ × Version} (take i vs) (λ (v : Version). (key, v)),
+      length-take i vs,
+    )
 
 -- if one of the first versions is one too many, so is one of all
-pub rows_stop : (s : Store) (seat : ℕ) (xs ys all : Offers) (e : Refusal) → all ≡ xs ++ ys → (e ≡ NoMemory) ⊎ (crowded_in s seat Copy xs ≡ Some e) → (e ≡ NoMemory) ⊎ (crowded_in s seat Copy all ≡ Some e)
+pub rows_stop : (s : Store) (seat : ℕ) (xs ys all : Offers) (e : Refusal) → all ≡ xs ++ ys → (e ≡ NoMemory) ⊎ (crowded_in s seat Copy xs ≡ Some e)
+    → (e ≡ NoMemory) ⊎ (crowded_in s seat Copy all ≡ Some e)
 rows_stop s seat xs ys all e is (inl memory) = inl memory
 rows_stop s seat xs ys all e is (inr crowd) =
-    inr (ap (crowded_in s seat Copy) is ∙ crowded-append s seat Copy xs ys ∙ ap (λ (o : Option Refusal). first_fault o (crowded_in (accepted_in s seat Copy xs) seat Copy ys)) crowd)
+    inr (ap (crowded_in s seat Copy) is ∙ crowded-append s seat Copy xs ys
+    ∙ ap (λ (o : Option Refusal). first_fault o (crowded_in (accepted_in s seat Copy xs) seat Copy ys)) crowd)
 
 -- ---- what is accepted
 
@@ -220,7 +256,8 @@ rows_stop s seat xs ys all e is (inr crowd) =
 abbrev pub spread_state : Store → Spread → Store
 spread_state s sp = record { config = s.config; entries = s.entries ++ sp.entries.items; marks = sp.tree.marks }
 
-pub spread_is : (s : Store) (seat : ℕ) (rows : List Row) (sp : Spread) → IsSpreadable s seat rows sp → spread_state s sp ≡ accepted_in s seat Copy (offers_of rows)
+pub spread_is : (s : Store) (seat : ℕ) (rows : List Row) (sp : Spread) → IsSpreadable s seat rows sp
+    → spread_state s sp ≡ accepted_in s seat Copy (offers_of rows)
 spread_is s seat rows sp is =
     λ i. record { config = sym (config_stays s seat Copy (offers_of rows)) i; entries = is.spread_is.entries i; marks = (is.spread_is.tree i).marks }
 
@@ -229,18 +266,22 @@ spread_rows s seat rows sp is = ap (λ (t : RangeTree). t.map) is.spread_is.tree
 
 pub spread_right : (s : Store) (seat : ℕ) (rows : List Row) (sp : Spread) → IsSound s → IsSpreadable s seat rows sp → IsSound (spread_state s sp)
 spread_right s seat rows sp ok is =
-    subst IsSound (sym (spread_is s seat rows sp is)) (accepted_sound s.config s seat Copy (offers_of rows) refl ok (spread_offers s seat rows sp is) is.spread_is.fits)
+    subst IsSound (sym (spread_is s seat rows sp is))
+    (accepted_sound s.config s seat Copy (offers_of rows) refl ok (spread_offers s seat rows sp is) is.spread_is.fits)
 
-pub spread_load : (s : Store) (seat : ℕ) (rows : List Row) (sp : Spread) → IsSpreadable s seat rows sp → load_rows s seat rows ≡ accept_offers s seat Copy (offers_of rows)
+pub spread_load : (s : Store) (seat : ℕ) (rows : List Row) (sp : Spread) → IsSpreadable s seat rows sp
+    → load_rows s seat rows ≡ accept_offers s seat Copy (offers_of rows)
 spread_load s seat rows sp is = rw is.here refl
 
-pub spread_entries : (s : Store) (seat : ℕ) (rows : List Row) (sp : Spread) → IsSpreadable s seat rows sp → AreEntriesOf s seat Copy (offers_of rows) sp.entries.items sp.known
+pub spread_entries : (s : Store) (seat : ℕ) (rows : List Row) (sp : Spread) → IsSpreadable s seat rows sp
+    → AreEntriesOf s seat Copy (offers_of rows) sp.entries.items sp.known
 spread_entries s seat rows sp is = record { fits = is.spread_is.fits; entries = is.spread_is.entries; count = is.spread_is.count }
 
 -- ---- what a load answers
 
 -- rows that are refused
-pub spread_fault : (s : Store) (seat : ℕ) (rows : List Row) (e : Refusal) → first_fault (astray_fault s.config rows) (crowded_in s seat Copy (offers_of rows)) ≡ Some e → load_rows s seat rows ≡ refuses e
+pub spread_fault : (s : Store) (seat : ℕ) (rows : List Row) (e : Refusal)
+    → first_fault (astray_fault s.config rows) (crowded_in s seat Copy (offers_of rows)) ≡ Some e → load_rows s seat rows ≡ refuses e
 spread_fault s seat rows e fault = by_causes (astray_fault s.config rows) (crowded_in s seat Copy (offers_of rows)) fault
   where
     full : Option Refusal
@@ -255,5 +296,6 @@ spread_fault s seat rows e fault = by_causes (astray_fault s.config rows) (crowd
     by_causes None None is = absurd (cc)
 
 -- a text of a format that is not newer loads the rows that it spells
-pub format_rows : (s : Store) (seat : ℕ) (format : Format) (text : List ℕ) (rows : List Row) → newer_fault s.config.format format ≡ None → rows_in format text ≡ Ok rows → load_format s seat format text ≡ load_rows s seat rows
+pub format_rows : (s : Store) (seat : ℕ) (format : Format) (text : List ℕ) (rows : List Row) → newer_fault s.config.format format ≡ None
+    → rows_in format text ≡ Ok rows → load_format s seat format text ≡ load_rows s seat rows
 format_rows s seat format text rows older found = rw (older, found) refl

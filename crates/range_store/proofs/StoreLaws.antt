@@ -1,5 +1,6 @@
 -- What a step keeps, and why it is refused.
-use Rattle.std.proofs.Common.{◌≡◌, ℕ, zero, suc, ◌<◌, ◌≤◌, ◌%◌, ◌^◌, Bool, true, false, cond, set, List, [], ◌∷◌, ◌++◌, length, take, refl, ap, sym, subst, ◌∙◌, arith, inl, inr, Option, Some, None, Decides}
+use Rattle.std.proofs.Common.{◌≡◌, ℕ, zero, suc, ◌<◌, ◌≤◌, ◌%◌, ◌^◌, Bool, true, false, cond, set, List, [], ◌∷◌, ◌++◌, length, take, refl, ap, sym}
+use Rattle.std.proofs.Common.{subst, ◌∙◌, arith, inl, inr, Option, Some, None, Decides}
 use Rattle.std.specs.Prelude.{nat_eq, IsTrue}
 use Rattle.std.specs.Cmp.Lexicographic.{pointwise}
 use Rattle.std.proofs.lemmas.Bool.{cases_Bool, cases_lt, lt-ltb, or_parts, both_ways, eqb-true}
@@ -36,7 +37,8 @@ use Rattle.tree_nodes.proofs.TreeLaws.{tree_fresh}
 use Rattle.hash_tree.proofs.DigestLaws.{true_fresh}
 use Rattle.range_store.specs.Config.{Config, is_config}
 use Rattle.range_store.specs.Rows.{rows_of}
-use Rattle.range_store.specs.Store.{Store, fresh, tree_of, tree_in, rows_now, leaf_in, leaf_count, place_fault, journaled, full_fault, knows, admit, stale_fault, IsOwn, IsSound}
+use Rattle.range_store.specs.Store.{Store, fresh, tree_of, tree_in, rows_now, leaf_in, leaf_count, place_fault, journaled, full_fault, knows, admit}
+use Rattle.range_store.specs.Store.{stale_fault, IsOwn, IsSound}
 use Rattle.range_store.proofs.RowLaws.{rows_of-push, versions_in-rows_of}
 use Rattle.range_tree.proofs.RowTextLaws.{offered_short}
 use Rattle.range_tree.proofs.TreeLaws.{offered_right}
@@ -56,9 +58,16 @@ leaf_below c key = below c.format _
 
 -- ---- what holds of the entries
 
-all-versions_of : (P : Version → Type 0) (es : List Entry) (key : List ℕ) → AllByRecursion (λ e. P e.version) es → AllByRecursion P (versions_of es key)
+all-versions_of : (P : Version → Type 0) (es : List Entry) (key : List ℕ) → AllByRecursion (λ e. P e.version) es
+    → AllByRecursion P (versions_of es key)
 all-versions_of P [] key all = tt
-all-versions_of P (e ∷ es) key all = elim (pointwise nat_eq e.key key) as (λ b. AllByRecursion P (cond b (e.version ∷ versions_of es key) (versions_of es key))) [ true ↦ (all.0, all-versions_of P es key all.1) | false ↦ all-versions_of P es key all.1 ]
+all-versions_of P (e ∷ es) key all =
+    elim (pointwise nat_eq e.key key) as
+    (λ b. AllByRecursion P (cond b (e.version ∷ versions_of es key) (versions_of es key))) [
+      | true ↦
+          (all.0, all-versions_of P es key all.1)
+      | false ↦ all-versions_of P es key all.1
+    ]
 
 all-set_from : (P : Version → Type 0) (S vs : List Version) → AllByRecursion P S → AllByRecursion P vs → AllByRecursion P (set_from S vs)
 all-set_from P S [] set all = set
@@ -101,10 +110,16 @@ eq_itself n = grind (arith, nat_tests)
 
 -- a new range
 pub new_range : (c : Config) (entries : List Entry) (tree : RangeTree) → IsTrue (is_config c) → entries ≡ [] → tree ≡ bare c.format c.bits c.range
-    → IsSound (record { config = c; entries = entries; marks = tree.marks }) × (tree.map ≡ rows_now (record { config = c; entries = entries; marks = tree.marks })) × (record { config = c; entries = entries; marks = tree.marks } ≡ fresh c)
+    → IsSound (record { config = c; entries = entries; marks = tree.marks })
+    × (tree.map ≡ rows_now (record { config = c; entries = entries; marks = tree.marks }))
+    × (record { config = c; entries = entries; marks = tree.marks } ≡ fresh c)
 unfolding rows_of
 new_range c entries tree h none is =
-    let back : record { config = c; entries = entries; marks = tree.marks } ≡ fresh c = λ i. record { config = c; entries = none i; marks = (is i).marks } in
+    let back : record { config = c; entries = entries; marks = tree.marks } ≡ fresh c = λ i. record {
+      config = c;
+      entries = none i;
+      marks = (is i).marks;
+    } in
     (subst IsSound (sym back) (fresh_right c h), ap (λ (t : RangeTree). t.map) is ∙ ap rows_now (sym back), back)
 
 -- ---- causes
@@ -119,7 +134,8 @@ first_none None b e = refl
 first_none (Some x) b e = absurd (let no : Some x ≡ None = e in cc)
 
 -- a key and a value that have their place here are within the limits
-pub in_limits : (c : Config) (key : List ℕ) (kind : Kind) (value : List ℕ) → place_fault c key kind value ≡ None → (key_fault key ≡ None) × (value_fault c.format kind value ≡ None)
+pub in_limits : (c : Config) (key : List ℕ) (kind : Kind) (value : List ℕ) → place_fault c key kind value ≡ None
+    → (key_fault key ≡ None) × (value_fault c.format kind value ≡ None)
 in_limits c key kind value h = (first_none (key_fault key) _ h, first_none (value_fault c.format kind value) _ (later_none (key_fault key) _ h))
 
 -- a key and a value that have their place here
@@ -129,7 +145,8 @@ own c e h =
     record {
       key = first_none (key_fault e.key) _ h;
       value = first_none (value_fault c.format e.version.kind e.version.value) _ later;
-      here = eqb-true (range_at c.bits e.key) c.range (no_fault_else _ OtherRange (later_none (value_fault c.format e.version.kind e.version.value) _ later));
+      here = eqb-true (range_at c.bits e.key) c.range
+          (no_fault_else _ OtherRange (later_none (value_fault c.format e.version.kind e.version.value) _ later));
     }
 
 -- where a reserve was not refused, the journal is not full
@@ -155,7 +172,8 @@ leaf_in_tree c key = within c.format (leaf_in c key) (leaf_below c key)
     within Two n h = h
 
 -- no key ever held too many, with an entry more whose offer fits
-never_more : (es : List Entry) (e : Entry) (key : List ℕ) → NeverCrowded es key → offer_fault e.version (held es e.key) ≡ None → NeverCrowded (es ++ e ∷ []) key
+never_more : (es : List Entry) (e : Entry) (key : List ℕ) → NeverCrowded es key → offer_fault e.version (held es e.key) ≡ None
+    → NeverCrowded (es ++ e ∷ []) key
 never_more es e key short fits n = elim (cases_lt (length es) n) [
   | inl all ↦
       let whole : take n (es ++ e ∷ []) ≡ es ++ e ∷ [] = take_all n (es ++ e ∷ []) (omega (arith, length-append es (e ∷ []))) in
@@ -171,11 +189,14 @@ never_more es e key short fits n = elim (cases_lt (length es) n) [
     by_key true is = offered_short e.version (held es key) few (ap (λ (k : List ℕ). offer_fault e.version (held es k)) (sym (is.0 refl)) ∙ fits)
     by_key false is = few
 
-pub grown_sound : (s : Store) (e : Entry) → IsSound s → place_fault s.config e.key e.version.kind e.version.value ≡ None → covered e.version (held s.entries e.key) ≡ false → IsClock e.version.clock → offer_fault e.version (held s.entries e.key) ≡ None → IsSound (journaled s e)
+pub grown_sound : (s : Store) (e : Entry) → IsSound s → place_fault s.config e.key e.version.kind e.version.value ≡ None
+    → covered e.version (held s.entries e.key) ≡ false → IsClock e.version.clock → offer_fault e.version (held s.entries e.key) ≡ None
+    → IsSound (journaled s e)
 grown_sound s e ok here unknown clock fits =
     let limits = in_limits s.config e.key e.version.kind e.version.value here in
     let e_own = own s.config e here in
-    let tree = offered_right (tree_in s) e.key e.version (tree_right s ok.config ok.own ok.rows ok.marks) e_own.here limits.0 limits.1 clock (ap (offer_fault e.version) (versions_in-rows_of s.entries e.key) ∙ fits) in
+    let tree = offered_right (tree_in s) e.key e.version (tree_right s ok.config ok.own ok.rows ok.marks) e_own.here limits.0 limits.1 clock
+    (ap (offer_fault e.version) (versions_in-rows_of s.entries e.key) ∙ fits) in
     let rows = sym (rows_of-push s.entries e) in
     record {
       config = ok.config;
@@ -188,7 +209,8 @@ grown_sound s e ok here unknown clock fits =
 
 -- the rows after an entry are those after an offer
 pub rows_after : (s : Store) (e : Entry) → (offered_to (tree_in s) e.key e.version).map ≡ rows_now (journaled s e)
-rows_after s e = ap (λ (rows : List Row). record { format = s.config.format; bits = s.config.bits; range = s.config.range; rows = rows }) (sym (rows_of-push s.entries e))
+rows_after s e = ap (λ (rows : List Row). record { format = s.config.format; bits = s.config.bits; range = s.config.range; rows = rows })
+    (sym (rows_of-push s.entries e))
 
 -- a range after an entry that is news
 pub record IsAdmitted (s : Store) (e : Entry) (t : Store) (tree : RangeTree) : Type 0 where
@@ -196,11 +218,17 @@ pub record IsAdmitted (s : Store) (e : Entry) (t : Store) (tree : RangeTree) : T
   pub rows : tree.map ≡ rows_now t
   pub is : t ≡ journaled s e
 
-pub admitted : (s : Store) (e : Entry) (entries : List Entry) (was now : RangeTree) (key : List ℕ) (w : Version) → IsSound s → was ≡ tree_in s → place_fault s.config e.key e.version.kind e.version.value ≡ None → knows s e.key e.version ≡ false → IsClock e.version.clock
-    → offer_fault e.version (held s.entries e.key) ≡ None → key ≡ e.key → w ≡ e.version → now ≡ offered_to was key w → entries ≡ s.entries ++ e ∷ [] → IsAdmitted s e (record { config = s.config; entries = entries; marks = now.marks }) now
+pub admitted : (s : Store) (e : Entry) (entries : List Entry) (was now : RangeTree) (key : List ℕ) (w : Version) → IsSound s → was ≡ tree_in s
+    → place_fault s.config e.key e.version.kind e.version.value ≡ None → knows s e.key e.version ≡ false → IsClock e.version.clock
+    → offer_fault e.version (held s.entries e.key) ≡ None → key ≡ e.key → w ≡ e.version → now ≡ offered_to was key w → entries ≡ s.entries ++ e ∷ []
+    → IsAdmitted s e (record { config = s.config; entries = entries; marks = now.marks }) now
 admitted s e entries was now key w ok tree here news clock fits k copy offer es =
     let offered : now ≡ offered_to (tree_in s) e.key e.version = offer ∙ (λ i. offered_to (tree i) (k i) (copy i)) in
-    let back : record { config = s.config; entries = entries; marks = now.marks } ≡ journaled s e = λ i. record { config = s.config; entries = es i; marks = (offered i).marks } in
+    let back : record { config = s.config; entries = entries; marks = now.marks } ≡ journaled s e = λ i. record {
+      config = s.config;
+      entries = es i;
+      marks = (offered i).marks;
+    } in
     record {
       right = subst IsSound (sym back) (grown_sound s e ok here (covered-maximal e.version (accepted s.entries e.key) ∙ news) clock fits);
       rows = ap (λ (t : RangeTree). t.map) offered ∙ rows_after s e ∙ ap rows_now (sym back);
@@ -209,7 +237,9 @@ admitted s e entries was now key w ok tree here news clock fits k copy offer es 
 
 -- a version with a place here is of this range
 pub here_of : (c : Config) (key : List ℕ) (kind : Kind) (value : List ℕ) → place_fault c key kind value ≡ None → range_at c.bits key ≡ c.range
-here_of c key kind value h = eqb-true (range_at c.bits key) c.range (no_fault_else _ OtherRange (later_none (value_fault c.format kind value) _ (later_none (key_fault key) _ h)))
+here_of c key kind value h =
+    eqb-true (range_at c.bits key) c.range
+    (no_fault_else _ OtherRange (later_none (value_fault c.format kind value) _ (later_none (key_fault key) _ h)))
 
 -- ---- what is known
 
@@ -223,7 +253,8 @@ unseen v (w ∷ S) r h =
     let parts = or_parts (at_most v.clock w.clock) (list_any (λ x. at_most v.clock x.clock) S) h in
     let below : is_below v w ≡ false = rw parts.0 refl in
     let same : is_same v w ≡ false = elim (cases_Bool (is_same v w)) [
-      | inl t ↦ absurd (both_ways _ parts.0 (subst (λ (x : Version). at_most v.clock x.clock ≡ true) (is_same-exact v w t) (at_most_itself v.clock r)))
+      | inl t ↦ absurd (both_ways _ parts.0
+          (subst (λ (x : Version). at_most v.clock x.clock ≡ true) (is_same-exact v w t) (at_most_itself v.clock r)))
       | inr f ↦ f
     ] in
     rw (same, below) (unseen v S r parts.1)

@@ -30,36 +30,53 @@ use Rattle.range_store.proofs.TakenLaws.{taken_grown}
 -- ---- entries that come of offers
 
 -- what holds of the offers holds of the entries that come of them
-entries_all : (P : List ℕ → Version → Type 0) (s : Store) (seat : ℕ) (source : Source) (offers : Offers) (es : List Entry) → s.entries ++ es ≡ (accepted_in s seat source offers).entries → AllByRecursion (λ o. P o.0 o.1) offers → AllByRecursion (λ (e : Entry). P e.key e.version) es
+entries_all : (P : List ℕ → Version → Type 0) (s : Store) (seat : ℕ) (source : Source) (offers : Offers) (es : List Entry)
+    → s.entries ++ es ≡ (accepted_in s seat source offers).entries → AllByRecursion (λ o. P o.0 o.1) offers
+    → AllByRecursion (λ (e : Entry). P e.key e.version) es
 entries_all P s seat source offers es are all =
     let grown = taken_grown P s seat source offers all in
-    let same : grown.more ≡ es = sym (drop-append_seam s.entries grown.more) ∙ ap (drop (length s.entries)) (sym grown.entries ∙ sym are) ∙ drop-append_seam s.entries es in
+    let same : grown.more ≡ es = sym (drop-append_seam s.entries grown.more) ∙ ap (drop (length s.entries)) (sym grown.entries ∙ sym are)
+    ∙ drop-append_seam s.entries es in
     subst (AllByRecursion (λ (e : Entry). P e.key e.version)) same grown.all
 
 -- they are of the range
-entries_here : (s : Store) (seat : ℕ) (source : Source) (offers : Offers) (es : List Entry) → s.entries ++ es ≡ (accepted_in s seat source offers).entries → AllByRecursion (λ o. IsOfferFor s.config (leaf_in s.config o.0) o.0 o.1) offers → AllByRecursion (λ (e : Entry). range_at s.config.bits e.key ≡ s.config.range) es
+entries_here : (s : Store) (seat : ℕ) (source : Source) (offers : Offers) (es : List Entry)
+    → s.entries ++ es ≡ (accepted_in s seat source offers).entries → AllByRecursion (λ o. IsOfferFor s.config (leaf_in s.config o.0) o.0 o.1) offers
+    → AllByRecursion (λ (e : Entry). range_at s.config.bits e.key ≡ s.config.range) es
 entries_here s seat source offers es are homes =
-    entries_all (λ key v. range_at s.config.bits key ≡ s.config.range) s seat source offers es are (All-weaker _ _ offers (λ o is. here_of s.config o.0 o.1.kind o.1.value is.here) homes)
+    entries_all (λ key v. range_at s.config.bits key ≡ s.config.range) s seat source offers es are
+    (All-weaker _ _ offers (λ o is. here_of s.config o.0 o.1.kind o.1.value is.here) homes)
 
 -- ---- a batch
 
-pub batch_leaves : (s : Store) (seat : ℕ) (source : Source) (leaf : ℕ) (offers : Offers) (b : Batch) → IsAcceptable s seat source leaf offers b → AllByRecursion (λ (e : Entry). leaf ≡ leaf_in s.config e.key) b.entries.items
-batch_leaves s seat source leaf offers b is = entries_all (λ key v. leaf ≡ leaf_in s.config key) s seat source offers b.entries.items is.batch.entries (offer_leaves s.config leaf offers is.homes)
+pub batch_leaves : (s : Store) (seat : ℕ) (source : Source) (leaf : ℕ) (offers : Offers) (b : Batch) → IsAcceptable s seat source leaf offers b
+    → AllByRecursion (λ (e : Entry). leaf ≡ leaf_in s.config e.key) b.entries.items
+batch_leaves s seat source leaf offers b is = entries_all (λ key v. leaf ≡ leaf_in s.config key) s seat source offers b.entries.items is.batch.entries
+    (offer_leaves s.config leaf offers is.homes)
 
-batch_here : (s : Store) (seat : ℕ) (source : Source) (leaf : ℕ) (offers : Offers) (b : Batch) → IsAcceptable s seat source leaf offers b → AllByRecursion (λ (e : Entry). range_at s.config.bits e.key ≡ s.config.range) b.entries.items
+batch_here : (s : Store) (seat : ℕ) (source : Source) (leaf : ℕ) (offers : Offers) (b : Batch) → IsAcceptable s seat source leaf offers b
+    → AllByRecursion (λ (e : Entry). range_at s.config.bits e.key ≡ s.config.range) b.entries.items
 batch_here s seat source leaf offers b is =
-    entries_here s seat source offers b.entries.items is.batch.entries (All-weaker _ _ offers (λ o x. record { leaf_is = refl; here = x.here; clock = x.clock }) is.homes)
+    entries_here s seat source offers b.entries.items is.batch.entries
+    (All-weaker _ _ offers (λ o x. record { leaf_is = refl; here = x.here; clock = x.clock }) is.homes)
 
-batch_sets : (s : Store) (seat : ℕ) (source : Source) (leaf : ℕ) (offers : Offers) (b : Batch) → IsAcceptable s seat source leaf offers b → AllByRecursion (λ (e : Entry). versions_in e.key b.leaf.rows ≡ held (s.entries ++ b.entries.items) e.key) b.entries.items
-batch_sets s seat source leaf offers b is = All-weaker _ _ b.entries.items (λ e at. set_ahead s leaf b e.key is.batch.batch at) (batch_leaves s seat source leaf offers b is)
+batch_sets : (s : Store) (seat : ℕ) (source : Source) (leaf : ℕ) (offers : Offers) (b : Batch) → IsAcceptable s seat source leaf offers b
+    → AllByRecursion (λ (e : Entry). versions_in e.key b.leaf.rows ≡ held (s.entries ++ b.entries.items) e.key) b.entries.items
+batch_sets s seat source leaf offers b is =
+    All-weaker _ _ b.entries.items (λ e at. set_ahead s leaf b e.key is.batch.batch at) (batch_leaves s seat source leaf offers b is)
 
-pub table_batch : (s now : Store) (seat : ℕ) (source : Source) (leaf : ℕ) (offers : Offers) (b : Batch) (old rows : List TableRow) (t new : Table) (entries : List Entry) → s ≡ now → IsTableOf s.config.bits s.config.range s.entries old → IsAcceptable now seat source leaf offers b → t.rows ≡ old
-    → rows ≡ map (row_from s.config.bits b.leaf.rows) b.entries.items → new ≡ with_all t rows → entries ≡ now.entries ++ b.entries.items → IsTableOf s.config.bits s.config.range entries new.rows
+pub table_batch : (s now : Store) (seat : ℕ) (source : Source) (leaf : ℕ) (offers : Offers) (b : Batch) (old rows : List TableRow) (t new : Table)
+    (entries : List Entry) → s ≡ now → IsTableOf s.config.bits s.config.range s.entries old → IsAcceptable now seat source leaf offers b
+    → t.rows ≡ old
+    → rows ≡ map (row_from s.config.bits b.leaf.rows) b.entries.items → new ≡ with_all t rows → entries ≡ now.entries ++ b.entries.items
+    → IsTableOf s.config.bits s.config.range entries new.rows
 table_batch s now seat source leaf offers b old rows t new entries view is acceptable same made put es =
     let ok = subst (λ (u : Store). IsAcceptable u seat source leaf offers b) (sym view) acceptable in
     let table = table_same s.config.bits s.config.range s.entries s.entries old t.rows is refl same in
-    let then = table_taken s.config.bits s.config.range s.entries b.entries.items t b.leaf.rows table (batch_here s seat source leaf offers b ok) (batch_sets s seat source leaf offers b ok) in
-    table_same s.config.bits s.config.range (s.entries ++ b.entries.items) entries _ new.rows then (es ∙ ap (λ (u : Store). u.entries ++ b.entries.items) (sym view)) (ap (λ (u : Table). u.rows) (put ∙ ap (with_all t) made))
+    let then = table_taken s.config.bits s.config.range s.entries b.entries.items t b.leaf.rows table (batch_here s seat source leaf offers b ok)
+    (batch_sets s seat source leaf offers b ok) in
+    table_same s.config.bits s.config.range (s.entries ++ b.entries.items) entries _ new.rows then (es
+    ∙ ap (λ (u : Store). u.entries ++ b.entries.items) (sym view)) (ap (λ (u : Table). u.rows) (put ∙ ap (with_all t) made))
 
 -- ---- rows of any leaves
 
@@ -67,8 +84,10 @@ all_of : {X : Type 0} (P : X → Type 0) (xs : List X) → ((x : X) → P x) →
 all_of P [] f = tt
 all_of P (x ∷ xs) f = (f x, all_of P xs f)
 
-pub table_spread : (s now : Store) (seat : ℕ) (loaded : List Row) (sp : Spread) (old rows : List TableRow) (t new : Table) (entries : List Entry) → s ≡ now → IsTableOf s.config.bits s.config.range s.entries old → IsSpreadable now seat loaded sp → t.rows ≡ old
-    → rows ≡ map (row_from s.config.bits sp.tree.map.rows) sp.entries.items → new ≡ with_all t rows → entries ≡ now.entries ++ sp.entries.items → IsTableOf s.config.bits s.config.range entries new.rows
+pub table_spread : (s now : Store) (seat : ℕ) (loaded : List Row) (sp : Spread) (old rows : List TableRow) (t new : Table) (entries : List Entry)
+    → s ≡ now → IsTableOf s.config.bits s.config.range s.entries old → IsSpreadable now seat loaded sp → t.rows ≡ old
+    → rows ≡ map (row_from s.config.bits sp.tree.map.rows) sp.entries.items → new ≡ with_all t rows → entries ≡ now.entries ++ sp.entries.items
+    → IsTableOf s.config.bits s.config.range entries new.rows
 table_spread s now seat loaded sp old rows t new entries view is spreadable same made put es =
     let ok = subst (λ (u : Store). IsSpreadable u seat loaded sp) (sym view) spreadable in
     let table = table_same s.config.bits s.config.range s.entries s.entries old t.rows is refl same in
@@ -76,4 +95,5 @@ table_spread s now seat loaded sp old rows t new entries view is spreadable same
     let sets = all_of (λ (e : Entry). versions_in e.key sp.tree.map.rows ≡ held (s.entries ++ sp.entries.items) e.key) sp.entries.items
     (λ e. spread_set s seat (offers_of loaded) sp e.key ok.spread_is ∙ ap (λ (xs : List Entry). held xs e.key) (sym ok.spread_is.entries)) in
     let then = table_taken s.config.bits s.config.range s.entries sp.entries.items t sp.tree.map.rows table here sets in
-    table_same s.config.bits s.config.range (s.entries ++ sp.entries.items) entries _ new.rows then (es ∙ ap (λ (u : Store). u.entries ++ sp.entries.items) (sym view)) (ap (λ (u : Table). u.rows) (put ∙ ap (with_all t) made))
+    table_same s.config.bits s.config.range (s.entries ++ sp.entries.items) entries _ new.rows then (es
+    ∙ ap (λ (u : Store). u.entries ++ sp.entries.items) (sym view)) (ap (λ (u : Table). u.rows) (put ∙ ap (with_all t) made))

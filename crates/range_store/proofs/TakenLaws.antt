@@ -1,5 +1,6 @@
 -- What becomes of a range when the versions of a leaf are accepted.
-use Rattle.std.proofs.Common.{◌≡◌, ℕ, ◌<◌, ◌≤◌, ◌⊎◌, Bool, true, false, cond, Option, None, List, [], ◌∷◌, ◌++◌, length, map, refl, sym, ap, subst, ◌∙◌, inl, inr, arith, append_assoc, append-nil, Any, Contains, ◌||◌}
+use Rattle.std.proofs.Common.{◌≡◌, ℕ, ◌<◌, ◌≤◌, ◌⊎◌, Bool, true, false, cond, Option, None, List, [], ◌∷◌, ◌++◌, length, map, refl, sym, ap, subst}
+use Rattle.std.proofs.Common.{◌∙◌, inl, inr, arith, append_assoc, append-nil, Any, Contains, ◌||◌}
 use Rattle.std.specs.List.{AllByRecursion, flat_map}
 use Rattle.std.proofs.lemmas.Bool.{or_left, or_right}
 use Rattle.std.proofs.lemmas.Cmp.{nat_list_eq_equiv}
@@ -30,12 +31,16 @@ use Rattle.range_store.proofs.BatchLaws.{Offers}
 
 -- ---- the path of a leaf is dirty once
 
-dirtied_twice : (format : Format) (leaf : ℕ) (marks : List (Option (List ℕ))) → dirtied format leaf (dirtied format leaf marks) ≡ dirtied format leaf marks
+dirtied_twice : (format : Format) (leaf : ℕ) (marks : List (Option (List ℕ)))
+    → dirtied format leaf (dirtied format leaf marks) ≡ dirtied format leaf marks
 unfolding dirtied
 dirtied_twice format leaf marks =
-    fill_by_all (λ (place : ℕ). cond (is_on_path format leaf place) None (kept_digest marks place)) (dirtied format leaf (dirtied format leaf marks)) (length marks) None
+    fill_by_all (λ (place : ℕ). cond (is_on_path format leaf place) None (kept_digest marks place)) (dirtied format leaf (dirtied format leaf marks))
+    (length marks) None
     (length-dirtied format leaf (dirtied format leaf marks) ∙ length-dirtied format leaf marks)
-    (λ k less. dirtied-at format leaf k (dirtied format leaf marks) ∙ ap (λ (o : Option (List ℕ)). cond (is_on_path format leaf k) None o) (dirtied-at format leaf k marks) ∙ once (is_on_path format leaf k) (kept_digest marks k))
+    (λ k less. dirtied-at format leaf k (dirtied format leaf marks)
+    ∙ ap (λ (o : Option (List ℕ)). cond (is_on_path format leaf k) None o) (dirtied-at format leaf k marks)
+    ∙ once (is_on_path format leaf k) (kept_digest marks k))
   where
     once : (b : Bool) (o : Option (List ℕ)) → cond b None (cond b None o) ≡ cond b None o
     once true o = refl
@@ -52,11 +57,13 @@ pub record IsNews (s : Store) (leaf : ℕ) (t : Store) : Type 0 where
 abbrev pub Reached : Store → ℕ → Store → Type 0
 Reached s leaf t = (t ≡ s) ⊎ IsNews s leaf t
 
-reached_step : (s t : Store) (leaf seat : ℕ) (source : Source) (key : List ℕ) (v : Version) → leaf ≡ leaf_in s.config key → Reached s leaf t → Reached s leaf (accept_step t seat source key v)
-reached_step s t leaf seat source key v at was = elim (knows t key v) as (λ b. Reached s leaf (cond b t (journaled t (entry_of t seat source key v)))) [
-  | true ↦ was
-  | false ↦ inr (by_case was)
-]
+reached_step : (s t : Store) (leaf seat : ℕ) (source : Source) (key : List ℕ) (v : Version) → leaf ≡ leaf_in s.config key → Reached s leaf t
+    → Reached s leaf (accept_step t seat source key v)
+reached_step s t leaf seat source key v at was =
+    elim (knows t key v) as (λ b. Reached s leaf (cond b t (journaled t (entry_of t seat source key v)))) [
+      | true ↦ was
+      | false ↦ inr (by_case was)
+    ]
   where
     by_case : Reached s leaf t → IsNews s leaf (journaled t (entry_of t seat source key v))
     by_case (inl e) = record {
@@ -66,37 +73,46 @@ reached_step s t leaf seat source key v at was = elim (knows t key v) as (λ b. 
     }
     by_case (inr n) = record {
       config = n.config;
-      marks = (λ i. dirtied (n.config i).format (leaf_in (n.config i) key) (n.marks i)) ∙ ap (λ (k : ℕ). dirtied s.config.format k (dirtied s.config.format leaf s.marks)) (sym at) ∙ dirtied_twice s.config.format leaf s.marks;
+      marks = (λ i. dirtied (n.config i).format (leaf_in (n.config i) key) (n.marks i))
+          ∙ ap (λ (k : ℕ). dirtied s.config.format k (dirtied s.config.format leaf s.marks)) (sym at) ∙ dirtied_twice s.config.format leaf s.marks;
       more = omega (arith, n.more, length-append t.entries (entry_of t seat source key v ∷ []));
     }
 
-pub reached : (s t : Store) (leaf seat : ℕ) (source : Source) (offers : Offers) → AllByRecursion (λ o. leaf ≡ leaf_in s.config o.0) offers → Reached s leaf t → Reached s leaf (accepted_in t seat source offers)
+pub reached : (s t : Store) (leaf seat : ℕ) (source : Source) (offers : Offers) → AllByRecursion (λ o. leaf ≡ leaf_in s.config o.0) offers
+    → Reached s leaf t → Reached s leaf (accepted_in t seat source offers)
 reached s t leaf seat source [] all was = was
-reached s t leaf seat source (o ∷ offers) all was = reached s (accept_step t seat source o.0 o.1) leaf seat source offers all.1 (reached_step s t leaf seat source o.0 o.1 all.0 was)
+reached s t leaf seat source (o ∷ offers) all was =
+    reached s (accept_step t seat source o.0 o.1) leaf seat source offers all.1 (reached_step s t leaf seat source o.0 o.1 all.0 was)
 
 -- ---- it is sound
 
-step_sound : (t : Store) (seat : ℕ) (source : Source) (key : List ℕ) (v : Version) → IsSound t → place_fault t.config key v.kind v.value ≡ None → IsClock v.clock → offer_fault v (held t.entries key) ≡ None → IsSound (accept_step t seat source key v)
-step_sound t seat source key v ok here clock fits = elim (knows t key v) as (λ b. knows t key v ≡ b → IsSound (cond b t (journaled t (entry_of t seat source key v)))) [
-  | true ↦ λ known. ok
-  | false ↦ λ fresh. grown_sound t (entry_of t seat source key v) ok here (knows_held t key v ∙ fresh) clock fits
-] refl
+step_sound : (t : Store) (seat : ℕ) (source : Source) (key : List ℕ) (v : Version) → IsSound t → place_fault t.config key v.kind v.value ≡ None
+    → IsClock v.clock → offer_fault v (held t.entries key) ≡ None → IsSound (accept_step t seat source key v)
+step_sound t seat source key v ok here clock fits =
+    elim (knows t key v) as (λ b. knows t key v ≡ b → IsSound (cond b t (journaled t (entry_of t seat source key v)))) [
+      | true ↦ λ known. ok
+      | false ↦ λ fresh. grown_sound t (entry_of t seat source key v) ok here (knows_held t key v ∙ fresh) clock fits
+    ] refl
 
 -- A step keeps the configuration.
 pub step_config : (t : Store) (seat : ℕ) (source : Source) (key : List ℕ) (v : Version) → (accept_step t seat source key v).config ≡ t.config
-step_config t seat source key v = elim (knows t key v) as (λ b. (cond b t (journaled t (entry_of t seat source key v))).config ≡ t.config) [ true ↦ refl | false ↦ refl ]
+step_config t seat source key v =
+    elim (knows t key v) as (λ b. (cond b t (journaled t (entry_of t seat source key v))).config ≡ t.config) [ true ↦ refl | false ↦ refl ]
 
 pub config_stays : (t : Store) (seat : ℕ) (source : Source) (offers : Offers) → (accepted_in t seat source offers).config ≡ t.config
 config_stays t seat source [] = refl
 config_stays t seat source (o ∷ offers) = config_stays (accept_step t seat source o.0 o.1) seat source offers ∙ step_config t seat source o.0 o.1
 
 -- versions that have their place keep the store sound
-pub accepted_sound : (c : Config) (t : Store) (seat : ℕ) (source : Source) (offers : Offers) → t.config ≡ c → IsSound t → AllByRecursion (λ o. IsOfferFor c (leaf_in c o.0) o.0 o.1) offers → crowded_in t seat source offers ≡ None → IsSound (accepted_in t seat source offers)
+pub accepted_sound : (c : Config) (t : Store) (seat : ℕ) (source : Source) (offers : Offers) → t.config ≡ c → IsSound t
+    → AllByRecursion (λ o. IsOfferFor c (leaf_in c o.0) o.0 o.1) offers → crowded_in t seat source offers ≡ None
+    → IsSound (accepted_in t seat source offers)
 accepted_sound c t seat source [] same ok all none = ok
 accepted_sound c t seat source (o ∷ offers) same ok all none =
     let here = ap (λ (x : Config). place_fault x o.0 o.1.kind o.1.value) same ∙ all.0.here in
     let fits = first_none (offer_fault o.1 (held t.entries o.0)) _ none in
-    accepted_sound c (accept_step t seat source o.0 o.1) seat source offers (step_config t seat source o.0 o.1 ∙ same) (step_sound t seat source o.0 o.1 ok here all.0.clock fits) all.1 (later_none (offer_fault o.1 (held t.entries o.0)) _ none)
+    accepted_sound c (accept_step t seat source o.0 o.1) seat source offers (step_config t seat source o.0 o.1 ∙ same)
+    (step_sound t seat source o.0 o.1 ok here all.0.clock fits) all.1 (later_none (offer_fault o.1 (held t.entries o.0)) _ none)
 
 -- ---- the entries that came
 
@@ -106,13 +122,15 @@ pub record IsGrown (P : List ℕ → Version → Type 0) (s t : Store) : Type 0 
   pub entries : t.entries ≡ s.entries ++ more
   pub all : AllByRecursion (λ (e : Entry). P e.key e.version) more
 
-step_grown : (P : List ℕ → Version → Type 0) (t : Store) (seat : ℕ) (source : Source) (key : List ℕ) (v : Version) → P key v → IsGrown P t (accept_step t seat source key v)
+step_grown : (P : List ℕ → Version → Type 0) (t : Store) (seat : ℕ) (source : Source) (key : List ℕ) (v : Version) → P key v
+    → IsGrown P t (accept_step t seat source key v)
 step_grown P t seat source key v p = elim (knows t key v) as (λ b. IsGrown P t (cond b t (journaled t (entry_of t seat source key v)))) [
   | true ↦ record { more = []; entries = sym (append-nil t.entries); all = tt }
   | false ↦ record { more = entry_of t seat source key v ∷ []; entries = refl; all = (p, tt) }
 ]
 
-pub taken_grown : (P : List ℕ → Version → Type 0) (t : Store) (seat : ℕ) (source : Source) (offers : Offers) → AllByRecursion (λ o. P o.0 o.1) offers → IsGrown P t (accepted_in t seat source offers)
+pub taken_grown : (P : List ℕ → Version → Type 0) (t : Store) (seat : ℕ) (source : Source) (offers : Offers) → AllByRecursion (λ o. P o.0 o.1) offers
+    → IsGrown P t (accepted_in t seat source offers)
 taken_grown P t seat source [] all = record { more = []; entries = sym (append-nil t.entries); all = tt }
 taken_grown P t seat source (o ∷ offers) all =
     let one = step_grown P t seat source o.0 o.1 all.0 in
@@ -125,16 +143,18 @@ taken_grown P t seat source (o ∷ offers) all =
 
 -- ---- what is held of them
 
-held_step : (t : Store) (seat : ℕ) (source : Source) (key : List ℕ) (v : Version) → covered v (held (accept_step t seat source key v).entries key) ≡ true
-held_step t seat source key v = elim (knows t key v) as (λ b. knows t key v ≡ b → covered v (held (cond b t (journaled t (entry_of t seat source key v))).entries key) ≡ true) [
-  | true ↦ λ known. knows_held t key v ∙ known
-  | false ↦ λ fresh.
-      let e = entry_of t seat source key v in
-      covered-held v (t.entries ++ e ∷ []) key
-      ∙ ap (covered v) (versions_of-push t.entries e key ∙ rw (nat_list_eq_equiv.refl key) refl)
-      ∙ list_any-append (λ (w : Version). is_same v w || is_below v w) (versions_of t.entries key) (v ∷ [])
-      ∙ or_right (covered v (versions_of t.entries key)) _ (or_left _ _ (or_left _ _ (covered-itself v)))
-] refl
+held_step : (t : Store) (seat : ℕ) (source : Source) (key : List ℕ) (v : Version)
+    → covered v (held (accept_step t seat source key v).entries key) ≡ true
+held_step t seat source key v =
+    elim (knows t key v) as (λ b. knows t key v ≡ b → covered v (held (cond b t (journaled t (entry_of t seat source key v))).entries key) ≡ true) [
+      | true ↦ λ known. knows_held t key v ∙ known
+      | false ↦ λ fresh.
+          let e = entry_of t seat source key v in
+          covered-held v (t.entries ++ e ∷ []) key
+          ∙ ap (covered v) (versions_of-push t.entries e key ∙ rw (nat_list_eq_equiv.refl key) refl)
+          ∙ list_any-append (λ (w : Version). is_same v w || is_below v w) (versions_of t.entries key) (v ∷ [])
+          ∙ or_right (covered v (versions_of t.entries key)) _ (or_left _ _ (or_left _ _ (covered-itself v)))
+    ] refl
 
 abbrev pub Nothing : List ℕ → Version → Type 0
 Nothing key v = Unit {0}
@@ -143,30 +163,36 @@ pub nothing : (offers : Offers) → AllByRecursion (λ o. Nothing o.0 o.1) offer
 nothing [] = tt
 nothing (o ∷ offers) = (tt, nothing offers)
 
-pub taken_held : (t : Store) (seat : ℕ) (source : Source) (offers : Offers) → AllByRecursion (λ o. covered o.1 (held (accepted_in t seat source offers).entries o.0) ≡ true) offers
+pub taken_held : (t : Store) (seat : ℕ) (source : Source) (offers : Offers)
+    → AllByRecursion (λ o. covered o.1 (held (accepted_in t seat source offers).entries o.0) ≡ true) offers
 taken_held t seat source [] = tt
 taken_held t seat source (o ∷ offers) =
     let next = accept_step t seat source o.0 o.1 in
     let rest = taken_grown Nothing next seat source offers (nothing offers) in (
-      subst (λ (es : List Entry). covered o.1 (held es o.0) ≡ true) (sym rest.entries) (grows next.entries rest.more o.1 o.0 (held_step t seat source o.0 o.1)),
+      subst (λ (es : List Entry). covered o.1 (held es o.0) ≡ true) (sym rest.entries)
+          (grows next.entries rest.more o.1 o.0 (held_step t seat source o.0 o.1)),
       taken_held next seat source offers,
     )
 
 -- ---- offers and rows
 
-in_row : (P : List ℕ → Version → Type 0) (key : List ℕ) (vs : List Version) (rest : Offers) → AllByRecursion (λ v. P key v) vs → AllByRecursion (λ o. P o.0 o.1) rest → AllByRecursion (λ o. P o.0 o.1) (map (λ v. (key, v)) vs ++ rest)
+in_row : (P : List ℕ → Version → Type 0) (key : List ℕ) (vs : List Version) (rest : Offers) → AllByRecursion (λ v. P key v) vs
+    → AllByRecursion (λ o. P o.0 o.1) rest → AllByRecursion (λ o. P o.0 o.1) (map (λ v. (key, v)) vs ++ rest)
 in_row P key [] rest all more = more
 in_row P key (v ∷ vs) rest all more = (all.0, in_row P key vs rest all.1 more)
 
-pub offers_all : (P : List ℕ → Version → Type 0) (rows : List Row) → AllByRecursion (λ (r : Row). AllByRecursion (λ v. P r.key v) r.versions) rows → AllByRecursion (λ o. P o.0 o.1) (offers_of rows)
+pub offers_all : (P : List ℕ → Version → Type 0) (rows : List Row) → AllByRecursion (λ (r : Row). AllByRecursion (λ v. P r.key v) r.versions) rows
+    → AllByRecursion (λ o. P o.0 o.1) (offers_of rows)
 offers_all P [] all = tt
 offers_all P (r ∷ rows) all = in_row P r.key r.versions (offers_of rows) all.0 (offers_all P rows all.1)
 
-of_row : (P : List ℕ → Version → Type 0) (key : List ℕ) (vs : List Version) (rest : Offers) → AllByRecursion (λ o. P o.0 o.1) (map (λ v. (key, v)) vs ++ rest) → AllByRecursion (λ v. P key v) vs × AllByRecursion (λ o. P o.0 o.1) rest
+of_row : (P : List ℕ → Version → Type 0) (key : List ℕ) (vs : List Version) (rest : Offers)
+    → AllByRecursion (λ o. P o.0 o.1) (map (λ v. (key, v)) vs ++ rest) → AllByRecursion (λ v. P key v) vs × AllByRecursion (λ o. P o.0 o.1) rest
 of_row P key [] rest all = (tt, all)
 of_row P key (v ∷ vs) rest all = let later = of_row P key vs rest all.1 in ((all.0, later.0), later.1)
 
-pub all_offers : (P : List ℕ → Version → Type 0) (rows : List Row) → AllByRecursion (λ o. P o.0 o.1) (offers_of rows) → AllByRecursion (λ (r : Row). AllByRecursion (λ v. P r.key v) r.versions) rows
+pub all_offers : (P : List ℕ → Version → Type 0) (rows : List Row) → AllByRecursion (λ o. P o.0 o.1) (offers_of rows)
+    → AllByRecursion (λ (r : Row). AllByRecursion (λ v. P r.key v) r.versions) rows
 all_offers P [] all = tt
 all_offers P (r ∷ rows) all = let both = of_row P r.key r.versions (offers_of rows) all in (both.0, all_offers P rows both.1)
 
@@ -176,14 +202,21 @@ IsAmong rows key v = Any (λ (r : Row). (r.key ≡ key) × Contains r.versions v
 
 all_contain : (vs : List Version) → AllByRecursion (λ v. Contains vs v) vs
 all_contain [] = tt
-all_contain (v ∷ vs) = ((0, omega arith, refl), All-weaker (λ w. Contains vs w) (λ w. Contains (v ∷ vs) w) vs (λ w h. contains_later v vs w h) (all_contain vs))
+all_contain (v ∷ vs) = (
+  (0, omega arith, refl),
+  All-weaker (λ w. Contains vs w) (λ w. Contains (v ∷ vs) w) vs (λ w h. contains_later v vs w h)
+      (all_contain vs),
+)
 
 rows_among : (rows : List Row) → AllByRecursion (λ (r : Row). AllByRecursion (λ v. IsAmong rows r.key v) r.versions) rows
 rows_among [] = tt
 rows_among (r ∷ rows) = (
-  All-weaker (λ v. Contains r.versions v) (λ v. IsAmong (r ∷ rows) r.key v) r.versions (λ v has. (0, r, omega arith, refl, (refl, has))) (all_contain r.versions),
-  All-weaker (λ (x : Row). AllByRecursion (λ v. IsAmong rows x.key v) x.versions) (λ (x : Row). AllByRecursion (λ v. IsAmong (r ∷ rows) x.key v) x.versions) rows
-      (λ x each. All-weaker (λ v. IsAmong rows x.key v) (λ v. IsAmong (r ∷ rows) x.key v) x.versions (λ v a. any_later (λ (y : Row). (y.key ≡ x.key) × Contains y.versions v) r rows a) each) (rows_among rows),
+  All-weaker (λ v. Contains r.versions v) (λ v. IsAmong (r ∷ rows) r.key v) r.versions (λ v has. (0, r, omega arith, refl, (refl, has)))
+      (all_contain r.versions),
+  All-weaker (λ (x : Row). AllByRecursion (λ v. IsAmong rows x.key v) x.versions)
+      (λ (x : Row). AllByRecursion (λ v. IsAmong (r ∷ rows) x.key v) x.versions) rows
+      (λ x each. All-weaker (λ v. IsAmong rows x.key v) (λ v. IsAmong (r ∷ rows) x.key v) x.versions
+      (λ v a. any_later (λ (y : Row). (y.key ≡ x.key) × Contains y.versions v) r rows a) each) (rows_among rows),
 )
 
 pub offers_among : (rows : List Row) → AllByRecursion (λ o. IsAmong rows o.0 o.1) (offers_of rows)
@@ -194,4 +227,11 @@ offers_among rows = offers_all (IsAmong rows) rows (rows_among rows)
 pub offers_short : (f : Format) (rows : List Row) → length (offers_of rows) ≤ length (flat_map (row_text f) rows)
 offers_short f [] = omega arith
 offers_short f (r ∷ rows) =
-    omega (arith, offers_short f rows, length-append (offers_in r) (offers_of rows), length-map {B = List ℕ × Version} r.versions (λ (v : Version). (r.key, v)), length-append (row_text f r) (flat_map (row_text f) rows), row_short f r)
+    omega (
+      arith,
+      offers_short f rows,
+      length-append (offers_in r) (offers_of rows),
+      length-map {B = List ℕ × Version} r.versions (λ (v : Version). (r.key, v)),
+      length-append (row_text f r) (flat_map (row_text f) rows),
+      row_short f r,
+    )

@@ -47,7 +47,7 @@ pub record IsBatchOf (s : Store) (seat : ℕ) (source : Source) (leaf : ℕ) (of
   pub entries : (ahead s b).entries ≡ (accepted_in s seat source offers).entries
   pub count : seen_count b ≡ length offers
 
--- a batch of versions that have their place in a leaf, none of which is refused
+-- a batch of versions that have their place in a leaf, with none refused
 pub record IsAcceptable (s : Store) (seat : ℕ) (source : Source) (leaf : ℕ) (offers : List (List ℕ × Version)) (b : Batch) : Type 0 where
   pub inside : leaf < leaf_count s.config
   pub homes : AllByRecursion (λ o. IsOfferFor s.config leaf o.0 o.1) offers

@@ -1,5 +1,5 @@
--- The tests of a put's context, and the put that checks what its client has read. The context is what the client has
--- read: the paper of 2007, section 4.4.
+-- The tests of a put's context, and the put that checks what its client has read. The context has the clocks that the
+-- client has read (section 4.4 of the Dynamo paper).
 use Rattle.std.specs.Prelude.{ℕ, Bool, nat_lt, List, map, Option, Some, None, if◌then◌else◌}
 use Rattle.std.specs.List.{list_any}
 use Rattle.vclock.specs.Clock.{at_most, counter, raised, Pairs}
@@ -35,7 +35,7 @@ fails Read versions at context = list_any (λ v. nat_lt (counter context at) (co
 abbrev pub context_fault : ContextTest → List Version → ℕ → Pairs → Option Refusal
 context_fault test versions at context = if fails test versions at context then Some (StaleContext (map (λ v. v.clock) versions)) else None
 
--- the put whose context is tested so
+-- the put whose context is tested this way
 abbrev pub put_by : ContextTest → Store → ℕ → ℕ → List ℕ → Pairs → Kind → List ℕ → Outcome Entry Store
 put_by Fresh s seat at key context kind value = put s seat at key context kind value
 put_by Read s seat at key context kind value = put_read s seat at key context kind value

@@ -1,4 +1,4 @@
--- A store whose journal tells partners' versions as copies.
+-- A store whose journal reports partners' versions as copies.
 use Rattle.range_journal.specs.Copies.{as_copies}
 use Rattle.range_store.specs.Store.{Store}
 

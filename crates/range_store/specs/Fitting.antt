@@ -1,4 +1,4 @@
--- Versions that a range accepts if its journal has room.
+-- Versions that a range accepts unless its journal is full.
 use Rattle.std.specs.Prelude.{◌≡◌, ℕ, false, List, Option, None}
 use Rattle.vclock.specs.Answer.{first_fault}
 use Rattle.vclock.specs.Clock.{Pairs}
@@ -13,8 +13,8 @@ use Rattle.range_store.specs.ContextTests.{context_fault}
 use Rattle.range_store.specs.Store.{Store, place_fault, ask_fault, put_version, knows}
 use Rattle.range_store.specs.declared.context_test.ContextTest.{ContextTest}
 
--- a version whose key has that leaf in format 2 and has its place in the range, is not known, and is not one too many
--- for its key
+-- a version whose key has that leaf in format 2 and has its place in the range, is not known, and is not refused as
+-- Crowded
 pub record IsFitting (s : Store) (leaf : ℕ) (key : List ℕ) (v : Version) : Type 0 where
   pub leaf_is : leaf ≡ leaf_at Two s.config.bits key
   pub here : place_fault s.config key v.kind v.value ≡ None

@@ -1,5 +1,5 @@
--- Loading rows of a named format, of any leaves of a range: their versions are accepted as copies, all or none. So what
--- was saved before a migration is loaded after it.
+-- Loading rows of a named format, of any leaves of a range: their versions are accepted as copies, all or none, so rows
+-- saved before a migration can be loaded after it.
 use Rattle.std.specs.Prelude.{◌≡◌, ℕ, ◌-◌, ◌+◌, ◌++◌, Bool, ◌==◌, List, length, Option, Some, None, Result, Ok, Err, if◌then◌else◌}
 use Rattle.std.specs.List.{list_all}
 use Rattle.vclock.specs.Outcome.{Outcome, refuses, ◌>>◌}
@@ -20,13 +20,13 @@ use Rattle.range_store.specs.Store.{Store, tree_in}
 use Rattle.range_store.specs.declared.store.loading.Loaded.{Loaded}
 use Rattle.range_store.specs.declared.store.format_loading.Spread.{Spread}
 
--- the fault of rows of a format for a range of another: a range of format 1 has no place for rows of format 2
+-- the fault of rows of one format for a range of the other: a range of format 1 does not accept rows of format 2
 abbrev pub newer_fault : Format → Format → Option Refusal
 newer_fault One One = None
 newer_fault One Two = Some OtherFormat
 newer_fault Two format = None
 
--- all keys are of the range
+-- all keys belong to the range
 abbrev pub are_here : Config → List Row → Bool
 are_here c rows = list_all (λ (r : Row). range_at c.bits r.key == c.range) rows
 
@@ -40,7 +40,7 @@ load_rows s seat rows = do
   astray_fault s.config rows
   accept_offers s seat Copy (offers_of rows)
 
--- the same, if rows were read from a text of so many bytes
+-- the load of rows that were read from a text of this many bytes
 abbrev pub load_rows_read : Store → ℕ → ℕ → Result (List Row) ℕ → Outcome Loaded Store
 load_rows_read s seat len (Ok rows) = load_rows s seat rows
 load_rows_read s seat len (Err left) = refuses (RowBroken (len - left))
@@ -55,7 +55,7 @@ load_format s seat format text = do
 abbrev pub seen_count : Spread → ℕ
 seen_count spread = length spread.entries.items + spread.known
 
--- the tree and the entries are those after these versions were accepted in their turn, none of which is refused
+-- the tree and the entries after these versions were accepted in their turn, with none refused
 pub record IsSpread (s : Store) (seat : ℕ) (offers : List (List ℕ × Version)) (spread : Spread) : Type 0 where
   pub tree : spread.tree ≡ tree_in (accepted_in s seat Copy offers)
   pub entries : s.entries ++ spread.entries.items ≡ (accepted_in s seat Copy offers).entries

@@ -38,7 +38,7 @@ first_leaf c (r ∷ rows) = leaf_in c r.key
 abbrev pub apart_fault : Config → List Row → Option Refusal
 apart_fault c rows = if list_all (λ r. is_home c (first_leaf c rows) r.key) rows then None else Some OtherRange
 
--- rows of a leaf of the range: they have texts, their keys ascend, and each key is of the leaf
+-- rows of a leaf of the range: they have texts, their keys ascend, and each key belongs to the leaf
 pub record AreLeafRows (c : Config) (leaf : ℕ) (rows : List Row) : Type 0 where
   pub are : AreRows c.format rows
   pub inside : leaf < leaf_count c
@@ -49,12 +49,12 @@ pub record AreLeafRows (c : Config) (leaf : ℕ) (rows : List Row) : Type 0 wher
 abbrev pub rows_in : Format → List ℕ → Result (List Row) ℕ
 rows_in format text = rows_at format (length text) [] [] text
 
--- the fault of a text of so many bytes from which these rows, or a broken field, were read
+-- the fault of a text of this many bytes that was read as these rows, or has a broken field
 abbrev pub read_fault : Config → ℕ → Result (List Row) ℕ → Option Refusal
 read_fault c len (Ok rows) = apart_fault c rows
 read_fault c len (Err left) = Some (RowBroken (len - left))
 
--- the counts of versions that came to a store, and of those among these that did not
+-- the counts of the versions that a store accepted, and of the rest
 abbrev pub loaded : Store → Store → List (List ℕ × Version) → Loaded
 loaded s new offers = record { taken = length new.entries - length s.entries; known = (length s.entries + length offers) - length new.entries }
 
@@ -70,7 +70,7 @@ load s seat rows = do
   apart_fault s.config rows
   accept_offers s seat Copy (offers_of rows)
 
--- the same, if rows were read from a text of so many bytes
+-- the load of rows that were read from a text of this many bytes
 abbrev pub load_read : Store → ℕ → ℕ → Result (List Row) ℕ → Outcome Loaded Store
 load_read s seat len (Ok rows) = load s seat rows
 load_read s seat len (Err left) = refuses (RowBroken (len - left))
@@ -83,7 +83,7 @@ load_text s seat text = load_read s seat (length text) (rows_in s.config.format 
 abbrev pub leaves_of : Store → List (List Row)
 leaves_of s = map (λ leaf. rows_in_leaf (leaf_in s.config) leaf (rows_of s.entries)) (range_with_len 0 (leaf_count s.config))
 
--- lists of rows are loaded one after another, until one is refused
+-- lists of rows are loaded in turn, until one is refused
 abbrev pub load_all : Store → ℕ → List (List Row) → Outcome (Unit {0}) Store
 load_all s seat [] = gives tt s
 load_all s seat (rows ∷ more) = do

@@ -1,4 +1,4 @@
--- Versions that are offered to a store one after another, each accepted in its turn.
+-- Versions that are offered to a store, each accepted in its turn.
 use Rattle.std.specs.Prelude.{ℕ, nat_le, List, [], ◌∷◌, length, map, Option, Some, None, if◌then◌else◌}
 use Rattle.std.specs.List.{flat_map}
 use Rattle.vclock.specs.Answer.{first_fault}
@@ -23,7 +23,7 @@ abbrev pub accepted_in : Store → ℕ → Source → List (List ℕ × Version)
 accepted_in s seat source [] = s
 accepted_in s seat source (o ∷ offers) = accepted_in (accept_step s seat source o.0 o.1) seat source offers
 
--- the fault of accepting them all, if the journal has room: one of them, in its turn, would be a version too many for
+-- the fault of accepting them all, apart from a full journal: one of them, in its turn, would be a version too many for
 -- its key
 abbrev pub crowded_in : Store → ℕ → Source → List (List ℕ × Version) → Option Refusal
 crowded_in s seat source [] = None

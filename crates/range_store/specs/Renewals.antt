@@ -24,7 +24,7 @@ copies_from n seat (o ∷ os) = record { number = n; seat = seat; source = Copy;
 abbrev pub by_leaf : Config → List Row → List Row
 by_leaf c rows = flat_map (λ leaf. rows_in_leaf (leaf_in c) leaf rows) (range_with_len 0 (leaf_count c))
 
--- rows are of the ranges of a configuration, in its format
+-- rows have the format and the ring bits of a configuration
 pub record IsOfConfig (c : Config) (m : RowMap) : Type 0 where
   pub format : m.format ≡ c.format
   pub bits : m.bits ≡ c.bits
@@ -33,7 +33,7 @@ pub record IsOfConfig (c : Config) (m : RowMap) : Type 0 where
 abbrev pub offers_by_leaf : Config → List Row → List (List ℕ × Version)
 offers_by_leaf c rows = offers_of (by_leaf c rows)
 
--- those that are held
+-- the keys and versions that are held
 abbrev pub held_offers : Store → List (List ℕ × Version)
 held_offers s = offers_by_leaf s.config (rows_of s.entries)
 
@@ -41,8 +41,8 @@ held_offers s = offers_by_leaf s.config (rows_of s.entries)
 abbrev pub config_to : Config → ℕ → Config
 config_to c limit = record c { limit = limit }
 
--- a state that begins with the versions that s holds, as copies by a seat: its rows are those of s, so a node that was
--- clean is clean with the same digest
+-- a state that begins with the versions that s holds, as copies by a seat: it has the rows of s, so a clean node stays
+-- clean with the same digest
 abbrev pub renewed_by : Store → ℕ → ℕ → Store
 renewed_by s seat limit = record { config = config_to s.config limit; entries = copies_from 0 seat (held_offers s); marks = s.marks }
 
@@ -65,16 +65,16 @@ renew_fault s limit = limit_fault s.config (rows_of s.entries) limit
 abbrev pub with_copies : Log → ℕ → List (List ℕ × Version) → Log
 with_copies log seat offers = record { entries = log.entries ++ copies_from (length log.entries) seat offers; limit = log.limit; room = log.room - length offers }
 
--- ---- renewals beside the puts
+-- ---- renewals alongside the puts
 
--- the rows from which a new range begins, the configuration of the range that has them, and by place the digests of the
+-- the rows with which a new range begins, the configuration of the range that has them, and by place the digests of the
 -- clean nodes of their tree
 pub record Basis : Type 0 where
   pub config : Config
   pub rows : List Row
   pub marks : List (Option (List ℕ))
 
--- the rows are those that the entries of a sound store made
+-- the rows are made by the entries of a sound store
 pub record IsBasis (b : Basis) : Type 0 where
   pub entries : List Entry
   pub sound : IsSound (record { config = b.config; entries = entries; marks = b.marks })

@@ -14,8 +14,8 @@ pub record Replayed : Type 0 where
   pub entries : List Entry
   pub front : ℕ
 
--- the configuration is valid, the entries are of the range, no key ever held over 64 versions, and at most all entries
--- are replayed
+-- the configuration is valid, the entries belong to the range, no key ever held over 64 versions, and at most all
+-- entries are replayed
 pub record IsReplay (r : Replayed) : Type 0 where
   pub config : IsTrue (is_config r.config)
   pub own : AllByRecursion (IsOwn r.config) r.entries

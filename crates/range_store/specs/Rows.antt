@@ -1,4 +1,4 @@
--- The rows of a journal: the paper of 2007, section 4.4, key by key.
+-- The rows of a journal: section 4.4 of the Dynamo paper, key by key.
 use Rattle.std.specs.Prelude.{List, [], ◌∷◌, ℕ, map}
 use Rattle.version_set.specs.Order.{inserted}
 use Rattle.range_journal.specs.declared.journal.Entry.{Entry}

@@ -1,5 +1,5 @@
--- The store of a range, which has no rows in its value, and the results and changes of its calls. Trees are those of
--- the paper of 2007, section 4.7.
+-- The store of a range, which has no rows in its value, and the results and changes of its calls. Trees are as in
+-- section 4.7 of the Dynamo paper.
 use Rattle.std.specs.Prelude.{◌≡◌, ℕ, ◌^◌, Bool, ◌==◌, nat_lt, ◌++◌, List, [], ◌∷◌, length, map, IsTrue, Option, Some, None, if◌then◌else◌, true, false}
 use Rattle.std.specs.List.{list_any, AllByRecursion}
 use Rattle.vclock.specs.Answer.{first_fault}
@@ -59,11 +59,11 @@ entry_of s seat source key v = record { number = length s.entries; seat = seat; 
 abbrev pub journaled : Store → Entry → Store
 journaled s e = record s { entries = s.entries ++ e ∷ []; marks = dirtied s.config.format (leaf_in s.config e.key) s.marks }
 
--- the fault of an entry for which there is no room
+-- the fault of an entry that a full journal refuses
 abbrev pub full_fault : Store → Option Refusal
 full_fault s = if nat_lt (length s.entries) s.config.limit then None else Some JournalFull
 
--- a version is covered by those accepted for its key
+-- a version is covered by the accepted versions of its key
 abbrev pub knows : Store → List ℕ → Version → Bool
 knows s key v = covered v (accepted s.entries key)
 
@@ -77,7 +77,7 @@ admit s e = do
   full_fault s
   gives e (journaled s e)
 
--- a version that was made elsewhere is known, or is an entry from then on
+-- a version that was made elsewhere is known, or becomes an entry
 abbrev pub accept : Store → ℕ → Source → List ℕ → Version → Outcome Accepted Store
 accept s seat source key v = do
   place_fault s.config key v.kind v.value
@@ -90,11 +90,11 @@ accept s seat source key v = do
 abbrev pub put_version : ℕ → Pairs → Kind → List ℕ → Version
 put_version at context kind value = record { clock = raised context at; kind = kind; value = value }
 
--- the fault of a clock that cannot be put at a key: some held version has seen everything that it has
+-- the fault of a clock that cannot be put at a key: some held version has seen everything that the clock has
 abbrev pub stale_fault : List Version → Pairs → Option Refusal
 stale_fault versions clock = if list_any (λ v. at_most clock v.clock) versions then Some (StaleContext (map (λ v. v.clock) versions)) else None
 
--- the fault of a put before its clock is compared with those held
+-- the fault of a put before its clock is compared with the held clocks
 abbrev pub ask_fault : Config → ℕ → List ℕ → Pairs → Kind → List ℕ → Option Refusal
 ask_fault c at key context kind value = first_fault (place_fault c key kind value) (raise_fault context at)
 
@@ -102,7 +102,7 @@ ask_fault c at key context kind value = first_fault (place_fault c key kind valu
 abbrev pub put_entry : Store → ℕ → ℕ → List ℕ → Pairs → Kind → List ℕ → Entry
 put_entry s seat at key context kind value = entry_of s seat Client key (put_version at context kind value)
 
--- a value that is put at a node is an entry from then on
+-- a value that is put at a node becomes an entry
 abbrev pub put : Store → ℕ → ℕ → List ℕ → Pairs → Kind → List ℕ → Outcome Entry Store
 put s seat at key context kind value = do
   place_fault s.config key kind value
@@ -137,11 +137,11 @@ pub record IsOwn (c : Config) (e : Entry) : Type 0 where
   pub value : value_fault c.format e.version.kind e.version.value ≡ None
   pub here : range_at c.bits e.key ≡ c.range
 
--- the tree that the marks are of
+-- the tree of the marks
 abbrev pub tree_of : Store → Tree
 tree_of s = record { format = s.config.format; digests = s.marks }
 
--- the facts of each store: the entries are of the range, each was new when it was accepted, no key ever held over 64
+-- the facts of each store: the entries belong to the range, each was new when it was accepted, no key ever held over 64
 -- versions, each row has a text, the children of a clean node are clean, and each clean node has the digest of its text
 -- for the rows now
 pub record IsSound (s : Store) : Type 0 where

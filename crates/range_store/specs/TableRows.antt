@@ -1,4 +1,4 @@
--- The table of a range: what is held, by key.
+-- The table of a range: the held versions, by key.
 use Rattle.std.specs.Prelude.{◌≡◌, ℕ, List}
 use Rattle.std.specs.List.{AllByRecursion}
 use Rattle.vclock.specs.declared.format.Format.TheVariants.{Two}
@@ -10,12 +10,13 @@ use Rattle.hash_tree.specs.Leaves.{versions_in}
 use Rattle.row_table.specs.declared.table.TableRow.{TableRow}
 use Rattle.row_table.specs.Tables.{set_in}
 
--- a leaf is that of a key in format 2, and the key is of a range
+-- a leaf is a key's in format 2, and the key belongs to a range
 pub record IsHome (bits range : ℕ) (key : List ℕ) (leaf : ℕ) : Type 0 where
   pub leaf_is : leaf ≡ leaf_at Two bits key
   pub here : range_at bits key ≡ range
 
--- the table has the versions that are held for each key, and each row has the leaf of its key, which is of the range
+-- the table has the versions that are held for each key, and each row has the leaf of its key, which belongs to the
+-- range
 pub record IsTableOf (bits range : ℕ) (entries : List Entry) (rows : List TableRow) : Type 0 where
   pub sets : (key : List ℕ) → set_in rows key ≡ held entries key
   pub homes : AllByRecursion (λ (r : TableRow). IsHome bits range r.key r.leaf) rows

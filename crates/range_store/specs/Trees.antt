@@ -1,4 +1,4 @@
--- A range whose tree was rehashed: the paper of 2007, section 4.7.
+-- A range whose tree was rehashed: section 4.7 of the Dynamo paper.
 use Rattle.std.specs.Prelude.{◌≡◌, ℕ, Some, List, Result}
 use Rattle.vclock.specs.declared.refusal.Refusal.{Refusal}
 use Rattle.tree_nodes.specs.Nodes.{kept_digest}
@@ -17,6 +17,6 @@ pub record IsSameRange (s t : Store) : Type 0 where
   pub kept : (place : ℕ) (d : List ℕ) → kept_digest s.marks place ≡ Some d → kept_digest t.marks place ≡ Some d
 
 -- the first `most` of the dirty nodes whose children are clean, or all if there are fewer, are hashed, and nothing else
--- changes; the result is the number of nodes that are dirty then
+-- changes; the result is the number of nodes that are still dirty
 abbrev pub HashesSome : Result ℕ Refusal → ℕ → Store → Store → Type 0
 HashesSome r most s t = (t ≡ record s { marks = t.marks }) × trees.HashesSome r most (tree_in s) (tree_in t)

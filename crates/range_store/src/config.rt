@@ -86,28 +86,28 @@ impl RangeConfig {
         Some(RangeConfig { limit, ..*self })
     }
 
-    /// The format of rows and tree.
+    /// Returns the format of rows and tree.
     pub fn format(&self) -> Format
         ensures { result ≡ self.now.format }
     {
         self.format
     }
 
-    /// The number of bits of a range's number, 0 to 8.
+    /// Returns the number of bits of a range's number, 0 to 8.
     pub fn bits(&self) -> u8
         ensures { result ≡ self.now.bits }
     {
         self.bits
     }
 
-    /// The number of the range, from 0.
+    /// Returns the number of the range, from 0.
     pub fn range(&self) -> u16
         ensures { result ≡ self.now.range }
     {
         self.range
     }
 
-    /// The maximum length of the journal, 1 to 1,000,000 entries.
+    /// Returns the maximum length of the journal, 1 to 1,000,000 entries.
     pub fn limit(&self) -> u64
         ensures limit { result ≡ self.now.limit }
         ensures valid { IsTrue (is_config self.now) }

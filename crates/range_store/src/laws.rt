@@ -31,9 +31,9 @@ pub fn rows_ascend()
     ensures { (entries : List Entry) → AscendByKey (rows_of entries) }
 {}
 
-/// A renewed range holds for each key the versions that the old one holds. So it has the same rows, and refuses the same
-/// clocks of a put as stale. It has at most as many entries, and a range that is renewed once more in the same way is
-/// unchanged. It is right if the old one is.
+/// A renewed range holds the versions of each key that the old one holds, so it has the same rows and refuses the same
+/// clocks of a put as stale. It has at most the old one's number of entries, and renewing it once more in the same way
+/// leaves it unchanged. It is sound if the old one is.
 pub fn renewed_ranges_hold_the_same()
     ensures held { (s : Store) (seat limit : ℕ) (key : List ℕ)
         → held (renewed_by s seat limit).entries key ≡ held s.entries key }
@@ -48,8 +48,8 @@ pub fn renewed_ranges_hold_the_same()
 {}
 
 /// A text of rows is loaded as these rows. Loading the rows of a range's leaves, leaf by leaf, into a new range of its
-/// configuration with a limit, by a seat, isn't refused if the range can be renewed with that limit. It leaves the
-/// journal of the range that is renewed by that seat. All nodes are dirty then. So a range that is saved and loaded is a
+/// configuration with a limit, by a seat, isn't refused if the range can be renewed with that limit. The result has the
+/// journal of the range renewed by that seat, and all its nodes are dirty: a range that is saved and loaded is a
 /// renewed range.
 pub fn loaded_ranges_are_renewed()
     ensures texts { (s : Store) (seat : ℕ) (rows : List Row) → AreRows s.config.format rows
@@ -59,8 +59,8 @@ pub fn loaded_ranges_are_renewed()
         ≡ gives tt (record (renewed_by s seat limit) { marks = all_dirty s.config.format }) }
 {}
 
-/// A put that checks what its client has read is a put. Each version that was held is held still, or the put's context has
-/// seen everything that it has. The new version has a greater counter of the node than any that was accepted for the key.
+/// A put that checks what its client has read is a put. Each held version is still held, or the put's context has seen
+/// everything that it has. The new version has a greater counter of the node than any that was accepted for the key.
 pub fn a_checked_put_replaces_only_what_was_read()
     ensures put { (s t : Store) (seat at : ℕ) (key : List ℕ) (context : Pairs) (kind : Kind) (value : List ℕ)
         (e : Entry) → put_read s seat at key context kind value ≡ gives e t

@@ -1,4 +1,4 @@
-//! The rows of one leaf, as they were read from their texts.
+//! The rows of one leaf, read from their texts.
 ghost use Rattle.std.specs.Prelude.{◌≡◌, ◌<◌, Ok, length, IfOk};
 ghost use Rattle.std.specs.List.{list_all};
 ghost use Rattle.vclock.specs.Answer.{AnswersAtOnce, AnswersOrNoMemory};
@@ -34,12 +34,12 @@ impl Model for LeafRows {
 }
 
 impl LeafRows {
-    /// Reads the rows of one leaf of a range from their texts, one after another in ascending order of key. An empty
-    /// text has no rows.
+    /// Reads the rows of one leaf of a range from their texts, in ascending order of key. Returns no rows for an empty
+    /// text.
     ///
     /// Refused, in order: RowBroken (with the offset in bytes of the first field that isn't whole or breaks its rule),
-    /// OtherRange (a key is of another range, or of another leaf than the first one), NoMemory. Reading allocates, so
-    /// NoMemory may replace any cause.
+    /// OtherRange (a key belongs to another range, or to another leaf than the first key), NoMemory. Reading allocates,
+    /// so NoMemory may replace any cause.
     pub fn read(alloc: Global, config: RangeConfig, text: &[u8]) -> Result<LeafRows, Refusal>
         ensures { AnswersOrNoMemory result (read_fault config (length text.now) (rows_in config.format text.now))
             (λ read. (read.config ≡ config) × (read.leaf ≡ first_leaf config read.rows)
@@ -57,7 +57,7 @@ impl LeafRows {
         self.config
     }
 
-    /// Returns the leaf of the rows: 0 if there are none.
+    /// Returns the leaf of the rows, or 0 without rows.
     pub fn leaf(&self) -> u16
         ensures value { result ≡ self.now.leaf }
         ensures valid { AreLeafRows self.now.config self.now.leaf self.now.rows }
@@ -73,8 +73,8 @@ impl LeafRows {
     }
 }
 
-/// Returns the leaf of rows: 0 if there are none. Refused: OtherRange (a key is of another range, or of another leaf
-/// than the first one).
+/// Returns the leaf of rows, or 0 without rows. Refused: OtherRange (a key belongs to another range, or to another leaf
+/// than the first key).
 fn leaf_of(config: &RangeConfig, rows: &[Row]) -> Result<u16, Refusal>
     ensures leaf { AnswersAtOnce result (apart_fault config.now rows.now) (λ leaf. leaf ≡ first_leaf config.now rows.now) }
     ensures inside { IfOk result (λ leaf. leaf < leaf_count config.now) }
@@ -89,14 +89,14 @@ fn leaf_of(config: &RangeConfig, rows: &[Row]) -> Result<u16, Refusal>
     Ok(leaf)
 }
 
-/// Returns true if the key of each row is of the range and of a leaf.
+/// Returns true if the key of each row belongs to the range and to a leaf.
 fn are_home(config: &RangeConfig, leaf: u16, rows: &[Row]) -> bool
     ensures { result ≡ list_all (λ (r : Row). is_home config.now leaf r.key) rows.now }
 {
     rows.iter().all(|row| is_home(config, leaf, row))
 }
 
-/// Returns true if the key of a row is of the range and of a leaf.
+/// Returns true if the key of a row belongs to the range and to a leaf.
 fn is_home(config: &RangeConfig, leaf: u16, row: &Row) -> bool
     ensures { result ≡ is_home config.now leaf row.now.key }
 {
@@ -110,7 +110,7 @@ pub(crate) fn place_in(config: &RangeConfig, key: &[u8]) -> KeyPlace
     ensures leaf { result.leaf ≡ leaf_in config.now key.now }
     ensures in_tree { result.leaf < leaf_count config.now }
 {
-    // Called for its clause alone: the configuration is valid.
+    // Called only for its clause: the configuration is valid.
     let _valid = config.limit();
     place(config.format(), config.bits(), key)
 }

@@ -1,15 +1,15 @@
-//! The versions of one replica of a range, for one thread: the journal of the accepted versions, the rows that the journal
-//! makes, and the digests of their tree (the paper of 2007, section 4.7). Use it to put, accept and read versions, to load
-//! and renew them, and to migrate their format. It meets no session: those are `range_state`'s.
+//! The versions of one replica of a range, for one thread: the journal of the accepted versions, the rows that the
+//! journal makes, and the digests of their tree (section 4.7 of the Dynamo paper). Use it to put, accept and read
+//! versions, to load and renew them, and to migrate their format. Sessions are in `range_state`.
 //!
 //! - [`config`]: the number of a range, its format, and the limit of its journal.
 //! - [`context_test`]: the tests of a put's context.
 //! - [`receipt`]: the entry that a call journaled, and the outcome of accepting a version.
-//! - [`store`]: the store and its calls: `put`, `accept`, `get`, `versions` and `find`, and `put_into` and `accept_into` for
-//!   receipts in a list; `tree` for rows, texts, jobs and snapshots, and `install`, `rehash`, `rehash_here` and
-//!   `rehash_some` to hash it; `load_rows`, `load_into` and `load_format` for rows as bytes, and `prepare` and
-//!   `accept_batch` for rows of a leaf; `migrate` to format 2; `check_limit` and `renewed` for a new store that begins
-//!   with the versions held, and `basis` to make one beside the puts.
+//! - [`store`]: the store and its calls: `put`, `accept`, `get`, `versions` and `find`, and `put_into` and
+//!   `accept_into` for receipts in a list; `tree` for rows, texts, jobs and snapshots, and `install`, `rehash`,
+//!   `rehash_here` and `rehash_some` to hash it; `load_rows`, `load_into` and `load_format` for rows as bytes, and
+//!   `prepare` and `accept_batch` for rows of a leaf; `migrate` to format 2; `check_limit` and `renewed` for a new
+//!   store that begins with the versions held, and `basis` to make one alongside the puts.
 //! - [`leaf_rows`]: rows of a leaf that were read from bytes.
 //! - [`laws`]: laws proved from the definitions, such as that a renewed range holds the same versions.
 //!

@@ -2,7 +2,7 @@
 
 use range_journal::Entry;
 
-/// The entry that a call journaled, as its caller gets it.
+/// The entry that a call journaled, as its caller receives it.
 pub type Receipt = Entry;
 
 /// The outcome of accepting a version: it was new to the range, or known.

@@ -35,7 +35,7 @@ impl<'a> Model for Rebuild<'a> {
 }
 
 impl<'a> Rebuild<'a> {
-    /// Replays entries until `front` of them are replayed. Refused: NoMemory, and then fewer may be replayed.
+    /// Replays entries until `front` of them are replayed. Refused: NoMemory. On error fewer may be replayed.
     fn advance(&mut self, alloc: Global, front: u64) -> Result<(), Refusal>
         requires later { self.old.front ≤ front }
         requires within { front ≤ length self.old.entries }

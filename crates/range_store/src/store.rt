@@ -40,9 +40,10 @@ pub mod renewal;
 mod table_rows;
 mod tree;
 
-/// The versions of one replica of a range: the journal of those that it accepted; its rows, which are exactly the maximal
-/// versions of the journal, key by key, in the leaves of the range's tree; the digests of the tree's clean nodes, each
-/// that of the node's text for the rows now; and a table, which finds what is held for a key without a search.
+/// The versions of one replica of a range: the journal of the accepted versions; the rows, which are exactly the
+/// maximal versions of the journal, key by key, in the leaves of the range's tree; the digests of the tree's clean
+/// nodes, each the digest of the node's text for the rows now; and a table, which finds the held versions of a key
+/// without a search.
 ///
 /// ```
 /// let context = clock(alloc, context)?;
@@ -89,8 +90,8 @@ impl RangeStore {
         RangeStore::seeded(alloc, config, Seed::default())
     }
 
-    /// Makes a range as `new` does, which hashes keys with a seed to find what is held for them. A seed that nobody can
-    /// guess keeps clients from choosing keys with equal hashes, which would be slow to find. Refused: NoMemory.
+    /// Makes a range like `new` that hashes keys with a seed to find their held versions. A seed that nobody can guess
+    /// keeps clients from choosing keys with equal hashes, which would be slow to find. Refused: NoMemory.
     pub fn seeded(alloc: Global, config: RangeConfig, seed: Seed) -> Result<RangeStore, Refusal>
         ensures { Answers result None (λ store. store ≡ fresh config) }
     {
@@ -102,15 +103,16 @@ impl RangeStore {
         })
     }
 
-    /// The number of the range, its format, and the limit of its journal.
+    /// Returns the number of the range, its format, and the limit of its journal.
     pub fn config(&self) -> RangeConfig
         ensures { result ≡ self.now.config }
     {
         self.config
     }
 
-    /// The journal. Its entries are of this range, and each was new when it was accepted; no key ever held over 64
-    /// versions; the rows that it makes have texts; and the marks of the tree are right for them. Doesn't allocate.
+    /// Returns the journal. Its entries belong to this range, and each was new when it was accepted; no key ever held
+    /// over 64 versions; the rows that it makes have texts; and the marks of the tree are valid for them. Doesn't
+    /// allocate.
     pub fn journal(&self) -> &Journal
         ensures entries { result.now.entries ≡ self.now.entries }
         ensures limit { result.now.limit ≡ self.now.config.limit }
@@ -119,15 +121,15 @@ impl RangeStore {
         &self.journal
     }
 
-    /// The tree: the rows in leaves, their texts, the digests of the clean nodes, jobs of hashing, and snapshots. Doesn't
-    /// allocate.
+    /// Returns the tree: the rows in leaves, their texts, the digests of the clean nodes, jobs of hashing, and
+    /// snapshots. Doesn't allocate.
     pub fn tree(&self) -> &Tree
         ensures { result.now ≡ tree_in self.now }
     {
         &self.tree
     }
 
-    /// The versions that are held for a key, in the order of their texts: empty if the key isn't held. Doesn't
+    /// Returns the versions that are held for a key, in the order of their texts: empty if the key isn't held. Doesn't
     /// allocate.
     pub fn versions(&self, key: &[u8]) -> &[Version]
         ensures held { result.now ≡ held self.now.entries key.now }
@@ -144,7 +146,7 @@ impl RangeStore {
         self.find(key).to_set(alloc)
     }
 
-    /// Returns the versions that are held for a key: by one look into the table, without MD5. Doesn't allocate.
+    /// Returns the versions that are held for a key, by one look into the table, without MD5. Doesn't allocate.
     pub fn find(&self, key: &[u8]) -> Held<'_>
         ensures held { result ≡ held self.now.entries key.now }
         ensures fit { AllByRecursion (λ v. value_fault self.now.config.format v.kind v.value ≡ None)
@@ -156,9 +158,9 @@ impl RangeStore {
     /// Accepts a version that another node sent, as a copy or as a hint. A version that is equal to or below one
     /// accepted before is known, and isn't journaled again.
     ///
-    /// Refused, in order: BadKey, BadValue (of the range's format), OtherRange (the key is of another range); then, if
-    /// the version isn't known, Crowded (the key would hold over 64 versions), JournalFull, NoMemory. On error the
-    /// store is unchanged.
+    /// Refused, in order: BadKey, BadValue (of the range's format), OtherRange (the key belongs to another range);
+    /// then, if the version isn't known, Crowded (the key would hold over 64 versions), JournalFull, NoMemory. On error
+    /// the store is unchanged.
     pub fn accept(
         &mut self,
         alloc: Global,
@@ -179,14 +181,14 @@ impl RangeStore {
     }
 
     /// Puts a value at a node, 1 to 65,535, or a tombstone: the new version's clock is the context with the node's
-    /// counter raised by one (the paper of 2007, section 4.4).
+    /// counter raised by one (section 4.4 of the Dynamo paper).
     ///
-    /// Refused, in order: BadKey, BadValue (of the range's format), OtherRange (the key is of another range), ClockFull
-    /// and CounterFull (the context can't be raised), StaleContext with the clocks that are held (some held version has
-    /// seen everything that the raised clock has; by `ContextTest::Read` also if one has a greater counter of the node
-    /// than the context), Crowded (the key would hold over 64 versions), JournalFull, NoMemory. On error the store is
-    /// unchanged. The raised clock and the list of clocks are allocated, so NoMemory may replace a cause from
-    /// StaleContext on.
+    /// Refused, in order: BadKey, BadValue (of the range's format), OtherRange (the key belongs to another range),
+    /// ClockFull and CounterFull (the context can't be raised), StaleContext with the clocks that are held (some held
+    /// version has seen everything that the raised clock has; by `ContextTest::Read` also if one has a greater counter
+    /// of the node than the context), Crowded (the key would hold over 64 versions), JournalFull, NoMemory. On error
+    /// the store is unchanged. The raised clock and the list of clocks are allocated, so NoMemory may replace a cause
+    /// from StaleContext on.
     pub fn put(
         &mut self,
         alloc: Global,
@@ -219,8 +221,8 @@ impl RangeStore {
         )
     }
 
-    /// Makes the version of a put, and finds the leaf of its key in format 2. Refused as a put that has room in the
-    /// journal is.
+    /// Makes the version of a put, and finds the leaf of its key in format 2. Refused like a put into a journal that
+    /// isn't full.
     fn make_put(
         &self,
         alloc: Global,
@@ -240,7 +242,7 @@ impl RangeStore {
         let (known, held) = self.look_up(key);
         let leaf = self.home(known, key, kind, value.as_slice())?;
         let clock = context.raise(alloc, at)?;
-        // Called for its clause alone: the pairs are those of a clock.
+        // Called only for its clause: the pairs form a clock.
         let _valid = clock.pairs();
         check_context(alloc, test, &held, at, context, &clock)?;
         let version = Version { clock, kind, value };
@@ -279,7 +281,7 @@ impl RangeStore {
     }
 
     /// Returns the leaf of a key in format 2, if a version of that kind and value can be in this range. `known` is the
-    /// leaf, if the key has a row: then the key is of this range.
+    /// leaf, if the key has a row: then the key belongs to this range.
     fn home(
         &self,
         known: Option<u16>,
@@ -322,7 +324,7 @@ impl RangeStore {
             (admit self.old (entry_of self.old seat source key.now version)) }
         ensures list { list.new.items ≡ (if keep then with_put list.old.items result else list.old.items) }
     {
-        // Called for its clause alone: the version's clock is valid.
+        // Called only for its clause: the version's clock is valid.
         let _valid = version.clock.pairs();
         self.journal.reserve(1)?;
         let place = self.table.find(key);
@@ -348,7 +350,7 @@ impl RangeStore {
     }
 }
 
-/// Copies a receipt for a list, and makes room for it there, if `keep` is true. Refused: NoMemory.
+/// Copies a receipt for a list, and reserves capacity for it there, if `keep` is true. Refused: NoMemory.
 fn copy_for(
     list: &mut Vec<Receipt>,
     keep: bool,
@@ -394,7 +396,7 @@ fn fails(test: ContextTest, versions: &[Version], at: u16, context: &Clock, cloc
     }
 }
 
-/// Returns true if some version has a greater counter of a node than the one that was seen.
+/// Returns true if some version has a greater counter of a node than the seen one.
 fn any_is_unread(versions: &[Version], node: u16, seen: u64) -> bool
     ensures { result ≡ list_any (λ v. nat_lt seen (counter v.clock node)) versions.now }
 {

@@ -42,20 +42,28 @@ set_offered v S clock set fits = elim (cases_Bool (covered v S)) [
   | inl known ↦ rw known set
   | inr news ↦
       let room : length (maximal (with_version v S)) ≤ 64 = rw news at (offered_short v S set.short fits) in
-      rw news (rw (maximal-with_version v S set.ascending set.own_maximum news) (grown v S clock set news (omega (arith, room, length-grown v S set news))))
+      rw news (rw (maximal-with_version v S set.ascending set.own_maximum news)
+      (grown v S clock set news (omega (arith, room, length-grown v S set news))))
 ]
 
 -- a row after an offer to its set
-row_offered : (format : Format) (k : List ℕ) (v : Version) (S : List Version) → key_fault k ≡ None → value_fault format v.kind v.value ≡ None → IsClock v.clock → offer_fault v S ≡ None
-    → IsVersionSet S → AllByRecursion (λ (u : Version). value_fault format u.kind u.value ≡ None) S → IsRow format (record { key = k; versions = offered v S })
-row_offered format k v S key value clock fits set each = set_row format (record { key = k; versions = offered v S }) (set_offered v S clock set fits) (fits-offered format k v S key value each)
+row_offered : (format : Format) (k : List ℕ) (v : Version) (S : List Version) → key_fault k ≡ None → value_fault format v.kind v.value ≡ None
+    → IsClock v.clock → offer_fault v S ≡ None
+    → IsVersionSet S → AllByRecursion (λ (u : Version). value_fault format u.kind u.value ≡ None) S
+    → IsRow format (record { key = k; versions = offered v S })
+row_offered format k v S key value clock fits set each =
+    set_row format (record { key = k; versions = offered v S }) (set_offered v S clock set fits) (fits-offered format k v S key value each)
 
 -- Rows still have a text after an offer.
-pub rows_offered : (format : Format) (k : List ℕ) (v : Version) (rows : List Row) → key_fault k ≡ None → value_fault format v.kind v.value ≡ None → IsClock v.clock → offer_fault v (versions_in k rows) ≡ None
+pub rows_offered : (format : Format) (k : List ℕ) (v : Version) (rows : List Row) → key_fault k ≡ None → value_fault format v.kind v.value ≡ None
+    → IsClock v.clock → offer_fault v (versions_in k rows) ≡ None
     → AllByRecursion (IsRow format) rows → AllByRecursion (IsRow format) (with_offer k v rows)
 rows_offered format k v [] key value clock fits all = (row_offered format k v [] key value clock fits no_member tt, tt)
 rows_offered format k v (r ∷ rows) key value clock fits all =
-    elim (key_cmp k r.key) as (λ o. offer_fault v (place_by o [] r.versions (versions_in k rows)) ≡ None → AllByRecursion (IsRow format) (place_by o (record { key = k; versions = offered v [] } ∷ r ∷ rows) (record { key = r.key; versions = offered v r.versions } ∷ rows) (r ∷ with_offer k v rows))) [
+    elim (key_cmp k r.key) as (λ o. offer_fault v (place_by o [] r.versions (versions_in k rows)) ≡ None
+    → AllByRecursion (IsRow format)
+    (place_by o (record { key = k; versions = offered v [] } ∷ r ∷ rows) (record { key = r.key; versions = offered v r.versions } ∷ rows)
+    (r ∷ with_offer k v rows))) [
       | Less ↦ λ f. (row_offered format k v [] key value clock f no_member tt, all)
       | Equal ↦ λ f. (row_offered format r.key v r.versions all.0.key value clock f (row_set format r all.0) (row_fits format r all.0).each, all.1)
       | Greater ↦ λ f. (all.0, rows_offered format k v rows key value clock f all.1)

@@ -1,5 +1,6 @@
 -- A range's tree: what its fields make, and what a change of one leaf leaves of it.
-use Rattle.std.proofs.Common.{◌≡◌, ℕ, ◌<◌, ◌≤◌, ◌^◌, true, false, cond, set, List, [], ◌∷◌, length, map, get_or, replicate, Option, Some, None, refl, sym, ap, subst, ◌∙◌, arith, inl, inr, length-set}
+use Rattle.std.proofs.Common.{◌≡◌, ℕ, ◌<◌, ◌≤◌, ◌^◌, true, false, cond, set, List, [], ◌∷◌, length, map, get_or, replicate, Option, Some, None, refl}
+use Rattle.std.proofs.Common.{sym, ap, subst, ◌∙◌, arith, inl, inr, length-set}
 use Rattle.std.specs.List.{AllByRecursion}
 use Rattle.std.specs.Prelude.{nat_eq}
 use Rattle.std.specs.declared.cmp.Ordering.TheVariants.{Less, Equal, Greater}
@@ -49,13 +50,16 @@ pub key_within : (m : RowMap) (leaves : List Bucket) (leaf : ℕ) (key : List �
 key_within m leaves leaf key are at = omega (arith, are.all, at, leaf_below m.format m.bits key)
 
 -- the leaf of a key, by its index
-pub nth_is : (m : RowMap) (leaves : List Bucket) (leaf : ℕ) (key : List ℕ) → AreLeaves m leaves → leaf ≡ leaf_in m key → nth_leaf leaves leaf ≡ bucket_of m leaf
+pub nth_is : (m : RowMap) (leaves : List Bucket) (leaf : ℕ) (key : List ℕ) → AreLeaves m leaves → leaf ≡ leaf_in m key
+    → nth_leaf leaves leaf ≡ bucket_of m leaf
 nth_is m leaves leaf key are at = are.each leaf (record { format = One; rows = [] }) (omega (arith, at, leaf_below m.format m.bits key))
 
 -- the versions of a key are in its leaf
-pub versions_here : (m : RowMap) (leaf : ℕ) (key : List ℕ) (b : Bucket) → IsRowMap m → leaf ≡ leaf_in m key → b ≡ bucket_of m leaf → versions_in key b.rows ≡ versions_in key m.rows
+pub versions_here : (m : RowMap) (leaf : ℕ) (key : List ℕ) (b : Bucket) → IsRowMap m → leaf ≡ leaf_in m key → b ≡ bucket_of m leaf
+    → versions_in key b.rows ≡ versions_in key m.rows
 versions_here m leaf key b rows at is =
-    ap (λ (x : Bucket). versions_in key x.rows) is ∙ ap (λ (n : ℕ). versions_in key (rows_in_leaf (leaf_in m) n m.rows)) at ∙ versions_in-rows_at (leaf_in m) key m.rows rows.ascending
+    ap (λ (x : Bucket). versions_in key x.rows) is ∙ ap (λ (n : ℕ). versions_in key (rows_in_leaf (leaf_in m) n m.rows)) at
+    ∙ versions_in-rows_at (leaf_in m) key m.rows rows.ascending
 
 -- the leaves are those of the rows
 pub leaves_are : (m : RowMap) (leaves : List Bucket) → AreLeaves m leaves → leaves ≡ leaves_of m
@@ -82,7 +86,8 @@ pub record Makes (t : RangeTree) (format : Format) (bits range : ℕ) (leaves : 
   pub is : shown format bits range leaves marks.digests ≡ t
 
 -- the leaves and the digests of a tree make it
-pub made : (t : RangeTree) (format : Format) (bits range : ℕ) (leaves : List Bucket) (marks : Tree) → IsRangeTree t → AreLeaves t.map leaves → format ≡ t.map.format → bits ≡ t.map.bits → range ≡ t.map.range
+pub made : (t : RangeTree) (format : Format) (bits range : ℕ) (leaves : List Bucket) (marks : Tree) → IsRangeTree t → AreLeaves t.map leaves
+    → format ≡ t.map.format → bits ≡ t.map.bits → range ≡ t.map.range
     → marks ≡ record { format = t.map.format; digests = t.marks } → Makes t format bits range leaves marks
 made t format bits range leaves marks ok are f b r same =
     let map : map_of format bits range leaves ≡ t.map = (λ i. map_of (f i) (b i) (r i) leaves) ∙ map_is t.map leaves ok.rows are in
@@ -95,7 +100,8 @@ made t format bits range leaves marks ok are f b r same =
     }
 
 -- the leaves and the digests of all nodes are a snapshot
-pub snapshot_now : (t : RangeTree) (leaves shared : List Bucket) (digests : List (List ℕ)) → IsRangeTree t → AreLeaves t.map leaves → shared ≡ leaves → map (λ (d : List ℕ). Some d) digests ≡ t.marks → IsSnapshot t.map shared digests
+pub snapshot_now : (t : RangeTree) (leaves shared : List Bucket) (digests : List (List ℕ)) → IsRangeTree t → AreLeaves t.map leaves → shared ≡ leaves
+    → map (λ (d : List ℕ). Some d) digests ≡ t.marks → IsSnapshot t.map shared digests
 snapshot_now t leaves shared digests ok are whole marks = record {
   rows = ok.rows;
   leaves_are = whole ∙ leaves_are t.map leaves are;
@@ -123,12 +129,14 @@ all_dirty-at format place = elim (cases_lt place (node_count format)) [
     none : Option (List ℕ)
     none = None
 
-pub bare_leaves : (f : Format) (bits range : ℕ) (leaves : List Bucket) → leaves ≡ replicate (16 ^ tree_depth f) (record { format = f; rows = [] }) → AreLeaves (bare f bits range).map leaves
+pub bare_leaves : (f : Format) (bits range : ℕ) (leaves : List Bucket) → leaves ≡ replicate (16 ^ tree_depth f) (record { format = f; rows = [] })
+    → AreLeaves (bare f bits range).map leaves
 bare_leaves f bits range leaves is =
     let none : Bucket = record { format = f; rows = [] } in
     record {
       all = ap length is ∙ length-replicate (16 ^ tree_depth f) none ∙ leaves_of_tree f;
-      each = λ i d less. ap (λ (xs : List Bucket). get_or xs i d) is ∙ get_or-replicate (16 ^ tree_depth f) i none d (omega (arith, less, leaves_of_tree f));
+      each = λ i d less. ap (λ (xs : List Bucket). get_or xs i d) is
+          ∙ get_or-replicate (16 ^ tree_depth f) i none d (omega (arith, less, leaves_of_tree f));
     }
 
 -- where no node is clean, none is after a change of a leaf
@@ -137,13 +145,16 @@ unfolding all_dirty dirtied
 still_dirty f leaf =
     let none : Option (List ℕ) = None in
     let xs : List (Option (List ℕ)) = replicate (node_count f) none in
-    let each : (place : ℕ) → kept_digest xs place ≡ cond (is_on_path f leaf place) none (kept_digest xs place) = λ place. elim (is_on_path f leaf place) as (λ b. kept_digest xs place ≡ cond b none (kept_digest xs place)) [ true ↦ fresh-at (node_count f) place | false ↦ refl ] in
+    let each : (place : ℕ) → kept_digest xs place ≡ cond (is_on_path f leaf place) none (kept_digest xs place) = λ place. elim
+    (is_on_path f leaf place) as
+    (λ b. kept_digest xs place ≡ cond b none (kept_digest xs place)) [ true ↦ fresh-at (node_count f) place | false ↦ refl ] in
     sym (fill_by_all (λ place. cond (is_on_path f leaf place) none (kept_digest xs place)) xs (length xs) none refl (λ place less. each place))
 
 -- ---- another leaf
 
 -- a tree after the change of a leaf
-pub changed_right : (t : RangeTree) (leaf : ℕ) (leaves : List Bucket) (m : RowMap) → IsRangeTree t → IsChange t.map leaf leaves m → IsRangeTree (with_rows t leaf m)
+pub changed_right : (t : RangeTree) (leaf : ℕ) (leaves : List Bucket) (m : RowMap) → IsRangeTree t → IsChange t.map leaf leaves m
+    → IsRangeTree (with_rows t leaf m)
 changed_right t leaf leaves m ok change =
     let f = t.map.format in
     let within : leaf < 16 ^ tree_depth f = omega (arith, change.within, leaves_of_tree f) in
@@ -170,29 +181,37 @@ changed_leaves old leaf leaves m change =
     let new : RowMap = record old { rows = m.rows } in
     let b = bucket_of m leaf in
     let are = leaves_are_of old in
-    let each_leaf : (i : ℕ) (d : Bucket) → i < 2 ^ leaf_bits old.format → get_or (set (leaves_of old) leaf b) i d ≡ bucket_of new i = λ i d less. elim (cases_eq i leaf) [
+    let each_leaf : (i : ℕ) (d : Bucket) → i < 2 ^ leaf_bits old.format
+    → get_or (set (leaves_of old) leaf b) i d ≡ bucket_of new i = λ i d less. elim (cases_eq i leaf) [
       | inl same ↦
           subst (λ (j : ℕ). get_or (set (leaves_of old) leaf b) j d ≡ bucket_of new j) (sym same)
           (get_or-set_same (leaves_of old) leaf b d (omega (arith, are.all, change.within)) ∙ ap (λ (x : RowMap). bucket_of x leaf) change.same)
       | inr other ↦
-          get_or-set_other (leaves_of old) leaf i b d other ∙ are.each i d less ∙ ap (λ (rows : List Row). record { format = old.format; rows = rows }) (sym (change.others i other))
+          get_or-set_other (leaves_of old) leaf i b d other ∙ are.each i d less
+          ∙ ap (λ (rows : List Row). record { format = old.format; rows = rows }) (sym (change.others i other))
     ] in
     subst (λ (xs : List Bucket). AreLeaves m xs) (sym change.are)
-    (subst (λ (x : RowMap). AreLeaves x (set (leaves_of old) leaf b)) (sym change.same) (record { all = length-set (leaves_of old) leaf b ∙ are.all; each = each_leaf }))
+    (subst (λ (x : RowMap). AreLeaves x (set (leaves_of old) leaf b)) (sym change.same)
+    (record { all = length-set (leaves_of old) leaf b ∙ are.all; each = each_leaf }))
 
 -- ---- an offer
 
-keys_offered : (P : List ℕ → Type 0) (k : List ℕ) (v : Version) (rows : List Row) → P k → AllByRecursion (λ (r : Row). P r.key) rows → AllByRecursion (λ (r : Row). P r.key) (with_offer k v rows)
+keys_offered : (P : List ℕ → Type 0) (k : List ℕ) (v : Version) (rows : List Row) → P k → AllByRecursion (λ (r : Row). P r.key) rows
+    → AllByRecursion (λ (r : Row). P r.key) (with_offer k v rows)
 keys_offered P k v [] here all = (here, tt)
 keys_offered P k v (r ∷ rows) here all =
-    elim (key_cmp k r.key) as (λ o. AllByRecursion (λ (x : Row). P x.key) (place_by o (record { key = k; versions = offered v [] } ∷ r ∷ rows) (record { key = r.key; versions = offered v r.versions } ∷ rows) (r ∷ with_offer k v rows))) [
+    elim (key_cmp k r.key) as
+    (λ o. AllByRecursion (λ (x : Row). P x.key)
+    (place_by o (record { key = k; versions = offered v [] } ∷ r ∷ rows) (record { key = r.key; versions = offered v r.versions } ∷ rows)
+    (r ∷ with_offer k v rows))) [
       | Less ↦ (here, all)
       | Equal ↦ all
       | Greater ↦ (all.0, keys_offered P k v rows here all.1)
     ]
 
 -- rows after an offer differ in the leaf of its key
-pub offer_changes : (m : RowMap) (leaf : ℕ) (key : List ℕ) (v : Version) → IsRowMap m → leaf ≡ leaf_in m key → range_at m.bits key ≡ m.range → key_fault key ≡ None → value_fault m.format v.kind v.value ≡ None → IsClock v.clock → offer_fault v (versions_in key m.rows) ≡ None
+pub offer_changes : (m : RowMap) (leaf : ℕ) (key : List ℕ) (v : Version) → IsRowMap m → leaf ≡ leaf_in m key → range_at m.bits key ≡ m.range
+    → key_fault key ≡ None → value_fault m.format v.kind v.value ≡ None → IsClock v.clock → offer_fault v (versions_in key m.rows) ≡ None
     → IsChange m leaf (set (leaves_of m) leaf (leaf_with_offer key v (bucket_of m leaf))) (record m { rows = with_offer key v m.rows })
 offer_changes m leaf key v ok at here k value clock room = record {
   rows = record {
@@ -207,14 +226,18 @@ offer_changes m leaf key v ok at here k value clock room = record {
   others = λ i other. rows_kept (leaf_in m) i key v m.rows ok.ascending (λ e. other (e ∙ sym at));
   are =
       ap (λ (rows : List Row). set (leaves_of m) leaf (record { format = m.format; rows = rows }))
-      (sym (rows_at-with_offer (leaf_in m) leaf key v m.rows ok.ascending ∙ cond-true (nat_eq (leaf_in m key) leaf) _ _ (eq-eqb (leaf_in m key) leaf (sym at))));
+      (sym (rows_at-with_offer (leaf_in m) leaf key v m.rows ok.ascending
+      ∙ cond-true (nat_eq (leaf_in m key) leaf) _ _ (eq-eqb (leaf_in m key) leaf (sym at))));
 }
 
 -- a tree after an offer
-pub offered_right : (t : RangeTree) (key : List ℕ) (v : Version) → IsRangeTree t → range_at t.map.bits key ≡ t.map.range → key_fault key ≡ None → value_fault t.map.format v.kind v.value ≡ None → IsClock v.clock → offer_fault v (versions_in key t.map.rows) ≡ None → IsRangeTree (offered_to t key v)
+pub offered_right : (t : RangeTree) (key : List ℕ) (v : Version) → IsRangeTree t → range_at t.map.bits key ≡ t.map.range → key_fault key ≡ None
+    → value_fault t.map.format v.kind v.value ≡ None → IsClock v.clock → offer_fault v (versions_in key t.map.rows) ≡ None
+    → IsRangeTree (offered_to t key v)
 offered_right t key v ok here k value clock room =
     let leaf = leaf_in t.map key in
-    changed_right t leaf (set (leaves_of t.map) leaf (leaf_with_offer key v (bucket_of t.map leaf))) (record t.map { rows = with_offer key v t.map.rows }) ok (offer_changes t.map leaf key v ok.rows refl here k value clock room)
+    changed_right t leaf (set (leaves_of t.map) leaf (leaf_with_offer key v (bucket_of t.map leaf)))
+    (record t.map { rows = with_offer key v t.map.rows }) ok (offer_changes t.map leaf key v ok.rows refl here k value clock room)
 
 -- ---- fields after a change
 
@@ -226,27 +249,37 @@ pub record AreFields (now : RangeTree) (format : Format) (bits range : ℕ) (lea
   pub format_is : marks.format ≡ format
 
 -- fields after the change of a leaf
-pub change_makes : (now : RangeTree) (format : Format) (bits range : ℕ) (leaves : List Bucket) (marks : Tree) (leaf : ℕ) (m : RowMap) (others : List Bucket) (dirty : Tree) → AreFields now format bits range leaves marks → IsChange now.map leaf others m
-    → dirty ≡ record { format = marks.format; digests = dirtied marks.format leaf marks.digests } → Makes (with_rows now leaf m) format bits range others dirty
+pub change_makes : (now : RangeTree) (format : Format) (bits range : ℕ) (leaves : List Bucket) (marks : Tree) (leaf : ℕ) (m : RowMap)
+    (others : List Bucket) (dirty : Tree) → AreFields now format bits range leaves marks → IsChange now.map leaf others m
+    → dirty ≡ record { format = marks.format; digests = dirtied marks.format leaf marks.digests }
+    → Makes (with_rows now leaf m) format bits range others dirty
 change_makes now format bits range leaves marks leaf m others dirty fields change path =
     let s = shown format bits range leaves marks.digests in
     let here : IsChange s.map leaf others m = subst (λ (t : RangeTree). IsChange t.map leaf others m) (sym fields.view) change in
     let same = sym here.same in
     let made_here : Makes (with_rows s leaf m) format bits range others dirty =
-    made (with_rows s leaf m) format bits range others dirty (changed_right s leaf others m fields.right here) (changed_leaves s.map leaf others m here)
+    made (with_rows s leaf m) format bits range others dirty (changed_right s leaf others m fields.right here)
+    (changed_leaves s.map leaf others m here)
     (ap (λ (x : RowMap). x.format) same) (ap (λ (x : RowMap). x.bits) same) (ap (λ (x : RowMap). x.range) same)
-    (path ∙ (λ i. record { format = fields.format_is i; digests = dirtied (fields.format_is i) leaf marks.digests }) ∙ ap (λ (x : RowMap). record { format = x.format; digests = dirtied format leaf marks.digests }) same) in
+    (path ∙ (λ i. record { format = fields.format_is i; digests = dirtied (fields.format_is i) leaf marks.digests })
+    ∙ ap (λ (x : RowMap). record { format = x.format; digests = dirtied format leaf marks.digests }) same) in
     subst (λ (t : RangeTree). Makes (with_rows t leaf m) format bits range others dirty) fields.view made_here
 
 -- fields after an offer
-pub offer_makes : (now : RangeTree) (format : Format) (bits range : ℕ) (leaves : List Bucket) (marks : Tree) (leaf : ℕ) (key : List ℕ) (v : Version) (others : List Bucket) (dirty : Tree) → AreFields now format bits range leaves marks → leaf ≡ leaf_in now.map key
-    → range_at now.map.bits key ≡ now.map.range → key_fault key ≡ None → value_fault now.map.format v.kind v.value ≡ None → IsClock v.clock → offer_fault v (versions_in key now.map.rows) ≡ None
-    → others ≡ set leaves leaf (leaf_with_offer key v (nth_leaf leaves leaf)) → dirty ≡ record { format = marks.format; digests = dirtied marks.format leaf marks.digests } → Makes (offered_to now key v) format bits range others dirty
+pub offer_makes : (now : RangeTree) (format : Format) (bits range : ℕ) (leaves : List Bucket) (marks : Tree) (leaf : ℕ) (key : List ℕ) (v : Version)
+    (others : List Bucket) (dirty : Tree) → AreFields now format bits range leaves marks → leaf ≡ leaf_in now.map key
+    → range_at now.map.bits key ≡ now.map.range → key_fault key ≡ None → value_fault now.map.format v.kind v.value ≡ None → IsClock v.clock
+    → offer_fault v (versions_in key now.map.rows) ≡ None
+    → others ≡ set leaves leaf (leaf_with_offer key v (nth_leaf leaves leaf))
+    → dirty ≡ record { format = marks.format; digests = dirtied marks.format leaf marks.digests }
+    → Makes (offered_to now key v) format bits range others dirty
 offer_makes now format bits range leaves marks leaf key v others dirty fields at here k value clock room all path =
     let ok = subst IsRangeTree fields.view fields.right in
     let are = subst (λ (t : RangeTree). AreLeaves t.map leaves) fields.view fields.leaves_are in
     let m : RowMap = record now.map { rows = with_offer key v now.map.rows } in
     let is : others ≡ set (leaves_of now.map) leaf (leaf_with_offer key v (bucket_of now.map leaf)) =
     all ∙ (λ i. set (leaves_are now.map leaves are i) leaf (leaf_with_offer key v (nth_is now.map leaves leaf key are at i))) in
-    let change : IsChange now.map leaf others m = subst (λ (xs : List Bucket). IsChange now.map leaf xs m) (sym is) (offer_changes now.map leaf key v ok.rows at here k value clock room) in
-    subst (λ (n : ℕ). Makes (with_rows now n m) format bits range others dirty) at (change_makes now format bits range leaves marks leaf m others dirty fields change path)
+    let change : IsChange now.map leaf others m = subst (λ (xs : List Bucket). IsChange now.map leaf xs m) (sym is)
+    (offer_changes now.map leaf key v ok.rows at here k value clock room) in
+    subst (λ (n : ℕ). Makes (with_rows now n m) format bits range others dirty) at
+    (change_makes now format bits range leaves marks leaf m others dirty fields change path)

@@ -1,4 +1,4 @@
--- Jobs of hashing the nodes of a range's tree, and the digests that are installed: the paper of 2007, section 4.7.
+-- Hashing jobs for the nodes of a range's tree, and the digests that are installed (the Dynamo paper, section 4.7).
 use Rattle.std.specs.Prelude.{◌≡◌, ℕ, ◌^◌, Bool, ◌&&◌, nat_eq, nat_le, nat_lt, List, map, take, slice_set, IsTrue, Option, Some, None, if◌then◌else◌}
 use Rattle.std.specs.List.{AllByRecursion}
 use Rattle.std.specs.Cmp.Lexicographic.{pointwise}
@@ -35,7 +35,7 @@ pub record AreJobs (t : RangeTree) (most : ℕ) (jobs : List NodeText) : Type 0 
   pub nodes : map (λ (job : NodeText). place_of job.node) jobs ≡ take most (ready_from t.marks 0)
   pub each : AllByRecursion (IsJob t) jobs
 
--- a node's digest can be that of a text: the tree has the node, its children are clean, and it has that text now
+-- a text is a node's current text: the tree has the node, its children are clean, and it has that text now
 abbrev pub is_current : RangeTree → Node → List ℕ → Bool
 is_current t node text = has_node t node && are_clean (children_of t.marks (place_of node)) && pointwise nat_eq text (text_in t node)
 
@@ -47,6 +47,6 @@ installed t node text = record t { marks = slice_set t.marks (place_of node) (So
 abbrev pub install : RangeTree → Node → List ℕ → Outcome (Unit {0}) RangeTree
 install t node text = if is_current t node text then gives tt (installed t node text) else refuses Stale
 
--- the fault of rows that cannot be offered to another replica: some node has no digest
+-- the fault of rows that can't be offered to another replica: some node has no digest
 abbrev pub dirty_fault : RangeTree → Option Refusal
 dirty_fault t = if are_clean t.marks then None else Some Dirty

@@ -1,4 +1,4 @@
--- Trees that were rehashed: the paper of 2007, section 4.7.
+-- Rehashed trees (the Dynamo paper, section 4.7).
 use Rattle.std.specs.Prelude.{◌≡◌, ℕ, zero, suc, ◌^◌, ◌<◌, ◌++◌, Option, Some, None, is_some, List, map, take, Contains, IsTrue, Result, IfErr, OnOk}
 use Rattle.std.specs.List.{range_with_len}
 use Rattle.vclock.specs.Answer.{Answers}
@@ -12,7 +12,7 @@ use Rattle.range_tree.specs.Trees.{RangeTree}
 abbrev pub level_digests : RowMap → ℕ → ℕ → List (Option (List ℕ))
 level_digests m depth height = map (λ index. Some (node_digest m.format (leaf_in m) m.rows height index)) (range_with_len 0 (16 ^ depth))
 
--- the digests of the nodes of that depth and of those below it
+-- the digests of the nodes of that depth and of the depths below it
 unfoldable pub digests_below : RowMap → ℕ → ℕ → List (Option (List ℕ))
 digests_below m depth zero = level_digests m depth zero
 digests_below m depth (suc height) = level_digests m depth (suc height) ++ digests_below m (suc depth) height
@@ -36,8 +36,8 @@ pub record HasHashed (places : List ℕ) (t u : RangeTree) : Type 0 where
   pub clean : (place : ℕ) → Contains places place → IsTrue (is_some (kept_digest u.marks place))
   pub others : (place : ℕ) → ¬ Contains places place → kept_digest u.marks place ≡ kept_digest t.marks place
 
--- the first `most` of the dirty nodes whose children are clean, or all if there are fewer, are hashed; the result is the
--- number of nodes that are dirty then
+-- the first `most` of the dirty nodes whose children are clean, or all if there are fewer, are hashed; the result is
+-- the number of nodes that are still dirty
 abbrev pub HashesSome : Result ℕ Refusal → ℕ → RangeTree → RangeTree → Type 0
 HashesSome r most t u = Answers r None (λ left. left ≡ dirty_count u.marks) × OnOk r (HasHashed (take most (ready_from t.marks 0)) t u)
     × OnOk r (0 < most → 0 < dirty_count t.marks → dirty_count u.marks < dirty_count t.marks) × IfErr r (λ _. u ≡ t)

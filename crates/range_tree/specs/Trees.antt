@@ -1,4 +1,4 @@
--- The tree of a range: its rows in leaves, and the digests of its clean nodes: the paper of 2007, section 4.7.
+-- The tree of a range: its rows in leaves, and the digests of its clean nodes (the Dynamo paper, section 4.7).
 use Rattle.std.specs.Prelude.{◌≡◌, ◌≢◌, ℕ, ◌<◌, ◌^◌, List, [], length, replicate, slice_index_or, slice_set, Option, None}
 use Rattle.vclock.specs.declared.format.Format.{Format}
 use Rattle.version_set.specs.declared.version.Version.{Version}
@@ -14,7 +14,7 @@ pub record RangeTree : Type 0 where
   pub map : RowMap
   pub marks : List (Option (List ℕ))
 
--- the rows are those of a range, and each clean node has the digest of its text for them
+-- the rows belong to one range, and each clean node has the digest of its text for them
 pub record IsRangeTree (t : RangeTree) : Type 0 where
   pub rows : IsRowMap t.map
   pub marks : IsTreeFor (leaf_in t.map) t.map.rows (record { format = t.map.format; digests = t.marks })
@@ -36,7 +36,7 @@ all_dirty format = replicate (node_count format) None
 abbrev pub bare : Format → ℕ → ℕ → RangeTree
 bare format bits range = record { map = record { format = format; bits = bits; range = range; rows = [] }; marks = all_dirty format }
 
--- the tree with other rows, of which only those of one leaf differ: the leaf is dirty, and so is each node above
+-- the tree with other rows that differ only in one leaf: the leaf is dirty, and so is each node above it
 abbrev pub with_rows : RangeTree → ℕ → RowMap → RangeTree
 with_rows t leaf m = record { map = m; marks = dirtied t.map.format leaf t.marks }
 
@@ -44,7 +44,7 @@ with_rows t leaf m = record { map = m; marks = dirtied t.map.format leaf t.marks
 abbrev pub offered_to : RangeTree → List ℕ → Version → RangeTree
 offered_to t key v = with_rows t (leaf_in t.map key) (record t.map { rows = with_offer key v t.map.rows })
 
--- the leaves of a row map after the change of one, and the rows of them all
+-- the leaves of a row map after a change of one leaf, and the rows of all leaves
 pub record IsChange (old : RowMap) (leaf : ℕ) (leaves : List Bucket) (new : RowMap) : Type 0 where
   pub rows : IsRowMap new
   pub same : new ≡ record old { rows = new.rows }

@@ -1,10 +1,10 @@
-//! The tree of a range (the paper of 2007, section 4.7) as one value: the rows in leaves, and the digests of the clean
-//! nodes, each that of the node's text for the rows now. Use it to change rows and to hash nodes: a change makes the
-//! nodes above it dirty, and only the digest of a text that is still current is installed.
+//! The tree of a range (the Dynamo paper, section 4.7) as one value: the rows in leaves, and the digests of the clean
+//! nodes. A clean node's digest is the digest of its text for the rows now. Use it to change rows and to hash nodes: a
+//! change makes the nodes above it dirty, and only the digest of a text that is still current is installed.
 //!
-//! - [`tree`]: the tree and its calls: `find` and `offer` for versions, `with_leaf` and `change_leaf` for another
+//! - [`tree`]: the tree and its calls: `find` and `offer` for versions, `with_leaf` and `change_leaf` to replace a
 //!   leaf, `rows` and `rows_text` for the rows of a leaf; `take_job`, `take_jobs`, `install`, `digest_at` and
-//!   `dirty_count` for jobs of hashing, `rehash`, `rehash_here` and `rehash_some` for all of it; `snapshot` and
+//!   `dirty_count` for hashing jobs, `rehash`, `rehash_here` and `rehash_some` to hash the whole tree; `snapshot` and
 //!   `kept_snapshot` for other replicas, and `share` for another owner.
 //!
 //! ```

@@ -26,8 +26,8 @@ mod bulk;
 mod jobs;
 mod snapshots;
 
-/// The rows of a range in the leaves of its tree, and the digests of the tree's clean nodes, each that of the node's
-/// text for the rows now. A change of a leaf makes the leaf and the nodes above it dirty.
+/// The rows of a range in the leaves of its tree, and the digests of the tree's clean nodes. A clean node's digest is
+/// the digest of its text for the rows now. A change of a leaf makes the leaf and the nodes above it dirty.
 ///
 /// ```
 /// let home = place(Format::One, 0, key);
@@ -78,7 +78,7 @@ impl Tree {
         })
     }
 
-    /// Makes another owner of the same rows, with a copy of the digests. Copies no row. Refused: NoMemory.
+    /// Makes another owner of the same rows, with a copy of the digests. No row is copied. Refused: NoMemory.
     pub fn share(&self, alloc: Global) -> Result<Tree, Refusal>
         ensures { Answers result None (λ tree. tree ≡ self.now) }
     {
@@ -91,7 +91,7 @@ impl Tree {
         })
     }
 
-    /// Returns a leaf, below 256, or below 4,096 in format 2: its rows in ascending order of key. Doesn't allocate.
+    /// Returns the rows of a leaf, below 256, or below 4,096 in format 2, in ascending order of key. Doesn't allocate.
     pub fn rows(&self, leaf: u16) -> &SharedLeaf
         requires { leaf < 2 ^ leaf_bits self.now.map.format }
         ensures { result.now ≡ bucket_of self.now.map leaf }
@@ -99,8 +99,8 @@ impl Tree {
         self.leaves.get(leaf)
     }
 
-    /// Returns the texts of the rows of a leaf, in ascending order of key, whether the leaf is dirty or not: the text of
-    /// the leaf without its first byte.
+    /// Returns the texts of the rows of a leaf, in ascending order of key, whether the leaf is dirty or not: the text
+    /// of the leaf without its first byte.
     ///
     /// Refused, in order: BadMessage (the tree has no such leaf), NoMemory.
     pub fn rows_text(&self, alloc: Global, leaf: u16) -> Result<Vec<u8>, Refusal>
@@ -116,7 +116,7 @@ impl Tree {
         Ok(text)
     }
 
-    /// Returns the length in bytes of the texts of all rows, at most 2^64 - 1. Reads no row, but each chunk of 15.
+    /// Returns the length in bytes of the texts of all rows, at most 2^64 - 1. Reads each chunk of 15 rows, but no row.
     pub fn rows_len(&self) -> u64
         ensures { result ≡ min (rows_len self.now.map.format self.now.map.rows) (2 ^ 64 - 1) }
     {
@@ -131,8 +131,8 @@ impl Tree {
         Held::new(self.leaves.get(leaf).find(key))
     }
 
-    /// Offers a version to the set of a key of that leaf, which has room for it. The leaf and the nodes above it are
-    /// dirty then. Rows with other owners are copied first.
+    /// Offers a version to the set of a key of that leaf, which has capacity for it, and makes the leaf and the nodes
+    /// above it dirty. Rows with other owners are copied first.
     ///
     /// Refused: NoMemory. On error the tree is unchanged.
     pub fn offer(
@@ -149,15 +149,15 @@ impl Tree {
         requires room { offer_fault version (versions_in key.now self.old.map.rows) ≡ None }
         ensures { Does result self.old self.new (gives tt (offered_to self.old key.now version)) }
     {
-        // Called for its clause alone: the version's clock is valid.
+        // Called only for its clause: the version's clock is valid.
         let _valid = version.clock.pairs();
         self.leaves.offer(alloc, leaf, key, version)?;
         self.marks.dirty(leaf);
         Ok(())
     }
 
-    /// Returns the leaves with another one at an index, below 256, or below 4,096 in format 2. All else is shared with
-    /// the tree, which is unchanged. Refused: NoMemory.
+    /// Returns the leaves with `new` at an index, below 256, or below 4,096 in format 2. The other leaves are shared
+    /// with the tree, which is unchanged. Refused: NoMemory.
     pub fn with_leaf(&self, alloc: Global, leaf: u16, new: SharedLeaf) -> Result<Leaves, Refusal>
         requires { leaf < 2 ^ leaf_bits self.now.map.format }
         ensures { Answers result None (λ leaves. leaves ≡ slice_set (leaves_of self.now.map) leaf new) }
@@ -165,8 +165,8 @@ impl Tree {
         self.leaves.with_leaf(alloc, leaf, new)
     }
 
-    /// Changes to leaves that `with_leaf` made with another leaf at that index, whose rows are of this range. The leaf
-    /// and the nodes above it are dirty then. Doesn't allocate.
+    /// Replaces the leaves by those that `with_leaf` made for that index, whose rows belong to this range. Makes the
+    /// leaf and the nodes above it dirty. Doesn't allocate.
     pub fn change_leaf(&mut self, leaf: u16, leaves: Leaves)
         requires { (m : RowMap) × IsChange self.old.map leaf leaves m }
         ensures { (m : RowMap) → IsChange self.old.map leaf leaves m → self.new ≡ with_rows self.old leaf m }

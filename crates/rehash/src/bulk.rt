@@ -34,8 +34,8 @@ pub fn hash_all(
     Ok(hashed)
 }
 
-/// Runs `run_job` for each job in the caller's thread, and returns the results in order. Refused: NoMemory; the jobs are
-/// then lost.
+/// Runs `run_job` for each job in the caller's thread, and returns the results in order. Refused: NoMemory; the jobs
+/// are then lost.
 pub fn hash_here(alloc: Global, jobs: Vec<Job>) -> Result<Vec<Hashed>, Refusal>
     ensures { Answers result None (λ hashed. hashed.items ≡ map (λ j. j.text) jobs.items) }
 {
@@ -46,7 +46,7 @@ pub fn hash_here(alloc: Global, jobs: Vec<Job>) -> Result<Vec<Hashed>, Refusal>
     Ok(hashed)
 }
 
-/// Returns the least number of jobs that a thread runs: as many as have `PIECE_LEN` bytes, by their mean.
+/// Returns the least number of jobs that a thread runs: `PIECE_LEN` bytes of text, by the mean of all jobs.
 fn least_piece(jobs: &[Job]) -> usize {
     let bytes = jobs
         .iter()

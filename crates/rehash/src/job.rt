@@ -10,7 +10,7 @@ use std::marker::Model;
 use tree_nodes::{Digest, Hashed, NodeAt, Text, hash};
 use vclock::{Format, Refusal};
 
-/// A node whose text is to be hashed, with the source of the text and the room for it. A range makes jobs under its
+/// A node whose text is to be hashed, with the source of the text and a buffer for it. A range makes jobs under its
 /// lock in little time, and their texts are written and hashed without the lock. The result is installed in the range,
 /// which refuses it as Stale if the node has changed since.
 /// ```
@@ -86,7 +86,7 @@ impl Job {
         }
     }
 
-    /// Writes the text into its room. Doesn't allocate.
+    /// Writes the text into its buffer. Doesn't allocate.
     fn into_text(self) -> Vec<u8>
         ensures { result.items ≡ self.text }
     {
@@ -108,8 +108,8 @@ pub fn run_job(job: Job) -> Hashed
     run_job_passing(job, || {})
 }
 
-/// Runs a job as [`run_job`] does, and calls a function once the text is written and before it is hashed, so that a test
-/// can hold a worker there.
+/// Runs a job as [`run_job`] does, and calls a function once the text is written and before it is hashed, so that a
+/// test can hold a worker there.
 pub fn run_job_passing<F: FnOnce()>(job: Job, pass: F) -> Hashed
     requires { F.IsAlwaysCallable pass }
     ensures text { result ≡ job.text }

@@ -1,5 +1,6 @@
 -- The entries that versions bring, which are accepted in their turn.
-use Rattle.std.proofs.Common.{◌≡◌, ℕ, ◌<◌, ◌≤◌, true, false, cond, List, [], ◌∷◌, ◌++◌, length, refl, sym, ap, ◌∙◌, max, arith, append_assoc, length-append}
+use Rattle.std.proofs.Common.{◌≡◌, ℕ, ◌<◌, ◌≤◌, true, false, cond, List, [], ◌∷◌, ◌++◌, length, refl, sym, ap, ◌∙◌, max, arith, append_assoc}
+use Rattle.std.proofs.Common.{length-append}
 use Rattle.std.specs.Prelude.{nat_eq}
 use Rattle.std.specs.List.{AllByRecursion}
 use Rattle.std.proofs.lemmas.Bool.{eqb-true}
@@ -23,25 +24,28 @@ nothing : (seat : ℕ) (source : Source) (xs ys : List Entry) → ys ≡ xs → 
 nothing seat source xs ys same = record { es = []; grown = same ∙ sym (append-nil xs); each = tt }
 
 step : (s : Store) (seat : ℕ) (source : Source) (key : List ℕ) (v : Version) → Brought seat source s.entries (accept_step s seat source key v).entries
-step s seat source key v = elim (knows s key v) as (λ b. Brought seat source s.entries (cond b s (journaled s (entry_of s seat source key v))).entries) [
-  | true ↦ nothing seat source s.entries s.entries refl
-  | false ↦
-      let e = entry_of s seat source key v in
-      record {
-        es = e ∷ [];
-        grown = refl;
-        each = (record { seat_is = refl; source_is = refl; seen_is = omega (arith, length-append s.entries (e ∷ [])) }, tt);
-      }
-]
+step s seat source key v =
+    elim (knows s key v) as (λ b. Brought seat source s.entries (cond b s (journaled s (entry_of s seat source key v))).entries) [
+      | true ↦ nothing seat source s.entries s.entries refl
+      | false ↦
+          let e = entry_of s seat source key v in
+          record {
+            es = e ∷ [];
+            grown = refl;
+            each = (record { seat_is = refl; source_is = refl; seen_is = omega (arith, length-append s.entries (e ∷ [])) }, tt);
+          }
+    ]
 
 then : (seat : ℕ) (source : Source) (xs ys zs : List Entry) → Brought seat source xs ys → Brought seat source ys zs → Brought seat source xs zs
 then seat source xs ys zs a b = record {
   es = a.es ++ b.es;
   grown = b.grown ∙ (ap (λ es. es ++ b.es) a.grown ∙ append_assoc xs a.es b.es);
-  each = both seat source (length zs) a.es b.es (still seat seat source (length ys) (length zs) a.es refl (omega (arith, ap length b.grown, length-append ys b.es)) a.each) b.each;
+  each = both seat source (length zs) a.es b.es
+      (still seat seat source (length ys) (length zs) a.es refl (omega (arith, ap length b.grown, length-append ys b.es)) a.each) b.each;
 }
 
-pub all_brought : (s : Store) (seat : ℕ) (source : Source) (offers : List (List ℕ × Version)) → Brought seat source s.entries (accepted_in s seat source offers).entries
+pub all_brought : (s : Store) (seat : ℕ) (source : Source) (offers : List (List ℕ × Version))
+    → Brought seat source s.entries (accepted_in s seat source offers).entries
 all_brought s seat source [] = nothing seat source s.entries s.entries refl
 all_brought s seat source (o ∷ offers) =
     let t = accept_step s seat source o.0 o.1 in
@@ -54,6 +58,9 @@ reaches seen journal k some = elim (nat_eq k 0) as (λ b. nat_eq k 0 ≡ b → j
   | false ↦ λ is. omega arith
 ] refl
 
-pub seen_up : (seat : ℕ) (source : Source) (seen journal : ℕ) (es : List Entry) → AllByRecursion (IsGain seat source journal) es → AllByRecursion (IsGain seat source (seen_after seen journal (length es))) es
+pub seen_up : (seat : ℕ) (source : Source) (seen journal : ℕ) (es : List Entry) → AllByRecursion (IsGain seat source journal) es
+    → AllByRecursion (IsGain seat source (seen_after seen journal (length es))) es
 seen_up seat source seen journal [] all = tt
-seen_up seat source seen journal (e ∷ es) all = still seat seat source journal (seen_after seen journal (length (e ∷ es))) (e ∷ es) refl (reaches seen journal (length (e ∷ es)) (omega arith)) all
+seen_up seat source seen journal (e ∷ es) all =
+    still seat seat source journal (seen_after seen journal (length (e ∷ es))) (e ∷ es) refl
+    (reaches seen journal (length (e ∷ es)) (omega arith)) all

@@ -41,7 +41,8 @@ first_of_two : (a b : Option Refusal) (e : Refusal) → first_fault a b ≡ Some
 first_of_two (Some f) b e is = inl is
 first_of_two None b e is = inr (refl, is)
 
-pub place_cause : (c : Config) (key : List ℕ) (kind : Kind) (value : List ℕ) (e : Refusal) → place_fault c key kind value ≡ Some e → PlaceCause key kind value e
+pub place_cause : (c : Config) (key : List ℕ) (kind : Kind) (value : List ℕ) (e : Refusal) → place_fault c key kind value ≡ Some e
+    → PlaceCause key kind value e
 place_cause c key kind value e is =
     elim (first_of_two (key_fault key) _ e is) as (λ _. PlaceCause key kind value e) [
       | inl k ↦ let bad : e ≡ BadKey = where_holds _ BadKey e k in of_key bad (let h = k in cc)

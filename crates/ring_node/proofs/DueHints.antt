@@ -24,12 +24,15 @@ is_for owner after k due =
 due_is_for : (owner after : ℕ) (hints : List Kept) → IfSome (next_hint (owner ∷ []) after hints) (IsFor owner after)
 due_is_for owner after [] = tt
 due_is_for owner after (k ∷ hints) =
-    elim (is_due (owner ∷ []) after k) as (λ b. is_due (owner ∷ []) after k ≡ b → IfSome (option_map (λ k. k.hint) (cond b (Some k) (find (is_due (owner ∷ []) after) hints))) (IsFor owner after)) [
+    elim (is_due (owner ∷ []) after k) as
+    (λ b. is_due (owner ∷ []) after k ≡ b
+    → IfSome (option_map (λ k. k.hint) (cond b (Some k) (find (is_due (owner ∷ []) after) hints))) (IsFor owner after)) [
       | true ↦ λ due. is_for owner after k due
       | false ↦ λ due. due_is_for owner after hints
     ] refl
 
 -- what is found for an owner is for it
-pub found_is_for : (owner after : ℕ) (hints : List Kept) (r : Result (Option Hint) Refusal) → Answers r None (λ found. found ≡ next_hint (owner ∷ []) after hints) → IfOk r (λ found. IfSome found (IsFor owner after))
+pub found_is_for : (owner after : ℕ) (hints : List Kept) (r : Result (Option Hint) Refusal)
+    → Answers r None (λ found. found ≡ next_hint (owner ∷ []) after hints) → IfOk r (λ found. IfSome found (IsFor owner after))
 found_is_for owner after hints (Ok found) a = subst (λ (o : Option Hint). IfSome o (IsFor owner after)) (sym a.1) (due_is_for owner after hints)
 found_is_for owner after hints (Err e) a = tt

@@ -41,7 +41,8 @@ pub gains_loaded : (l m : Locked) (p q : PassView) (text : List ℕ) (a : Loaded
 gains_loaded l m p q text a h =
     let s = l.state.store in
     let after = λ (one : Loaded × Store). gives one.0 (after_load l p (with_store l.state one.1)) in
-    let g = given (load_text s p.seat text) after a (m, q) (within (with_store l.state) (load_text s p.seat text) (λ one. gives one.0 (after_load l p one.1)) ∙ h) in
+    let g = given (load_text s p.seat text) after a (m, q)
+    (within (with_store l.state) (load_text s p.seat text) (λ one. gives one.0 (after_load l p one.1)) ∙ h) in
     let of = of_rows s p.seat (length text) (rows_in s.config.format text) g.first g.between g.gave in
     let gave = load_gives s p.seat of.rows g.first g.between of.gave in
     let brought = all_brought s p.seat Copy (offers_of of.rows) in
@@ -54,7 +55,8 @@ gains_loaded l m p q text a h =
     let shown : q ≡ with_receipts p (length t.entries) (drop (length s.entries) t.entries) = sym (ap (λ (x : Locked × PassView). x.1) end.1) in
     let pass : q ≡ with_receipts p (length t.entries) es = shown ∙ ap (with_receipts p (length t.entries)) came in
     let count : a.taken ≡ length es = omega (arith, ap (λ (x : Loaded). x.taken) (sym same ∙ gave.0), ap length grown, length-append s.entries es) in
-    let each = subst (λ (xs : List Entry). AllByRecursion (IsGain p.seat Copy (length xs)) es) (sym (ap (λ (x : Store). x.entries) gave.1)) brought.each in
+    let each = subst (λ (xs : List Entry). AllByRecursion (IsGain p.seat Copy (length xs)) es)
+    (sym (ap (λ (x : Store). x.entries) gave.1)) brought.each in
     let seen : q.seen ≡ seen_after p.seen (length t.entries) (length es) = ap (λ (x : PassView). x.seen) pass in
     record {
       gained = es;
@@ -68,12 +70,14 @@ gains_loaded l m p q text a h =
     }
 
 -- a load that was not refused
-pub gains_kept : (l m : Locked) (p q : PassView) (text : List ℕ) (r : Result Loaded Refusal) → DoesOrNoMemory r (l, p) (m, q) (load_text_in l p text) → IfOk r (λ (a : Loaded). Gains p q Copy a.taken)
+pub gains_kept : (l m : Locked) (p q : PassView) (text : List ℕ) (r : Result Loaded Refusal) → DoesOrNoMemory r (l, p) (m, q) (load_text_in l p text)
+    → IfOk r (λ (a : Loaded). Gains p q Copy a.taken)
 gains_kept l m p q text (Ok a) h = gains_loaded l m p q text a h
 gains_kept l m p q text (Err e) h = tt
 
 -- a load of rows that were read is that of their text
-pub did_text : (l m : Locked) (p q : PassView) (text : List ℕ) (config : Config) (rows : List Row) (r : Result Loaded Refusal) → config ≡ l.state.store.config → rows_in config.format text ≡ Ok rows
+pub did_text : (l m : Locked) (p q : PassView) (text : List ℕ) (config : Config) (rows : List Row) (r : Result Loaded Refusal)
+    → config ≡ l.state.store.config → rows_in config.format text ≡ Ok rows
     → DoesOrNoMemory r (l, p) (m, q) (load_in l p rows) → DoesOrNoMemory r (l, p) (m, q) (load_text_in l p text)
 did_text l m p q text config rows r same read h =
     let here = ap (λ (x : Config). rows_in x.format text) (sym same) ∙ read in

@@ -5,7 +5,8 @@ use Rattle.vclock.specs.declared.refusal.Refusal.{Refusal}
 use Rattle.vclock.specs.Outcome.{Outcome, gives, refuses, is_given, through, ◌>>=◌, ◌>>◌}
 
 -- a step after a call on a part
-pub within : {A B R Q S : Type 0} (whole : R → Q) (o : Outcome A R) (rest : A × Q → Outcome B S) → (o >>= λ p. rest (p.0, whole p.1)) ≡ (through whole o >>= rest)
+pub within : {A B R Q S : Type 0} (whole : R → Q) (o : Outcome A R) (rest : A × Q → Outcome B S)
+    → (o >>= λ p. rest (p.0, whole p.1)) ≡ (through whole o >>= rest)
 within whole (gives x s) rest = refl
 within whole (refuses e) rest = refl
 
@@ -25,11 +26,13 @@ not_both (gives y t) e all is = absurd (cc)
 not_both (refuses f) e all is = absurd (cc)
 
 -- a step after which nothing is refused is the one that was
-pub refused : {A B R S : Type 0} (o : Outcome A R) (rest : A × R → Outcome B S) (e : Refusal) → ((p : A × R) → IsTrue (is_given (rest p))) → (o >>= rest) ≡ refuses e → o ≡ refuses e
+pub refused : {A B R S : Type 0} (o : Outcome A R) (rest : A × R → Outcome B S) (e : Refusal) → ((p : A × R) → IsTrue (is_given (rest p)))
+    → (o >>= rest) ≡ refuses e → o ≡ refuses e
 refused (gives x s) rest e all is = absurd (not_both (rest (x, s)) e (all (x, s)) is)
 refused (refuses f) rest e all is = cc
 
 -- a call that was refused at a cause, or after it
-pub first_cause : {T S : Type 0} (cause : Option Refusal) (rest : Outcome T S) (e : Refusal) → (cause >> rest) ≡ refuses e → (cause ≡ Some e) ⊎ ((cause ≡ None) × (rest ≡ refuses e))
+pub first_cause : {T S : Type 0} (cause : Option Refusal) (rest : Outcome T S) (e : Refusal) → (cause >> rest) ≡ refuses e
+    → (cause ≡ Some e) ⊎ ((cause ≡ None) × (rest ≡ refuses e))
 first_cause None rest e is = inr (refl, is)
 first_cause (Some f) rest e is = inl (cc)

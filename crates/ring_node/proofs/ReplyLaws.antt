@@ -16,14 +16,16 @@ use Rattle.ring_node.specs.declared.server.ServerReply.TheVariants.{Bytes, Gone,
 use Rattle.ring_node.proofs.CauseLaws.{where_fails}
 
 -- an ask is too deep for the tree that was offered
-pub too_deep : (o : Option Offered) (p : Offered) (node : Node) → o ≡ Some p → tree_depth p.rows.format < node.depth → text_fault o node ≡ Some refusals.BadMessage
+pub too_deep : (o : Option Offered) (p : Offered) (node : Node) → o ≡ Some p → tree_depth p.rows.format < node.depth
+    → text_fault o node ≡ Some refusals.BadMessage
 too_deep o p node is deep = rw is (grind (arith, nat_tests))
 
 -- what a pool answers to an ask, at some moment
 abbrev pub Served : Ask → Answer → Type 0
 Served ask a = FoundAtSomeMoment AreOffers (λ o. Answers (Ok a) (serve_fault o ask) (IsAnswerIn o ask))
 
-pub replied : (asked : List ℕ) (ask : Ask) (a : Answer) (r : ServerReply) → message_text (messages.Ask ask) ≡ asked → Served ask a → IsEncoded (messages.Answer a) r → RepliesAsk asked r
+pub replied : (asked : List ℕ) (ask : Ask) (a : Answer) (r : ServerReply) → message_text (messages.Ask ask) ≡ asked → Served ask a
+    → IsEncoded (messages.Answer a) r → RepliesAsk asked r
 replied asked ask a (Bytes bytes) asks served says = record {
   state = served.state;
   right = served.right;
@@ -36,7 +38,8 @@ none_kept : (o : Option Offered) (node : Node) → text_fault o node ≡ Some re
 none_kept None node is = refl
 none_kept (Some p) node is = absurd (let clash : refusals.Gone ≡ refusals.BadMessage = where_fails _ refusals.BadMessage refusals.Gone is in cc)
 
-pub gone : (asked : List ℕ) (ask : Ask) → message_text (messages.Ask ask) ≡ asked → FoundAtSomeMoment AreOffers (λ o. Answers {T = Answer} (Err refusals.Gone) (serve_fault o ask) (IsAnswerIn o ask))
+pub gone : (asked : List ℕ) (ask : Ask) → message_text (messages.Ask ask) ≡ asked
+    → FoundAtSomeMoment AreOffers (λ o. Answers {T = Answer} (Err refusals.Gone) (serve_fault o ask) (IsAnswerIn o ask))
     → FoundAtSomeMoment AreOffers (λ o. IsGoneIn o asked)
 gone asked ask asks served = record {
   state = served.state;

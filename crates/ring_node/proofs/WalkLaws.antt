@@ -1,11 +1,13 @@
 -- What a pass gains by a partner's text, and why a sync worker is refused.
-use Rattle.std.proofs.Common.{◌≡◌, inl, inr, ℕ, ◌+◌, ◌-◌, ◌≤◌, List, length, Option, Some, None, Result, Ok, Err, sym, ap, subst, ◌∙◌, arith, length-append}
+use Rattle.std.proofs.Common.{◌≡◌, inl, inr, ℕ, ◌+◌, ◌-◌, ◌≤◌, List, length, Option, Some, None, Result, Ok, Err, sym, ap, subst, ◌∙◌, arith}
+use Rattle.std.proofs.Common.{length-append}
 use Rattle.std.specs.Prelude.{IfOk, IfErr, OnErr}
 use Rattle.std.specs.List.{AllByRecursion}
 use Rattle.std.proofs.lemmas.List.{append_cancel_left}
 use Rattle.vclock.specs.Outcome.{Does, through}
 use Rattle.vclock.specs.declared.refusal.Refusal.{Refusal}
-use Rattle.vclock.specs.declared.refusal.Refusal.TheVariants.{Crowded, JournalFull, UnknownSession, NotAsked, WrongDigest, NotCanonical, LinkLost, NoMemory}
+use Rattle.vclock.specs.declared.refusal.Refusal.TheVariants.{Crowded, JournalFull, UnknownSession, NotAsked, WrongDigest, NotCanonical, LinkLost}
+use Rattle.vclock.specs.declared.refusal.Refusal.TheVariants.{NoMemory}
 use Rattle.range_journal.specs.declared.journal.Entry.{Entry}
 use Rattle.range_journal.specs.declared.journal.Source.{Source}
 use Rattle.range_journal.specs.declared.journal.Source.TheVariants.{Partner}
@@ -36,10 +38,12 @@ use Rattle.ring_node.proofs.GainLaws.{some_same}
 abbrev AreBrought : ℕ → List Entry → State → Type 0
 AreBrought seat receipts new = AllByRecursion (IsGain seat Partner (length new.store.entries)) receipts
 
-by_inner : (s : State) (seat id : ℕ) (r : Record) (t : TakenText) (a : AnswerTaken) (new : State) → TakesInner s id r t a new → AreBrought seat a.receipts.items new
+by_inner : (s : State) (seat id : ℕ) (r : Record) (t : TakenText) (a : AnswerTaken) (new : State) → TakesInner s id r t a new
+    → AreBrought seat a.receipts.items new
 by_inner s seat id r t a new took = subst (λ (es : List Entry). AreBrought seat es new) (sym took.receipts) tt
 
-by_leaf : (s : State) (seat id : ℕ) (r : Record) (t : TakenText) (a : AnswerTaken) (new : State) → TakesLeaf s seat id r t a new → AreBrought seat a.receipts.items new
+by_leaf : (s : State) (seat id : ℕ) (r : Record) (t : TakenText) (a : AnswerTaken) (new : State) → TakesLeaf s seat id r t a new
+    → AreBrought seat a.receipts.items new
 by_leaf s seat id r t a new took =
     let b = all_brought s.store seat Partner (offers_of took.rows) in
     let same : a.receipts.items ≡ b.es = append_cancel_left s.store.entries a.receipts.items b.es (took.receipts ∙ b.grown) in
@@ -47,7 +51,8 @@ by_leaf s seat id r t a new took =
     subst (λ (es : List Entry). AreBrought seat es new) (sym same)
     (subst (λ (es : List Entry). AllByRecursion (IsGain seat Partner (length es)) b.es) (sym now) b.each)
 
-by_text : (s : State) (seat id : ℕ) (t : TakenText) (a : AnswerTaken) (new : State) (o : Option Record) → TakesFor s seat id o t (Ok a) new → AreBrought seat a.receipts.items new
+by_text : (s : State) (seat id : ℕ) (t : TakenText) (a : AnswerTaken) (new : State) (o : Option Record) → TakesFor s seat id o t (Ok a) new
+    → AreBrought seat a.receipts.items new
 by_text s seat id t a new None took = absurd (let no : Ok a ≡ Err _ = took.0 in cc)
 by_text s seat id t a new (Some r) took = elim took.1 [
   | inl inner ↦ by_inner s seat id r t a new inner
@@ -64,7 +69,8 @@ gains_kept l m p q id t a is =
     record {
       gained = es;
       count = sym count;
-      each = subst (λ n. AllByRecursion (IsGain p.seat Partner n) es) (sym seen) (seen_up p.seat Partner p.seen (length m.state.store.entries) es brought);
+      each = subst (λ n. AllByRecursion (IsGain p.seat Partner n) es) (sym seen)
+          (seen_up p.seat Partner p.seen (length m.state.store.entries) es brought);
       receipts = ap (λ (x : PassView). x.receipts) pass;
       share = ap (λ (x : PassView). x.share) pass ∙ ap (λ n. p.share + n) (sym count);
       seen = subst (λ n. p.seen ≤ n) (sym seen) (seen_rises p.seen (length m.state.store.entries) (length es));
@@ -84,7 +90,8 @@ take_cause s seat id r t NotCanonical new h = tt
 take_cause s seat id r t NoMemory new h = tt
 take_cause s seat id r t e new h = absurd h.0
 
-refused_for : (s : State) (seat id : ℕ) (t : TakenText) (e : Refusal) (new : State) (o : Option Record) → TakesFor s seat id o t (Err e) new → IsTakeRefusal e
+refused_for : (s : State) (seat id : ℕ) (t : TakenText) (e : Refusal) (new : State) (o : Option Record) → TakesFor s seat id o t (Err e) new
+    → IsTakeRefusal e
 refused_for s seat id t e new None h = let same : e ≡ UnknownSession = let is = h.0 in cc in subst IsTakeRefusal (sym same) tt
 refused_for s seat id t e new (Some r) h = take_cause s seat id r t e new h
 
@@ -95,9 +102,17 @@ pub record TextTells (p q : PassView) (r : Result AnswerCounted Refusal) : Type 
   pub some : GainsSome p q Partner
   pub refusal : IfErr r IsTakeRefusal
 
-pub text_tells : (l m : Locked) (p q : PassView) (id : ℕ) (t : TakenText) (r : Result AnswerCounted Refusal) → TellsAnswer l p id t r m q → TextTells p q r
-text_tells l m p q id t (Ok a) is = let all = gains_kept l m p q id t a is in record { gains = all; same = tt; some = (a.receipts, all); refusal = tt }
-text_tells l m p q id t (Err e) is = record { gains = tt; same = is.2; some = some_same p q Partner is.2; refusal = refused_for l.state p.seat (place_of id l.state.records) t e m.state (record_of id l.state.records) is.0 }
+pub text_tells : (l m : Locked) (p q : PassView) (id : ℕ) (t : TakenText) (r : Result AnswerCounted Refusal) → TellsAnswer l p id t r m q
+    → TextTells p q r
+text_tells l m p q id t (Ok a) is = let all = gains_kept l m p q id t a is in
+    record { gains = all; same = tt; some = (a.receipts, all); refusal = tt }
+text_tells l m p q id t (Err e) is =
+    record {
+      gains = tt;
+      same = is.2;
+      some = some_same p q Partner is.2;
+      refusal = refused_for l.state p.seat (place_of id l.state.records) t e m.state (record_of id l.state.records) is.0;
+    }
 
 -- ---- which refusals do not say that the link failed
 
@@ -111,7 +126,8 @@ take_keeps T before after e is same = same
 
 -- ---- with whom a session is opened
 
-pub session_opened : (Right : Locked → Type 0) (rows : LocalRows) (partner id : ℕ) (offer : Offer) → ChangedAtSomeMoment Right (λ before after. Does (Ok id) before after (through (moved before) (opening rows before.state partner offer)))
+pub session_opened : (Right : Locked → Type 0) (rows : LocalRows) (partner id : ℕ) (offer : Offer)
+    → ChangedAtSomeMoment Right (λ before after. Does (Ok id) before after (through (moved before) (opening rows before.state partner offer)))
     → ChangedAtSomeMoment Right (IsOpeningBy rows id partner)
 session_opened Right rows partner id offer m = record { before = m.before; after = m.after; right = m.right; step = (offer, m.step) }
 

@@ -4,7 +4,7 @@ use Rattle.std.specs.Int.{w32, to_be_bytes}
 use Rattle.ring_node.specs.declared.deed.Deed.{Deed}
 use Rattle.ring_node.specs.declared.deed.Deed.TheVariants.{Change, Cut, Renumber}
 
--- a byte is raised by one, 255 to 0; nothing changes if there is no such byte
+-- a byte is raised by one, 255 to 0; nothing changes if the place is past the end
 abbrev pub changed : List ℕ → ℕ → List ℕ
 changed bytes at = if nat_lt at (length bytes) then slice_set bytes at ((slice_index_or bytes at 0 + 1) % 256) else bytes
 

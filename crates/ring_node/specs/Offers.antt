@@ -1,4 +1,4 @@
--- The offers that a node makes of its snapshots: the paper of 2007, section 4.7. The number of kept offers is this
+-- The offers that a node makes of its snapshots: the Dynamo paper, section 4.7. The number of kept offers is this
 -- project's profile.
 use Rattle.std.specs.Prelude.{◌≡◌, ℕ, ◌+◌, ◌-◌, ◌≤◌, ◌^◌, nat_lt, ◌==◌, List, [], ◌∷◌, ◌++◌, length, drop, find, slice_get, Option, Some, None, MatchOption, if◌then◌else◌}
 use Rattle.std.specs.List.{AllByRecursion}
@@ -27,7 +27,7 @@ pub record Offers : Type 0 where
   pub last : ℕ
   pub kept : List Offered
 
--- The facts that hold whenever the lock is free: at most 16 offers are kept, and the rows of each are right.
+-- The facts that hold whenever the lock is free: at most 16 offers are kept, and the rows of each are valid.
 pub record AreOffers (o : Offers) : Type 0 where
   pub few : length o.kept ≤ 16
   pub right : AllByRecursion (λ (p : Offered). IsRowMap p.rows) o.kept
@@ -58,7 +58,7 @@ publish o m = do
 abbrev pub latest : Offers → Option Offer
 latest o = option_map offer_of (slice_get o.kept (length o.kept - 1))
 
--- the number of offers kept, and that of the newest one
+-- the number of offers kept, and the newest offer's number
 abbrev pub counts_of : Offers → OfferCounts
 counts_of o = record { kept = length o.kept; newest = o.last }
 
@@ -66,7 +66,7 @@ counts_of o = record { kept = length o.kept; newest = o.last }
 abbrev pub kept_under : Offers → ℕ → Option Offered
 kept_under o number = find (λ (p : Offered). p.number == number) o.kept
 
--- the fault of an ask for the text of a node: the offer is not kept, or its tree has no such node
+-- the fault of an ask for the text of a node: the offer is not kept, or its tree does not have the node
 abbrev pub text_fault : Option Offered → Node → Option Refusal
 text_fault None node = Some Gone
 text_fault (Some p) node = answer_fault p.rows node

@@ -23,7 +23,7 @@ pub record IsReceiptOf (seat : ℕ) (source : Source) (key : List ℕ) (version 
   pub key_is : e.key ≡ key
   pub version_is : e.version ≡ version
 
--- the pass got the receipt of that entry alone, and has seen the journal up to it
+-- the pass got only the receipt of that entry, and has seen the journal up to it
 abbrev pub HasReceiptOf : PassView → PassView → Entry → Type 0
 HasReceiptOf p q e = q ≡ with_receipts p (e.number + 1) (e ∷ [])
 
@@ -60,8 +60,8 @@ IsSentRefusal key v JournalFull = key_fault key ≡ None
 IsSentRefusal key v NoMemory = key_fault key ≡ None
 IsSentRefusal key v _ = ⊥
 
--- The pass has one more reading, of these versions of the key: they cover each receipt of the pass for it, and are
--- those of a journal that is at least as long as the part that it had seen.
+-- The pass has one more reading, with these versions of the key: they cover each receipt of the pass for it, and were
+-- held by a journal at least as long as the part that it had seen.
 pub record IsReading (p : PassView) (key : List ℕ) (q : PassView) (versions : List Version) : Type 0 where
   pub journal : ℕ
   pub seen : p.seen ≤ journal

@@ -10,7 +10,7 @@ use Rattle.ring_node.specs.Offers.{Offers, AreOffers, latest, kept_under, IsAnsw
 use Rattle.ring_node.specs.declared.server.ServerReply.{ServerReply}
 use Rattle.ring_node.specs.declared.server.ServerReply.TheVariants.{Bytes, Gone, Refused}
 
--- the message of the newest offer, or Gone if there is no offer
+-- the message of the newest offer, or Gone if none was published
 abbrev pub RepliesOffer : ServerReply → Type 0
 RepliesOffer (Bytes bytes) = FoundAtSomeMoment AreOffers (λ o. MatchOption (latest o) ⊥ (λ offer. bytes.items ≡ message_text (messages.Offer offer)))
 RepliesOffer Gone = FoundAtSomeMoment AreOffers (λ o. latest o ≡ None)
@@ -22,7 +22,7 @@ IsEncoded message (Bytes bytes) = bytes.items ≡ message_text message
 IsEncoded message Gone = ⊥
 IsEncoded message Refused = Unit {0}
 
--- bytes are the message that answers an ask
+-- bytes are the message of an answer to an ask
 pub record IsReplyIn (o : Offers) (asked bytes : List ℕ) : Type 0 where
   pub ask : Ask
   pub answer : Answer
@@ -36,7 +36,7 @@ pub record IsGoneIn (o : Offers) (asked : List ℕ) : Type 0 where
   pub asks : message_text (messages.Ask ask) ≡ asked
   pub gone : kept_under o ask.offer ≡ None
 
--- the message that answers an ask, or Gone if the offer is not kept
+-- the message of an answer to an ask, or Gone if the offer is not kept
 abbrev pub RepliesAsk : List ℕ → ServerReply → Type 0
 RepliesAsk asked (Bytes bytes) = FoundAtSomeMoment AreOffers (λ o. IsReplyIn o asked bytes.items)
 RepliesAsk asked Gone = FoundAtSomeMoment AreOffers (λ o. IsGoneIn o asked)

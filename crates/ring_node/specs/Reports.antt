@@ -12,12 +12,12 @@ use Rattle.caller_pass.specs.Locks.{Locked}
 abbrev pub IsRehashReport : ℕ → RehashReport → Type 0
 IsRehashReport turns r = (r.installed + r.stale + (if r.clean then 1 else 0) ≤ turns) × ((r.clean ≡ false) → r.installed + r.stale ≡ turns)
 
--- the counts are those of the controller
+-- the controller has these counts
 pub record AreCounts (a : Admission) (c : Counts) : Type 0 where
   pub lent : c.lent ≡ a.slots
   pub free : c.free ≡ free_of a
   pub allowance : c.allowance ≡ allowance_of a
 
--- the rows are those of the moment that the range keeps
+-- the rows belong to the moment that the range keeps
 abbrev pub IsSnapshotOfMoment : RowMap → Locked → Type 0
 IsSnapshotOfMoment rows locked = rows ≡ rows_at locked.state.store (front_of locked.state.moment)

@@ -18,7 +18,7 @@ const CAPACITY: usize = 16;
 enum Request {
     /// A request for the newest offer.
     Offer,
-    /// A request for the answer to the ask of these bytes.
+    /// A request for the answer to the ask with these bytes.
     Ask(Vec<u8>),
     /// The end of the requests.
     Stop,
@@ -44,7 +44,7 @@ pub struct ChannelLink {
     failures: u64,
 }
 
-/// A server that answers the asks of a link over channels, in another thread.
+/// A server that replies to the asks of a link over channels, in another thread.
 #[derive(Drop)]
 pub struct ChannelServer {
     alloc: Global,
@@ -114,7 +114,7 @@ impl Link for ChannelLink {
 }
 
 impl ChannelServer {
-    /// Answers from a pool of offers until the link stops the server, or is dropped.
+    /// Replies from a pool of offers until the link stops the server, or is dropped.
     pub fn run<R: Wait>(&self, rt: &R, pool: &OfferPool) {
         for _ in rt.forever() {
             let reply = match self.requests.recv(rt) {

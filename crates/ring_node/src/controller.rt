@@ -17,14 +17,14 @@ pub struct Counts {
     pub lent: u32,
     /// The number of slots that could be lent.
     pub free: u32,
-    /// The number of slots that were lent or could be.
+    /// The number of slots that were lent or could be lent.
     pub allowance: u32,
 }
 
 /// A controller of slots that threads share: a [`Controller`] in a lock.
 ///
-/// A slot can't be dropped, and is part of one controller's ledger. So a program that doesn't return a slot to the
-/// controller that lent it doesn't compile.
+/// A slot can't be dropped, and is part of one controller's ledger. Therefore a program that doesn't return a slot to
+/// the controller that lent it doesn't compile.
 ///
 /// ```
 /// let slot = slots.lend(rt)?;
@@ -85,7 +85,7 @@ impl<L: Ledger> SharedController<L> {
         controller.adjust(now)
     }
 
-    /// Returns the number of lent slots, that of free slots, and their sum, all at one moment. Doesn't allocate.
+    /// Returns the numbers of lent and of free slots, and their sum, all at one moment. Doesn't allocate.
     pub fn counts<R: Wait>(&self, rt: &R) -> Counts
         ensures sum { result.lent + result.free ≡ result.allowance }
         ensures moment { FoundAtSomeMoment IsAdmission (λ state. AreCounts state result) }

@@ -39,7 +39,7 @@ pub struct DeliverReport {
 }
 
 impl DeliverReport {
-    /// The report with the outcome of one more hint.
+    /// Returns the report with the outcome of one more hint.
     fn with(self, answered: HintOutcome) -> DeliverReport
         requires { self.delivered + self.known + self.kept < u64.MAX }
         ensures delivered { result.delivered ≡ self.delivered + taken_count answered }
@@ -63,7 +63,7 @@ enum HintOutcome {
     Taken,
     /// It knew the version.
     Known,
-    /// It refused the version, as with a full journal.
+    /// It refused the version, for example since its journal is full.
     Refused,
 }
 
@@ -72,10 +72,10 @@ enum HintOutcome {
 ///
 /// The owner is offered each version as a hint. The hint is confirmed if the owner journals the version or knows it,
 /// even if another caller confirmed it meanwhile. A hint that the owner refuses by a cause other than NoMemory stays
-/// pending, and is passed over. No two locks are held at once. The slot is the permission to deliver.
+/// pending, and is skipped. No two locks are held at once. The slot is the permission to deliver.
 ///
-/// Refused: Stranger (the owner isn't the range's node: then nothing is done), NoMemory. On error the deliveries made
-/// before stay.
+/// Refused: Stranger (the owner isn't the range's node: nothing is done), NoMemory. On error the deliveries made before
+/// stay.
 #[tactic(auto, using(crate::proofs::GainLaws::gains_none, crate::proofs::GainLaws::gains_more))]
 pub fn deliver<R: Wait, C: Ledger, L: Ledger>(
     rt: &R,

@@ -84,8 +84,8 @@ impl SharedHints {
         hints.confirm(id, delivery)
     }
 
-    /// Drops the delivered hints, and numbers the pending ones anew from 1, in order, as [`HintStore::renewed`] does.
-    /// The caller has the hints alone, so no delivery is in progress.
+    /// Drops the delivered hints, and numbers the pending ones again from 1, in order, as [`HintStore::renewed`] does.
+    /// The caller has exclusive access to the hints, so no delivery is in progress.
     ///
     /// Refused: NoMemory. On error the hints are unchanged.
     pub fn renew<R: Wait>(&mut self, rt: &R, alloc: Global) -> Result<(), Refusal>
@@ -107,7 +107,8 @@ impl SharedHints {
         hints.counts()
     }
 
-    /// Returns the size of the hints, pending or delivered, at one moment, as [`HintStore::bytes`] does. Doesn't allocate.
+    /// Returns the size of the hints, pending or delivered, at one moment, as [`HintStore::bytes`] does. Doesn't
+    /// allocate.
     pub fn bytes<R: Wait>(&self, rt: &R) -> u64
         ensures { FoundAtSomeMoment AreHints (λ hints. result ≡ min (hints_len hints) (2 ^ 64 - 1)) }
     {

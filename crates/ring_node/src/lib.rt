@@ -1,11 +1,11 @@
 //! The parts of a node that its threads share: its hints, the controller of its slots, the ranges that it replicates,
-//! and the offers of its snapshots. Use it to write a node in which puts, rehashing, syncs and deliveries run in
-//! different threads.
+//! and the offers of its snapshots. Use it to write a node whose puts, rehashing, syncs and deliveries run in different
+//! threads.
 //!
 //! Each shared part is a lock around a proved value. A call takes the lock once, for one call of the value, and
-//! releases it. So threads see only whole calls, in some order, and the invariants of the values' types hold for
-//! running threads. No code outside can name the value behind a lock. So a contract says what the call returned, and
-//! that at some moment there was a right value with this outcome.
+//! releases it. Threads see only whole calls, in some order, and the invariants of the values' types hold for running
+//! threads. No code outside can name the value behind a lock. A contract therefore states the result of the call, and
+//! that at some moment there was a valid value with this outcome.
 //!
 //! - [`range`], [`hints`], [`controller`], [`offers`]: the shared parts.
 //! - [`rehasher`], [`moment_worker`], [`syncer`], [`delivery`]: background work, in turns.

@@ -7,7 +7,7 @@ use std::sync::Wait;
 /// The outcome of a call over a link.
 #[derive(Debug, Drop)]
 pub enum Reached {
-    /// The bytes of a message, or anything else that the link made of them.
+    /// The bytes of a message, or other bytes that the link made of them.
     Bytes(Vec<u8>),
     /// Nothing: the link failed.
     Lost,
@@ -36,7 +36,7 @@ pub trait Link {
     fn offer<R: Wait>(&mut self, rt: &R) -> Reached
         ensures { CountsLosses (failed self.old) (failed self.new) result };
 
-    /// Fetches the message that answers an ask, which is sent as the bytes of its message.
+    /// Fetches the answer to an ask. The ask is sent as the bytes of its message.
     fn ask<R: Wait>(&mut self, rt: &R, message: &[u8]) -> Reached
         ensures { CountsLosses (failed self.old) (failed self.new) result };
 }

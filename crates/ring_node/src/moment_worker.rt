@@ -1,4 +1,4 @@
-//! Workers that hash a moment of a range while puts go on.
+//! Workers that hash a moment of a range while puts continue.
 ghost use Rattle.std.specs.Prelude.{◌≡◌, ◌⊎◌, ◌+◌, ◌<◌, ◌≤◌, [], None, Some, IfOk, IfErr, MatchOption};
 ghost use Rattle.std.specs.Arc.{arc_value};
 ghost use Rattle.vclock.specs.Answer.{Answers};
@@ -26,18 +26,19 @@ const JOBS_MAX: usize = 64;
 pub struct MomentReport {
     /// The number of digests that it installed in the moment.
     pub installed: u64,
-    /// The number of digests that were too late: another moment was held by then, or none.
+    /// The number of digests that were too late: the range had another moment by then, or none.
     pub stale: u64,
     /// The snapshot of the moment, to publish: `None` if some node of it had no digest when the turns were used.
     pub snapshot: Option<Arc<Snapshot, Global>>,
 }
 
 impl<L: Ledger> SharedRange<L> {
-    /// Keeps the rows now as the moment of the range, and hashes its dirty nodes, one in each turn, until there are none,
-    /// which uses a turn too, or until the turns are used. Then it makes a snapshot of the moment, if that is whole.
+    /// Keeps the current rows as the moment of the range, and hashes its dirty nodes, one in each turn. It ends when a
+    /// turn finds no dirty node, or when the turns are used. Then it makes a snapshot of the moment, if all its nodes
+    /// have digests.
     ///
-    /// A node's text is written and hashed with no lock held, and the rows of a moment don't change, so puts go on
-    /// meanwhile and make no digest late. A node that no put has changed is clean in the range, too. The worker passes
+    /// A node's text is written and hashed with no lock held, and the rows of a moment don't change, so puts continue
+    /// meanwhile and make no digest late. A node that no put has changed is also clean in the range. The worker passes
     /// the gate as a rehash worker does.
     ///
     /// Refused: NoMemory. On error the digests installed before stay.
@@ -78,8 +79,8 @@ impl<L: Ledger> SharedRange<L> {
         })
     }
 
-    /// Keeps the rows now as the moment of the range, as [`LockedRange::hold_moment`] does. The moment before is freed
-    /// with no lock held. Refused: NoMemory. On error the range is unchanged.
+    /// Keeps the current rows as the moment of the range, as [`LockedRange::hold_moment`] does. The previous moment is
+    /// freed with no lock held. Refused: NoMemory. On error the range is unchanged.
     ///
     /// [`LockedRange::hold_moment`]: caller_pass::LockedRange::hold_moment
     pub fn hold_moment<R: Wait>(&self, rt: &R, alloc: Global) -> Result<(), Refusal>
@@ -89,21 +90,21 @@ impl<L: Ledger> SharedRange<L> {
     {
         let _before = {
             let mut range = self.range.lock(rt);
-            // Called for its clause `valid` alone: the range is right.
+            // Called only for its clause `valid`: the range's invariants hold.
             let _valid = range.store();
             range.hold_moment(alloc)?
         };
         Ok(())
     }
 
-    /// Lets go of the moment, if there is one, and frees it with no lock held. Doesn't allocate.
+    /// Releases the moment, if any, and frees it with no lock held. Doesn't allocate.
     pub fn drop_moment<R: Wait>(&self, rt: &R)
         ensures { ChangedAtSomeMoment (IsLocked L.parts) (λ before after.
             after ≡ moved before (without_moment before.state)) }
     {
         let _moment = {
             let mut range = self.range.lock(rt);
-            // Called for its clause `valid` alone: the range is right.
+            // Called only for its clause `valid`: the range's invariants hold.
             let _valid = range.store();
             range.take_moment()
         };
@@ -111,7 +112,7 @@ impl<L: Ledger> SharedRange<L> {
 
     /// Makes a snapshot of the moment, as [`LockedRange::moment`] does.
     ///
-    /// Refused, in order: Dirty (there is no moment, or some node of it has no digest), NoMemory.
+    /// Refused, in order: Dirty (the range has no moment, or some node of it has no digest), NoMemory.
     ///
     /// [`LockedRange::moment`]: caller_pass::LockedRange::moment
     pub fn moment<R: Wait>(&self, rt: &R, alloc: Global) -> Result<Arc<Snapshot, Global>, Refusal>
@@ -121,13 +122,13 @@ impl<L: Ledger> SharedRange<L> {
             (λ snapshot. IsSnapshotOfMoment (arc_value snapshot) locked)) }
     {
         let range = self.range.lock(rt);
-        // Called for its clause `valid` alone: the range is right.
+        // Called only for its clause `valid`: the range's invariants hold.
         let _valid = range.store();
         range.moment(alloc)
     }
 
-    /// Returns the last of some jobs, or if there are none, of jobs that it takes: `None` if the moment has none. Refused:
-    /// NoMemory.
+    /// Returns the last job of a list. If the list is empty, takes jobs of the moment first, and returns `None` if the
+    /// moment has no job. Refused: NoMemory.
     fn next_moment_job<R: Wait>(
         &self,
         rt: &R,
@@ -145,14 +146,14 @@ impl<L: Ledger> SharedRange<L> {
         Ok(jobs.pop())
     }
 
-    /// Returns jobs of the moment, no more than a worker takes at once.
+    /// Returns jobs of the moment, up to the maximum for one lock.
     fn take_moment_jobs<R: Wait>(&self, rt: &R, alloc: Global) -> Result<Vec<Job>, Refusal>
         ensures refusal { IfErr result (λ e. e ≡ Refusal.NoMemory) }
         ensures moment { FoundAtSomeMoment (IsLocked L.parts)
             (λ locked. IfOk result (λ jobs. AreMomentJobs locked.state.moment 64 jobs.items)) }
     {
         let range = self.range.lock(rt);
-        // Called for its clause `valid` alone: the range is right.
+        // Called only for its clause `valid`: the range's invariants hold.
         let _valid = range.store();
         range.take_moment_jobs(alloc, JOBS_MAX)
     }
@@ -167,7 +168,7 @@ impl<L: Ledger> SharedRange<L> {
         installed.is_ok()
     }
 
-    /// Makes a snapshot of the moment, or returns `None` if it isn't whole. Refused: NoMemory.
+    /// Makes a snapshot of the moment, or returns `None` if some node has no digest. Refused: NoMemory.
     fn whole_moment<R: Wait>(
         &self,
         rt: &R,

@@ -44,7 +44,7 @@ impl Model for KeptOffer {
     ghost view = { λ p. record { number = p.number; rows = arc_value p.snapshot } };
 }
 
-/// The snapshots that were published last, the oldest first, and the number of the newest offer: 0 before the first.
+/// The last snapshots that were published, the oldest first, and the number of the newest offer: 0 before the first.
 #[derive(Drop)]
 struct Offers {
     last: u32,
@@ -72,7 +72,7 @@ impl Offers {
         }
     }
 
-    /// Keeps a snapshot, and returns its offer. If 16 are kept already, the oldest goes to `oldest`.
+    /// Keeps a snapshot, and returns its offer. If 16 are kept already, the oldest is moved to `oldest`.
     ///
     /// Refused, in order: SessionsFull, NoMemory. On error the snapshot isn't kept.
     fn publish(
@@ -106,7 +106,7 @@ impl Offers {
         Some(published.snapshot.offer(published.number))
     }
 
-    /// Returns the number of offers kept, and that of the newest one.
+    /// Returns the number of offers kept, and the newest offer's number.
     fn counts(&self) -> OfferCounts
         ensures { result ≡ counts_of self.now }
     {
@@ -116,8 +116,8 @@ impl Offers {
         }
     }
 
-    /// Finds the snapshot that has the text of an ask, and makes one more owner of it. Refused, in order: Gone,
-    /// BadMessage, NoMemory.
+    /// Finds the snapshot that has the text of an ask, and shares it once more. Refused, in order: Gone, BadMessage,
+    /// NoMemory.
     fn find(&self, ask: Ask) -> Result<Arc<Snapshot, Global>, Refusal>
         ensures { Answers result (serve_fault self.now ask)
             (λ snapshot. MatchOption (kept_under self.now ask.offer) ⊥ (λ p. p.rows ≡ arc_value snapshot)) }
@@ -145,7 +145,7 @@ fn published_as(kept: &[KeptOffer], number: u32) -> Option<&KeptOffer>
     None
 }
 
-/// The offers that a node makes of its snapshots, which threads share (the paper of 2007, section 4.7). Offers are
+/// The offers that a node makes of its snapshots, which threads share (the Dynamo paper, section 4.7). Offers are
 /// numbered from 1. The last 16 are kept, with their snapshots.
 ///
 /// ```
@@ -166,7 +166,7 @@ impl OfferPool {
         }
     }
 
-    /// Publishes a snapshot, and returns its offer. From the 17th on the oldest offer is dropped.
+    /// Publishes a snapshot, and returns its offer. From the 17th on, the oldest offer is dropped.
     ///
     /// Refused, in order: SessionsFull (the last number, 2^32 - 1, was used), NoMemory. On error the snapshot isn't
     /// published.
@@ -182,10 +182,10 @@ impl OfferPool {
         ensures moment { ChangedAtSomeMoment AreOffers
             (λ before after. Does result before after (publish before (arc_value snapshot))) }
     {
-        // It outlives the lock, since the drop of a snapshot walks its leaves.
+        // Outlives the lock, since dropping a snapshot walks its leaves.
         let mut oldest = None;
         let mut offers = self.offers.lock(rt);
-        // Called for its clause `valid` alone: the offers are right.
+        // Called only for its clause `valid`: the offers' invariants hold.
         let _valid = offers.latest();
         offers.publish(snapshot, &mut oldest)
     }
@@ -197,17 +197,17 @@ impl OfferPool {
         self.offers.lock(rt).latest()
     }
 
-    /// Returns the number of offers kept, and that of the newest one, at one moment. Doesn't allocate.
+    /// Returns the number of offers kept, and the newest offer's number, at one moment. Doesn't allocate.
     pub fn counts<R: Wait>(&self, rt: &R) -> OfferCounts
         ensures { FoundAtSomeMoment AreOffers (λ offers. result ≡ counts_of offers) }
     {
         let offers = self.offers.lock(rt);
-        // Called for its clause `valid` alone: the offers are right.
+        // Called only for its clause `valid`: the offers' invariants hold.
         let _valid = offers.latest();
         offers.counts()
     }
 
-    /// Answers an ask: with the text of its node in the tree that was offered.
+    /// Returns the answer to an ask: the text of its node in the tree that was offered.
     ///
     /// Refused, in order: Gone (the offer isn't kept), BadMessage (its tree has no such node), NoMemory.
     pub fn serve<R: Wait>(&self, rt: &R, alloc: Global, ask: Ask) -> Result<Answer, Refusal>
@@ -227,8 +227,8 @@ impl OfferPool {
         })
     }
 
-    /// Answers an outline, which has an ask and an asker's marks: with the bytes of the patch that makes the text of
-    /// the node in the tree that was offered.
+    /// Returns the answer to an outline, which has an ask and an asker's marks: the bytes of the patch that makes the
+    /// text of the node in the tree that was offered.
     ///
     /// Refused, in order: Gone (the offer isn't kept), BadMessage (its tree has no such node), NoMemory.
     pub fn patch<R: Wait>(
@@ -247,14 +247,14 @@ impl OfferPool {
         Ok(Text::from(patch(alloc, &snapshot, ask, marks)?))
     }
 
-    /// Finds the snapshot that has the text of an ask, and makes one more owner of it. Refused, in order: Gone,
-    /// BadMessage, NoMemory.
+    /// Finds the snapshot that has the text of an ask, and shares it once more. Refused, in order: Gone, BadMessage,
+    /// NoMemory.
     fn find<R: Wait>(&self, rt: &R, ask: Ask) -> Result<Arc<Snapshot, Global>, Refusal>
         ensures { FoundAtSomeMoment AreOffers (λ offers. Answers result (serve_fault offers ask)
             (λ snapshot. MatchOption (kept_under offers ask.offer) ⊥ (λ p. p.rows ≡ arc_value snapshot))) }
     {
         let offers = self.offers.lock(rt);
-        // Called for its clause `valid` alone: the offers are right.
+        // Called only for its clause `valid`: the offers' invariants hold.
         let _valid = offers.latest();
         offers.find(ask)
     }

@@ -34,11 +34,11 @@ use std::sync::{Arc, Mutex, Wait};
 use vclock::{Bytes, Clock, Refusal};
 use version_set::{Kind, Version, VersionSet};
 
-/// A node's replica of a range, that threads share: a [`LockedRange`] in a lock.
+/// A node's replica of a range that threads share: a [`LockedRange`] in a lock.
 ///
 /// Contracts see the node. A caller has a pass of the range's ledger, so a pass of another range doesn't compile here.
-/// No call holds two locks, waits for anything while it holds one, or writes or hashes a node's text under it. Under the
-/// lock keys are hashed in three calls alone: those of a partner's new rows, of rows that are read again, and of all
+/// No call holds two locks, waits for anything while it holds one, or writes or hashes a node's text under it. Only
+/// three calls hash keys under the lock: the keys of a partner's new rows, of rows that are read again, and of all
 /// entries in a migration.
 ///
 /// ```
@@ -79,14 +79,14 @@ pub struct NotClosed<L: Ledger> {
     pub refusal: Refusal,
 }
 
-/// A range that was closed and opened again, with its new passes, and with the passes that were handed in.
+/// A range that was closed and opened again, with its new passes and the returned ones.
 #[derive(Drop)]
 pub struct RenewedRange<L: Ledger> {
     /// The new range, of the same node.
     pub range: SharedRange<L>,
     /// Its passes, in the order of their seats.
     pub passes: Vec<Pass<L>>,
-    /// The passes that were handed in, in the order in which they were.
+    /// The returned passes, in the order in which they were given.
     pub kept: Vec<ReturnedPass>,
 }
 
@@ -140,7 +140,7 @@ impl<L: Ledger> SharedRange<L> {
         let test = ContextTest::Fresh;
         let key = HashedKey::placed(key);
         let mut range = self.range.lock(rt);
-        // Called for its clause `valid` alone: the range is right.
+        // Called only for its clause `valid`: the range's invariants hold.
         let _valid = range.store();
         range.put_hashed(alloc, test, pass, node, &key, context, kind, value)
     }
@@ -174,7 +174,7 @@ impl<L: Ledger> SharedRange<L> {
         let test = ContextTest::Read;
         let key = HashedKey::placed(key);
         let mut range = self.range.lock(rt);
-        // Called for its clause `valid` alone: the range is right.
+        // Called only for its clause `valid`: the range's invariants hold.
         let _valid = range.store();
         range.put_hashed(alloc, test, pass, node, &key, context, kind, value)
     }
@@ -203,7 +203,7 @@ impl<L: Ledger> SharedRange<L> {
     {
         let key = HashedKey::placed(key);
         let mut range = self.range.lock(rt);
-        // Called for its clause `valid` alone: the range is right.
+        // Called only for its clause `valid`: the range's invariants hold.
         let _valid = range.store();
         range.accept_hashed(alloc, pass, source, &key, version)
     }
@@ -212,8 +212,8 @@ impl<L: Ledger> SharedRange<L> {
     /// cover each receipt of the pass for the key. The pass keeps them as a reading.
     ///
     /// Refused, in order: Behind (the journal is shorter than the part that the pass has seen; or the held versions
-    /// don't cover a receipt of the pass for the key: then with the number of the first such receipt), NoMemory. On
-    /// error the pass is unchanged. Only a read of this range makes the refusal.
+    /// don't cover a receipt of the pass for the key, with the number of the first such receipt), NoMemory. On error
+    /// the pass is unchanged. Only a read of this range makes the refusal.
     pub fn get<R: Wait>(
         &self,
         rt: &R,
@@ -228,17 +228,18 @@ impl<L: Ledger> SharedRange<L> {
         ensures moment { FoundAtSomeMoment (IsLocked L.parts)
             (λ locked. Does (plainly result) pass.old pass.new (get_in locked pass.old key.now)) }
     {
-        // Before the lock is taken, so that nothing is done under it but the search itself.
+        // Before the lock is taken, so that only the search is done under it.
         let key = HashedKey::new(key);
         pass.index();
         let range = self.range.lock(rt);
-        // Called for its clause `valid` alone: the range is right.
+        // Called only for its clause `valid`: the range's invariants hold.
         let _valid = range.store();
         range.read(alloc, pass, &key)
     }
 
-    /// Copies the versions that are held for a key at one moment, in the order of their texts, for no pass: nothing is
-    /// kept, and it needn't show the caller's own puts. Returns an empty set if the key isn't held. Refused: NoMemory.
+    /// Copies the versions that are held for a key at one moment, in the order of their texts, without a pass: nothing
+    /// is recorded, and the result needn't include the caller's own puts. Returns an empty set if the key isn't held.
+    /// Refused: NoMemory.
     pub fn look<R: Wait>(&self, rt: &R, alloc: Global, key: &[u8]) -> Result<VersionSet, Refusal>
         ensures refusal { IfErr result (λ e. e ≡ Refusal.NoMemory) }
         ensures moment { FoundAtSomeMoment (IsLocked L.parts)
@@ -247,12 +248,12 @@ impl<L: Ledger> SharedRange<L> {
         self.range.lock(rt).store().find(key).to_set(alloc)
     }
 
-    /// Loads rows of one leaf from their texts, as [`LockedRange::load_rows`] does. The pass gets the receipts. The rows
-    /// are read before the lock is taken. If the range was migrated meanwhile, they are read again under the lock.
+    /// Loads rows of one leaf from their texts, as [`LockedRange::load_rows`] does. The pass gets the receipts. The
+    /// rows are read before the lock is taken. If the range was migrated meanwhile, they are read again under the lock.
     ///
-    /// Refused as [`LockedRange::load_rows`] is, in order: RowBroken (with the offset in bytes), OtherRange (a key is of
-    /// another range, or of another leaf than the first one), Crowded, JournalFull, NoMemory, which may replace any
-    /// cause. On error range and pass are unchanged.
+    /// Refused as [`LockedRange::load_rows`] is, in order: RowBroken (with the offset in bytes), OtherRange (a key
+    /// belongs to another range, or to another leaf than the first one), Crowded, JournalFull, NoMemory, which may
+    /// replace any cause. On error range and pass are unchanged.
     pub fn load_rows<R: Wait>(
         &self,
         rt: &R,
@@ -268,8 +269,8 @@ impl<L: Ledger> SharedRange<L> {
         self.load_rows_passing(rt, alloc, &OpenGate, pass, text)
     }
 
-    /// Loads rows as [`SharedRange::load_rows`] does, and passes the gate once the rows are read ([`Step::Read`]), with
-    /// no lock held, so that a test can change the range there.
+    /// Loads rows as [`SharedRange::load_rows`] does, and passes the gate after the rows are read ([`Step::Read`]),
+    /// with no lock held, so that a test can change the range there.
     pub fn load_rows_passing<R: Wait, G: Gate>(
         &self,
         rt: &R,
@@ -307,23 +308,24 @@ impl<L: Ledger> SharedRange<L> {
         ensures { FoundAtSomeMoment (IsLocked L.parts) (λ locked. result ≡ counts_of locked.state) }
     {
         let range = self.range.lock(rt);
-        // Called for its clause `valid` alone: the range is right.
+        // Called only for its clause `valid`: the range's invariants hold.
         let _valid = range.store();
         range.counts()
     }
 
-    /// Returns the size of the rows, of the journal and of what sessions keep in addition, at one moment, as
-    /// [`LockedRange::bytes`] does. Doesn't allocate. Calls of other threads wait meanwhile, for a walk over chunks of 15 rows.
+    /// Returns the size of the rows, of the journal and of the additional data of sessions, at one moment, as
+    /// [`LockedRange::bytes`] does. Doesn't allocate. Calls of other threads wait meanwhile, for a walk over chunks of
+    /// 15 rows.
     pub fn bytes<R: Wait>(&self, rt: &R) -> RangeBytes
         ensures { FoundAtSomeMoment (IsLocked L.parts) (λ locked. result ≡ bytes_of locked.state) }
     {
         let range = self.range.lock(rt);
-        // Called for its clause `valid` alone: the range is right.
+        // Called only for its clause `valid`: the range's invariants hold.
         let _valid = range.store();
         range.bytes()
     }
 
-    /// Makes a snapshot of the rows at one moment with the digests of their tree.
+    /// Makes a snapshot of the rows at one moment, with the digests of their tree.
     ///
     /// Refused, in order: Dirty (some node of the tree has no digest), NoMemory.
     pub fn snapshot<R: Wait>(&self, rt: &R, alloc: Global) -> Result<Arc<Snapshot, Global>, Refusal>
@@ -333,7 +335,7 @@ impl<L: Ledger> SharedRange<L> {
             (λ snapshot. arc_value snapshot ≡ rows_now locked.state.store)) }
     {
         let range = self.range.lock(rt);
-        // Called for its clause `valid` alone: the range is right.
+        // Called only for its clause `valid`: the range's invariants hold.
         let _valid = range.store();
         range.snapshot(alloc)
     }
@@ -347,7 +349,7 @@ impl<L: Ledger> SharedRange<L> {
             Does result before after (through (moved before) (migrate before.state))) }
     {
         let mut range = self.range.lock(rt);
-        // Called for its clause `valid` alone: the range is right.
+        // Called only for its clause `valid`: the range's invariants hold.
         let _valid = range.store();
         range.migrate(alloc)
     }
@@ -368,7 +370,7 @@ impl<L: Ledger> SharedRange<L> {
     {
         let SharedRange { node, range } = self;
         let range = range.into_inner();
-        // Called for its clause `valid` alone: the range is right.
+        // Called only for its clause `valid`: the range's invariants hold.
         let _valid = range.store();
         match range.close(alloc, passes) {
             Ok(closed) => Ok(closed),
@@ -376,9 +378,9 @@ impl<L: Ledger> SharedRange<L> {
         }
     }
 
-    /// Closes the range, and opens it again at the same node as a new one that begins with the versions held, as
+    /// Closes the range, and opens a new one at the same node that begins with the versions held, as
     /// [`LockedRange::renew`] does. The pass of `seat` has the carried entries as receipts, and has seen them; the
-    /// others have none. Takes no lock, since no other thread has the range any more.
+    /// other passes are empty. Takes no lock, since no other thread has the range any more.
     ///
     /// Refused as [`LockedRange::renew`] is, in order: Stranger (a seat has no pass, or the range has no such seat),
     /// BadRing (the limit), JournalFull, Unsettled, NoMemory, which may replace Unsettled. On error range and passes
@@ -402,7 +404,7 @@ impl<L: Ledger> SharedRange<L> {
     {
         let SharedRange { node, range } = self;
         let range = range.into_inner();
-        // Called for its clause `valid` alone: the range is right.
+        // Called only for its clause `valid`: the range's invariants hold.
         let _valid = range.store();
         match range.renew(alloc, passes, seat, limit) {
             Ok(renewed) => Ok(share(node, renewed)),
@@ -411,7 +413,7 @@ impl<L: Ledger> SharedRange<L> {
     }
 }
 
-/// Adds its node to a range that was renewed, which threads share again.
+/// Adds its node to a renewed range, which threads share again.
 fn share<L: Ledger>(node: u16, renewed: Renewed<L>) -> RenewedRange<L>
     requires { 1 ≤ node }
     ensures range { result.range ≡ node }

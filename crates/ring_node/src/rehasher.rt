@@ -1,4 +1,4 @@
-//! Workers that hash a range's tree while puts go on.
+//! Workers that hash a range's tree while puts continue.
 ghost use Rattle.std.specs.Prelude.{◌≡◌, ◌+◌, ◌<◌, IfOk, IfErr, IsTrue};
 ghost use Rattle.tree_nodes.specs.Nodes.{are_clean};
 ghost use Rattle.range_tree.specs.Jobs.{GivesJob};
@@ -28,10 +28,10 @@ pub struct RehashReport {
 }
 
 impl<L: Ledger> SharedRange<L> {
-    /// Hashes dirty nodes, one in each turn, until it finds no dirty node, which uses a turn too, or until the turns
-    /// are used. `skip` is as in `RangeState::take_job`, so that workers take different nodes.
+    /// Hashes dirty nodes, one in each turn, until a turn finds no dirty node, or until the turns are used. `skip` is
+    /// as in `RangeState::take_job`, so that workers take different nodes.
     ///
-    /// A node's text is written and hashed with no lock held, so puts go on meanwhile. A digest that is too late is
+    /// A node's text is written and hashed with no lock held, so puts continue meanwhile. A digest that is too late is
     /// counted, and its node is hashed again in a later turn. The worker passes the gate after it took a job
     /// ([`Step::Taken`]), wrote its text ([`Step::Written`]) and hashed it ([`Step::Hashed`]), with no lock held.
     ///
@@ -76,7 +76,7 @@ impl<L: Ledger> SharedRange<L> {
             (λ locked. IfOk result (GivesJob (tree_in locked.state.store))) }
     {
         let range = self.range.lock(rt);
-        // Called for its clause `valid` alone: the range is right.
+        // Called only for its clause `valid`: the range's invariants hold.
         let _valid = range.store();
         range.take_job(alloc, skip)
     }

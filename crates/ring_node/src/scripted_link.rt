@@ -1,4 +1,4 @@
-//! Links that follow a script, for tests of what a link can do.
+//! Links that follow a script, for tests of faulty links.
 ghost use Rattle.std.specs.Prelude.{◌≡◌};
 ghost use Rattle.ring_node.specs.Links.{CountsLosses};
 
@@ -11,9 +11,9 @@ use tree_nodes::NodeAt;
 use vclock::Refusal;
 use walk_messages::{Ask, Message, encode};
 
-/// A link around another one that does one deed of a list in each call. After the list it passes each message on.
+/// A link around another one. In each call it does one deed of a list. After the list it passes each message on.
 ///
-/// It fails if a deed or the other link fails, or if there is no memory. It counts its failures itself.
+/// It fails if a deed or the other link fails, or if memory runs out. It counts its failures itself.
 ///
 /// ```
 /// let deeds = Vec::from_slice(alloc, deeds)?;

@@ -18,7 +18,7 @@ pub(crate) enum ServerReply {
     Bytes(Vec<u8>),
     /// The pool doesn't have the offer.
     Gone,
-    /// The bytes aren't an ask, or the tree has no such node, or there is no memory.
+    /// The bytes aren't an ask, or the tree doesn't have the node, or memory ran out.
     Refused,
 }
 
@@ -46,7 +46,7 @@ impl OfferPool {
         }
     }
 
-    /// Replies with the message that answers an ask.
+    /// Replies with the message of the answer to an ask.
     pub(crate) fn reply_to<R: Wait>(&self, rt: &R, alloc: Global, message: &[u8]) -> ServerReply
         ensures { RepliesAsk message.now result }
     {

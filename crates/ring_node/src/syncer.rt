@@ -1,4 +1,4 @@
-//! Workers that fetch the versions that a partner has and a range lacks.
+//! Workers that fetch the versions that a partner has and a range doesn't.
 ghost use Rattle.std.specs.Prelude.{◌≡◌, ◌⊎◌, ◌+◌, ◌<◌, ◌≤◌, None, IfOk, IfErr, IfSome, OnErr, MatchOption};
 ghost use Rattle.vclock.specs.Answer.{AnswersAtOnce};
 ghost use Rattle.vclock.specs.Outcome.{Does, through};
@@ -37,9 +37,9 @@ use walk_messages::{Answer, Ask, Message, Offer, decode, encode};
 /// ```
 #[derive(Clone, Copy, Debug, PartialEq, Eq)]
 pub struct SyncReport {
-    /// The number of the session among those of the range.
+    /// The number of the session in the range.
     pub id: u64,
-    /// The state in which the session ended: Finished, Failed or Cancelled.
+    /// The state of the session at its end: Finished, Failed or Cancelled.
     pub state: SessionState,
     /// The number of nodes that the session asked for.
     pub asked: u64,
@@ -59,8 +59,8 @@ struct Walk {
 }
 
 impl Walk {
-    /// The totals after the outcome of an answer: `None` if the session failed by it. Refused as the answer was, except
-    /// that NotAsked and WrongDigest count as a bad message.
+    /// Returns the totals after the outcome of an answer: `None` if the answer made the session fail. Refused as the
+    /// answer was, except that NotAsked and WrongDigest count as a bad message.
     fn after(self, answered: Result<AnswerCounted, Refusal>) -> Result<Option<Walk>, Refusal>
         requires turns { self.bad < u64.MAX }
         requires refusal { IfErr answered IsTakeRefusal }
@@ -95,9 +95,10 @@ impl<L: Ledger> SharedRange<L> {
     /// no node is outstanding or the turns are used. The pass gets the receipts of the new entries. A session that is
     /// open at the end is cancelled. The slot is the permission to sync.
     ///
-    /// The partner isn't trusted. A message that isn't an answer, is of another offer, or is refused as NotAsked or
-    /// WrongDigest counts as bad, and the node is asked for again. A text with the right digest that no node can have
-    /// makes the session fail. The link is asked, and texts are hashed, with no lock held, so puts go on meanwhile.
+    /// The partner isn't trusted. A message that isn't an answer, belongs to another offer, or is refused as NotAsked
+    /// or WrongDigest counts as bad, and the node is asked for again. A text with the right digest that no node can
+    /// have makes the session fail. The link is asked, and texts are hashed, with no lock held, so puts continue
+    /// meanwhile.
     ///
     /// Refused, in order: LinkLost (the link failed), Gone (the partner doesn't have the offer), BadMessage (the
     /// message isn't an offer), OtherFormat, OtherRange, SessionsFull, Dirty (some node of the local tree has no
@@ -126,10 +127,11 @@ impl<L: Ledger> SharedRange<L> {
         self.sync_by(rt, alloc, link, pass, partner, turns, LocalRows::Now)
     }
 
-    /// Syncs as `sync_worker` does, by a session that compares the rows of the moment that the range keeps. So it doesn't
-    /// wait until no node of the tree is dirty; it may ask for a leaf that differs only because the range has gone on.
+    /// Syncs like `sync_worker`, by a session that compares the rows of the moment that the range keeps. It doesn't
+    /// wait until all nodes of the tree are clean, but may ask for a leaf that differs only because the range has
+    /// changed since.
     ///
-    /// Refused as `sync_worker` is; Dirty if there is no moment, or some node of it has no digest.
+    /// Refused as `sync_worker` is; Dirty if the range has no moment, or some node of it has no digest.
     pub fn sync_worker_at_moment<R: Wait, C: Ledger, K: Link>(
         &self,
         rt: &R,
@@ -225,7 +227,7 @@ impl<L: Ledger> SharedRange<L> {
             Does result before after (through (moved before) (open_session before.state partner offer))) }
     {
         let mut range = self.range.lock(rt);
-        // Called for its clause `valid` alone: the range is right.
+        // Called only for its clause `valid`: the range's invariants hold.
         let _valid = range.store();
         range.open_session(alloc, partner, offer)
     }
@@ -243,7 +245,7 @@ impl<L: Ledger> SharedRange<L> {
             Does result before after (through (moved before) (open_at_moment before.state partner offer))) }
     {
         let mut range = self.range.lock(rt);
-        // Called for its clause `valid` alone: the range is right.
+        // Called only for its clause `valid`: the range's invariants hold.
         let _valid = range.store();
         range.open_session_at_moment(alloc, partner, offer)
     }
@@ -294,14 +296,14 @@ impl<L: Ledger> SharedRange<L> {
             MatchOption (record_of id locked.state.records) ⊥ (λ r. IsFirstOf r.session.outstanding first))) }
     {
         let range = self.range.lock(rt);
-        // Called for its clause `valid` alone: the range is right.
+        // Called only for its clause `valid`: the range's invariants hold.
         let _valid = range.store();
         range.outstanding(id)
     }
 
-    /// Takes a partner's answer for a session, as [`LockedRange::take_answer_next`], and returns the first outstanding
-    /// node afterwards, after a refusal, too: `None` if there is no such session. The text is hashed before the lock is
-    /// taken.
+    /// Takes a partner's answer for a session, as [`LockedRange::take_answer_next`] does, and returns the first
+    /// outstanding node afterwards, also after a refusal: `None` if the session is unknown. The text is hashed before
+    /// the lock is taken.
     fn take_answer<R: Wait>(
         &self,
         rt: &R,
@@ -320,7 +322,7 @@ impl<L: Ledger> SharedRange<L> {
     {
         let text = hash(answer.text);
         let mut range = self.range.lock(rt);
-        // Called for its clause `valid` alone: the range is right.
+        // Called only for its clause `valid`: the range's invariants hold.
         let _valid = range.store();
         match range.take_answer_next(alloc, pass, id, answer.node, text) {
             Ok((taken, next)) => (Ok(taken), next),
@@ -328,7 +330,7 @@ impl<L: Ledger> SharedRange<L> {
         }
     }
 
-    /// Ends a session if it is open, and returns how it ended. Refused: UnknownSession.
+    /// Ends a session if it is open, and returns its end. Refused: UnknownSession.
     fn end_session<R: Wait>(&self, rt: &R, id: u64) -> Result<End, Refusal>
         ensures end { IfOk result (λ end. FoundAtSomeMoment (IsLocked L.parts)
             (λ locked. IsEndIn locked.state.records id end.state end.asked)) }
@@ -336,7 +338,7 @@ impl<L: Ledger> SharedRange<L> {
     {
         let mut range = self.range.lock(rt);
         range.cancel_session(id)?;
-        // Called for its clause `valid` alone: the range is right.
+        // Called only for its clause `valid`: the range's invariants hold.
         let _valid = range.store();
         let session = range.record(id)?.session();
         Ok(End {
@@ -358,7 +360,7 @@ fn reach_offer<R: Wait, K: Link>(rt: &R, alloc: Global, link: &mut K) -> Result<
     }
 }
 
-/// Fetches the answer to an ask: `None` if the message isn't an answer, or is of another offer.
+/// Fetches the answer to an ask: `None` if the message isn't an answer, or belongs to another offer.
 fn reach_answer<R: Wait, K: Link>(
     rt: &R,
     alloc: Global,

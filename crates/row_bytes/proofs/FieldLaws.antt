@@ -1,9 +1,11 @@
 -- A field that is read is the field that was written, and what was written is read again.
-use Rattle.std.proofs.Common.{◌≡◌, ℕ, ◌+◌, ◌%◌, ◌^◌, ◌<◌, ◌≤◌, Bool, true, false, cond, ltb, List, [], ◌∷◌, ◌++◌, length, take, drop, Result, Ok, Err, refl, sym, ap, subst, ◌∙◌, append_assoc, arith}
+use Rattle.std.proofs.Common.{◌≡◌, ℕ, ◌+◌, ◌%◌, ◌^◌, ◌<◌, ◌≤◌, Bool, true, false, cond, ltb, List, [], ◌∷◌, ◌++◌, length, take, drop, Result, Ok}
+use Rattle.std.proofs.Common.{Err, refl, sym, ap, subst, ◌∙◌, append_assoc, arith}
 use Rattle.std.specs.Int.{Width, w8, w16, w32, w64, byte_len, from_be_bytes, to_be_bytes}
 use Rattle.std.proofs.lemmas.Bool.{ltb-false, le-ltb}
 use Rattle.std.proofs.lemmas.List.{take_at, drop_at, take-append-drop, length-append, length-take, get_or-drop}
-use Rattle.std.proofs.lemmas.Nat.{be_bytes_2, be_bytes_4, be_bytes_8, from_be_bytes-to_be_bytes_2, from_be_bytes-to_be_bytes_4, from_be_bytes-to_be_bytes_8}
+use Rattle.std.proofs.lemmas.Nat.{be_bytes_2, be_bytes_4, be_bytes_8, from_be_bytes-to_be_bytes_2, from_be_bytes-to_be_bytes_4}
+use Rattle.std.proofs.lemmas.Nat.{from_be_bytes-to_be_bytes_8}
 use Rattle.vclock.proofs.ByteLaws.{IsBytes, IsBytes-take}
 use Rattle.row_bytes.specs.Reading.{◌>>=◌, number_at, field_at, bytes_at}
 
@@ -101,17 +103,26 @@ wide64 = record {
 }
 
 -- a number that was read is spelled so
-number_takes : (w : Width) (limit : ℕ) (wide : IsWide w limit) (bytes : List ℕ) (n : ℕ) (rest : List ℕ) → IsBytes bytes → number_at w bytes ≡ Ok (n, rest) → Takes bytes (to_be_bytes w n) rest × (n < limit)
+number_takes : (w : Width) (limit : ℕ) (wide : IsWide w limit) (bytes : List ℕ) (n : ℕ) (rest : List ℕ) → IsBytes bytes
+    → number_at w bytes ≡ Ok (n, rest) → Takes bytes (to_be_bytes w n) rest × (n < limit)
 number_takes w limit wide bytes n rest fits e =
-    let g = guard_ok (ltb (length bytes) (byte_len w)) (length bytes) (from_be_bytes w (take (byte_len w) bytes), drop (byte_len w) bytes) (n, rest) e in
+    let g = guard_ok (ltb (length bytes) (byte_len w)) (length bytes) (from_be_bytes w (take (byte_len w) bytes), drop (byte_len w) bytes)
+    (n, rest) e in
     let long : byte_len w ≤ length bytes = ltb-false _ _ g.0 in
     let n-is : from_be_bytes w (take (byte_len w) bytes) ≡ n = ap (λ (p : ℕ × List ℕ). p.0) g.1 in
     let rest-is : drop (byte_len w) bytes ≡ rest = ap (λ (p : ℕ × List ℕ). p.1) g.1 in
-    let front : to_be_bytes w n ≡ take (byte_len w) bytes = rw (← n-is) (wide.back (take (byte_len w) bytes) (omega (arith, length-take (byte_len w) bytes)) (IsBytes-take (byte_len w) bytes fits)) in
-    (record { parts = rw (front, ← rest-is) (sym (take-append-drop (byte_len w) bytes)); rest_fits = rw (← rest-is) (IsBytes-drop (byte_len w) bytes fits) }, rw (← n-is) (wide.below (take (byte_len w) bytes) (IsBytes-take (byte_len w) bytes fits)))
+    let front : to_be_bytes w n ≡ take (byte_len w) bytes = rw (← n-is)
+    (wide.back (take (byte_len w) bytes) (omega (arith, length-take (byte_len w) bytes)) (IsBytes-take (byte_len w) bytes fits)) in (
+      record {
+        parts = rw (front, ← rest-is) (sym (take-append-drop (byte_len w) bytes));
+        rest_fits = rw (← rest-is) (IsBytes-drop (byte_len w) bytes fits);
+      },
+      rw (← n-is) (wide.below (take (byte_len w) bytes) (IsBytes-take (byte_len w) bytes fits)),
+    )
 
 -- a number that is spelled so is read
-number_again : (w : Width) (limit : ℕ) (wide : IsWide w limit) (n : ℕ) (rest : List ℕ) → n < limit → number_at w (to_be_bytes w n ++ rest) ≡ Ok (n, rest)
+number_again : (w : Width) (limit : ℕ) (wide : IsWide w limit) (n : ℕ) (rest : List ℕ) → n < limit
+    → number_at w (to_be_bytes w n ++ rest) ≡ Ok (n, rest)
 number_again w limit wide n rest lt =
     let len = wide.len n in
     let long : ltb (length (to_be_bytes w n ++ rest)) (byte_len w) ≡ false = le-ltb _ _ (omega (arith, length-append (to_be_bytes w n) rest)) in
@@ -124,7 +135,8 @@ pub record Field (w : Width) (limit : ℕ) (good : ℕ → Bool) (bytes : List �
   pub passed : good n ≡ true
 
 -- a tested number that was read is spelled so
-pub field_takes : (w : Width) (limit : ℕ) (wide : IsWide w limit) (good : ℕ → Bool) (bytes : List ℕ) (x : ℕ × List ℕ) → IsBytes bytes → field_at w good bytes ≡ Ok x → Field w limit good bytes x.0 x.1
+pub field_takes : (w : Width) (limit : ℕ) (wide : IsWide w limit) (good : ℕ → Bool) (bytes : List ℕ) (x : ℕ × List ℕ) → IsBytes bytes
+    → field_at w good bytes ≡ Ok x → Field w limit good bytes x.0 x.1
 field_takes w limit wide good bytes x fits e =
     let b = bind_ok (number_at w bytes) (λ n. cond (good n.0) (Ok n) (Err (length bytes))) x e in
     let g = passed_ok (good b.0.0) (length bytes) (Ok b.0) x b.2 in
@@ -132,7 +144,8 @@ field_takes w limit wide good bytes x fits e =
     subst (λ (y : ℕ × List ℕ). Field w limit good bytes y.0 y.1) (ok_is b.0 x g.1) (record { takes = t.0; below = t.1; passed = g.0 })
 
 -- a tested number that is spelled so is read
-pub field_again : (w : Width) (limit : ℕ) (wide : IsWide w limit) (good : ℕ → Bool) (n : ℕ) (rest : List ℕ) → n < limit → good n ≡ true → field_at w good (to_be_bytes w n ++ rest) ≡ Ok (n, rest)
+pub field_again : (w : Width) (limit : ℕ) (wide : IsWide w limit) (good : ℕ → Bool) (n : ℕ) (rest : List ℕ) → n < limit → good n ≡ true
+    → field_at w good (to_be_bytes w n ++ rest) ≡ Ok (n, rest)
 field_again w limit wide good n rest lt passes =
     rw (number_again w limit wide n rest lt, passes) refl
 
@@ -143,7 +156,8 @@ pub bytes_takes : (n : ℕ) (bytes : List ℕ) (x : List ℕ × List ℕ) → Is
 bytes_takes n bytes x fits e =
     let g = guard_ok (ltb (length bytes) n) (length bytes) (take n bytes, drop n bytes) x e in
     let long : n ≤ length bytes = ltb-false _ _ g.0 in
-    subst (λ (y : List ℕ × List ℕ). Takes bytes y.0 y.1 × (length y.0 ≡ n)) g.1 (record { parts = sym (take-append-drop n bytes); rest_fits = IsBytes-drop n bytes fits }, omega (arith, length-take n bytes))
+    subst (λ (y : List ℕ × List ℕ). Takes bytes y.0 y.1 × (length y.0 ≡ n)) g.1
+    (record { parts = sym (take-append-drop n bytes); rest_fits = IsBytes-drop n bytes fits }, omega (arith, length-take n bytes))
 
 -- bytes in front are read
 pub bytes_again : (text rest : List ℕ) → bytes_at (length text) (text ++ rest) ≡ Ok (text, rest)

@@ -10,11 +10,13 @@ use Rattle.row_bytes.proofs.FieldLaws.{bind_ok}
 use Rattle.row_bytes.proofs.RowLaws.{few}
 
 -- a key and a number of versions that were read are a row's head
-pub head_is : (bytes : List ℕ) (len : ℕ × List ℕ) (key : List ℕ × List ℕ) (count : ℕ × List ℕ) → field_at w16 (few 255) bytes ≡ Ok len → bytes_at len.0 len.1 ≡ Ok key → field_at w16 (few 64) key.1 ≡ Ok count → HasHead bytes
+pub head_is : (bytes : List ℕ) (len : ℕ × List ℕ) (key : List ℕ × List ℕ) (count : ℕ × List ℕ) → field_at w16 (few 255) bytes ≡ Ok len
+    → bytes_at len.0 len.1 ≡ Ok key → field_at w16 (few 64) key.1 ≡ Ok count → HasHead bytes
 head_is bytes len key count l k n = record { head = ((key.0, count.0), count.1); read = rw (l, k, n) refl }
 
 -- the versions of a row could not be read
-pub row_ends : (e : ReadError) (format : Format) (bytes : List ℕ) (len : ℕ × List ℕ) (key : List ℕ × List ℕ) (count : ℕ × List ℕ) → field_at w16 (few 255) bytes ≡ Ok len → bytes_at len.0 len.1 ≡ Ok key → field_at w16 (few 64) key.1 ≡ Ok count
+pub row_ends : (e : ReadError) (format : Format) (bytes : List ℕ) (len : ℕ × List ℕ) (key : List ℕ × List ℕ) (count : ℕ × List ℕ)
+    → field_at w16 (few 255) bytes ≡ Ok len → bytes_at len.0 len.1 ≡ Ok key → field_at w16 (few 64) key.1 ≡ Ok count
     → Fails (Unit {0}) e (versions_at format count.0 [] [] count.1) → Fails (HasHead bytes) e (row_at format bytes)
 unfolding row_at
 row_ends errors.Memory format bytes len key count l k n h = head_is bytes len key count l k n

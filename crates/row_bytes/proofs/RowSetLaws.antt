@@ -41,7 +41,8 @@ cmp-is One v w hv hw = live_cmp-is v w (has_text One v hv) (has_text One w hw) (
 cmp-is Two v w hv hw = text_cmp-is v w (has_text Two v hv) (has_text Two w hw)
 
 -- versions whose texts ascend, each against the one before it, ascend
-ascends_after : (format : Format) (v : Version) (vs : List Version) → IsVersion format v → AllByRecursion (IsVersion format) vs → AreAscending format (version_text format v) vs → Ascends (v ∷ vs)
+ascends_after : (format : Format) (v : Version) (vs : List Version) → IsVersion format v → AllByRecursion (IsVersion format) vs
+    → AreAscending format (version_text format v) vs → Ascends (v ∷ vs)
 ascends_after format v [] hv each up = (tt, tt)
 ascends_after format v (w ∷ vs) hv each up =
     let rest = ascends_after format w vs each.0 each.1 up.1 in
@@ -59,7 +60,8 @@ first_before One v = refl
 first_before Two v = refl
 
 -- versions that ascend have texts that ascend
-texts_after : (format : Format) (v : Version) (vs : List Version) → IsVersion format v → AllByRecursion (IsVersion format) vs → Ascends (v ∷ vs) → AreAscending format (version_text format v) vs
+texts_after : (format : Format) (v : Version) (vs : List Version) → IsVersion format v → AllByRecursion (IsVersion format) vs → Ascends (v ∷ vs)
+    → AreAscending format (version_text format v) vs
 texts_after format v [] hv each up = tt
 texts_after format v (w ∷ vs) hv each up =
     (ap is_lt (cmp-is format v w hv each.0 ∙ up.0.0), texts_after format w vs each.0 each.1 up.1)
@@ -72,7 +74,8 @@ texts_ascend format (v ∷ vs) each up = (first_before format v, texts_after for
 -- ---- none below another
 
 -- what follows from two facts on each item
-both_each : {X : Type 0} (P Q R : X → Type 0) → ((x : X) → P x → Q x → R x) → (xs : List X) → AllByRecursion P xs → AllByRecursion Q xs → AllByRecursion R xs
+both_each : {X : Type 0} (P Q R : X → Type 0) → ((x : X) → P x → Q x → R x) → (xs : List X) → AllByRecursion P xs → AllByRecursion Q xs
+    → AllByRecursion R xs
 both_each P Q R f [] p q = tt
 both_each P Q R f (x ∷ xs) p q = (f x p.0 q.0, both_each P Q R f xs p.1 q.1)
 
@@ -89,8 +92,11 @@ none_passes p (x ∷ xs) h = or_from (p x) (list_any p xs) h.0 (none_passes p xs
 -- a test that no item passes fails at each item
 fails_at_each : {X : Type 0} (xs : List X) → AllByRecursion (λ x. (p : X → Bool) → list_any p xs ≡ false → p x ≡ false) xs
 fails_at_each [] = tt
-fails_at_each (x ∷ xs) =
-    (λ p h. (or_parts (p x) (list_any p xs) h).0, each_also (λ y. (p : _ → Bool) → list_any p xs ≡ false → p y ≡ false) (λ y. (p : _ → Bool) → list_any p (x ∷ xs) ≡ false → p y ≡ false) (λ y f p h. f p (or_parts (p x) (list_any p xs) h).1) xs (fails_at_each xs))
+fails_at_each (x ∷ xs) = (
+  λ p h. (or_parts (p x) (list_any p xs) h).0,
+  each_also (λ y. (p : _ → Bool) → list_any p xs ≡ false → p y ≡ false)
+      (λ y. (p : _ → Bool) → list_any p (x ∷ xs) ≡ false → p y ≡ false) (λ y f p h. f p (or_parts (p x) (list_any p xs) h).1) xs (fails_at_each xs),
+)
 
 -- a filter that each item passes keeps all
 filter_keeps : {X : Type 0} (p : X → Bool) (xs : List X) → AllByRecursion (λ x. p x ≡ true) xs → filter p xs ≡ xs
@@ -113,33 +119,42 @@ apart_parts u v h = let parts = and_parts (not (is_below u v)) (not (is_below v 
 none_is_below : (vs : List Version) → AreApart vs → AllByRecursion (λ v. list_any (is_below v) vs ≡ false) vs
 none_is_below [] h = tt
 none_is_below (w ∷ vs) h = (
-  or_from _ _ (is_below-itself w) (none_passes (is_below w) vs (each_also (λ u. is_apart w u ≡ true) (λ u. is_below w u ≡ false) (λ u a. (apart_parts w u a).0) vs h.0)),
-  both_each (λ v. is_apart w v ≡ true) (λ v. list_any (is_below v) vs ≡ false) (λ v. list_any (is_below v) (w ∷ vs) ≡ false) (λ v a none. or_from _ _ (apart_parts w v a).1 none) vs h.0 (none_is_below vs h.1),
+  or_from _ _ (is_below-itself w)
+      (none_passes (is_below w) vs (each_also (λ u. is_apart w u ≡ true) (λ u. is_below w u ≡ false) (λ u a. (apart_parts w u a).0) vs h.0)),
+  both_each (λ v. is_apart w v ≡ true) (λ v. list_any (is_below v) vs ≡ false) (λ v. list_any (is_below v) (w ∷ vs) ≡ false)
+      (λ v a none. or_from _ _ (apart_parts w v a).1 none) vs h.0 (none_is_below vs h.1),
 )
 
 -- versions that are apart are their own maximum
 own_maximum : (vs : List Version) → AreApart vs → maximal vs ≡ vs
-own_maximum vs h = filter_keeps (λ v. not (list_any (is_below v) vs)) vs (each_also (λ v. list_any (is_below v) vs ≡ false) (λ v. not (list_any (is_below v) vs) ≡ true) (λ v none. not_from_false _ none) vs (none_is_below vs h))
+own_maximum vs h = filter_keeps (λ v. not (list_any (is_below v) vs)) vs
+    (each_also (λ v. list_any (is_below v) vs ≡ false) (λ v. not (list_any (is_below v) vs) ≡ true) (λ v none. not_from_false _ none) vs
+    (none_is_below vs h))
 
 -- versions of which none is below a member of the set, and which are members, are apart
-apart_among : (S vs : List Version) → AllByRecursion (λ v. list_any (is_below v) S ≡ false) vs → AllByRecursion (λ v. (p : Version → Bool) → list_any p S ≡ false → p v ≡ false) vs → AreApart vs
+apart_among : (S vs : List Version) → AllByRecursion (λ v. list_any (is_below v) S ≡ false) vs
+    → AllByRecursion (λ v. (p : Version → Bool) → list_any p S ≡ false → p v ≡ false) vs → AreApart vs
 apart_among S [] none members = tt
 apart_among S (v ∷ vs) none members = (
   both_each (λ u. list_any (is_below u) S ≡ false) (λ u. (p : Version → Bool) → list_any p S ≡ false → p u ≡ false) (λ u. is_apart v u ≡ true)
-      (λ u free member. and_from _ _ (not_from_false _ (member (is_below v) none.0)) (not_from_false _ (members.0 (is_below u) free))) vs none.1 members.1,
+      (λ u free member. and_from _ _ (not_from_false _ (member (is_below v) none.0)) (not_from_false _ (members.0 (is_below u) free))) vs none.1
+      members.1,
   apart_among S vs none.1 members.1,
 )
 
 -- a set's members are apart
 set_apart : (S : List Version) → maximal S ≡ S → AreApart S
 set_apart S own =
-    let kept : AllByRecursion (λ v. not (list_any (is_below v) S) ≡ true) S = subst (λ T. AllByRecursion (λ v. not (list_any (is_below v) S) ≡ true) T) own (filter_passes (λ v. not (list_any (is_below v) S)) S) in
-    apart_among S S (each_also (λ v. not (list_any (is_below v) S) ≡ true) (λ v. list_any (is_below v) S ≡ false) (λ v h. not-true _ h) S kept) (fails_at_each S)
+    let kept : AllByRecursion (λ v. not (list_any (is_below v) S) ≡ true) S = subst
+    (λ T. AllByRecursion (λ v. not (list_any (is_below v) S) ≡ true) T) own (filter_passes (λ v. not (list_any (is_below v) S)) S) in
+    apart_among S S (each_also (λ v. not (list_any (is_below v) S) ≡ true) (λ v. list_any (is_below v) S ≡ false) (λ v h. not-true _ h) S kept)
+    (fails_at_each S)
 
 -- ---- sets
 
 -- the versions of a row are a set
-pub set_of : (format : Format) (vs : List Version) → AllByRecursion (IsVersion format) vs → AreAscending format [] vs → AreApart vs → length vs ≤ 64 → IsVersionSet vs
+pub set_of : (format : Format) (vs : List Version) → AllByRecursion (IsVersion format) vs → AreAscending format [] vs → AreApart vs → length vs ≤ 64
+    → IsVersionSet vs
 set_of format vs each up apart few = record {
   ascending = ascends format [] vs each up;
   own_maximum = own_maximum vs apart;
@@ -154,7 +169,8 @@ row_set format r h = set_of format r.versions h.each h.ascending h.apart h.few
 -- a set that fits a format is the versions of a row
 pub set_row : (format : Format) (r : Row) → IsVersionSet r.versions → FitsText format r → IsRow format r
 set_row format r set fits =
-    let each : AllByRecursion (IsVersion format) r.versions = both_each (λ v. IsClock v.clock) (λ v. value_fault format v.kind v.value ≡ None) (IsVersion format) (λ v c f. record { clock = c; value = f }) r.versions set.valid fits.each in
+    let each : AllByRecursion (IsVersion format) r.versions = both_each (λ v. IsClock v.clock) (λ v. value_fault format v.kind v.value ≡ None)
+    (IsVersion format) (λ v c f. record { clock = c; value = f }) r.versions set.valid fits.each in
     record {
       key = fits.key;
       some = fits.some;
@@ -166,4 +182,8 @@ set_row format r set fits =
 
 -- a row has what its type does not give
 pub row_fits : (format : Format) (r : Row) → IsRow format r → FitsText format r
-row_fits format r h = record { key = h.key; some = h.some; each = each_also (IsVersion format) (λ v. value_fault format v.kind v.value ≡ None) (λ v f. f.value) r.versions h.each }
+row_fits format r h = record {
+  key = h.key;
+  some = h.some;
+  each = each_also (IsVersion format) (λ v. value_fault format v.kind v.value ≡ None) (λ v f. f.value) r.versions h.each;
+}

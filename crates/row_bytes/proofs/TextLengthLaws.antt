@@ -24,7 +24,9 @@ on_err (Ok x) h = tt
 on_err (Err e) h = h
 
 -- where there is no room for one more text, there is none for all
-pub lacks_room : {X : Type 0} (f : X → List ℕ) (xs : List X) (i : ℕ) (d : X) (front out : List ℕ) (before now : ℕ) → i < length xs → out ≡ front ++ flat_map f (take i xs) → before ≤ now → now < length out + length (f (get_or xs i d)) → before < length front + length (flat_map f xs)
+pub lacks_room : {X : Type 0} (f : X → List ℕ) (xs : List X) (i : ℕ) (d : X) (front out : List ℕ) (before now : ℕ) → i < length xs
+    → out ≡ front ++ flat_map f (take i xs) → before ≤ now → now < length out + length (f (get_or xs i d))
+    → before < length front + length (flat_map f xs)
 lacks_room f xs i d front out before now h so_far grows full =
     omega (arith, ap length so_far, length-append front (flat_map f (take i xs)), length-flat_map-take f xs i d h)
 
@@ -45,7 +47,8 @@ some_text Two v = omega arith
 
 versions_short : (format : Format) (vs : List Version) → length vs ≤ length (flat_map (version_text format) vs)
 versions_short format [] = omega arith
-versions_short format (v ∷ vs) = omega (arith, versions_short format vs, some_text format v, length-append (version_text format v) (flat_map (version_text format) vs))
+versions_short format (v ∷ vs) =
+    omega (arith, versions_short format vs, some_text format v, length-append (version_text format v) (flat_map (version_text format) vs))
 
 pub row_short : (format : Format) (r : Row) → length r.versions ≤ length (row_text format r)
 row_short format r = omega (arith, versions_short format r.versions, row_text_len format r)

@@ -17,8 +17,7 @@ pub record IsBrokenAt (format : Format) (text : List ℕ) (offset : ℕ) : Type 
   pub broken : row_at format text ≡ Err left
   pub offset_is : offset + left ≡ length text
 
--- a refusal is that of the row, at its offset, or a lack of memory for the part after its key and the number of its
--- versions
+-- a refusal is the row's error, at its offset, or NoMemory for the part after its key and the number of its versions
 abbrev pub IsReadFault : Format → List ℕ → Refusal → Type 0
 IsReadFault format text (refusals.RowBroken offset) = IsBrokenAt format text offset
 IsReadFault format text e = (e ≡ refusals.NoMemory) × HasHead text
@@ -35,8 +34,8 @@ pub record AreBrokenAt (format : Format) (text : List ℕ) (offset : ℕ) : Type
   pub broken : rows_at format (length text) [] [] text ≡ Err left
   pub offset_is : offset + left ≡ length text
 
--- a refusal is that of the rows, at its offset, or a lack of memory for the part after the first key and the number of
--- its versions
+-- a refusal is the rows' error, at its offset, or NoMemory for the part after the first key and the number of its
+-- versions
 abbrev pub AreReadFault : Format → List ℕ → Refusal → Type 0
 AreReadFault format text (refusals.RowBroken offset) = AreBrokenAt format text offset
 AreReadFault format text e = (e ≡ refusals.NoMemory) × HasHead text

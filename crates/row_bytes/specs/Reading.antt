@@ -21,7 +21,7 @@ abbrev pub ◌>>=◌ : {A B : Type 0} → Result A ℕ → (A → Result B ℕ) 
 (Ok x) >>= f = f x
 (Err e) >>= f = Err e
 
--- An error is the place at which reading stops, or a lack of memory, which is possible only if begun holds.
+-- An error is the place at which reading stops, or Memory, which is possible only if begun holds.
 abbrev pub Fails : {Y : Type 0} → Type 0 → ReadError → Result Y ℕ → Type 0
 Fails begun errors.Memory read = begun
 Fails begun (errors.Left left) read = read ≡ Err left
@@ -126,7 +126,7 @@ key_of (Some r) = r.key
 unfoldable pub last_key : List Row → List ℕ
 last_key rows = key_of (slice_get rows (length rows - 1))
 
--- the rows before, the last of which has the key last, and at most k more rows up to the end
+-- the rows before, whose last key is `last`, and at most `most` more rows up to the end
 unfoldable pub rows_at : Format → ℕ → List ℕ → List Row → List ℕ → Result (List Row) ℕ
 rows_at format most last before [] = Ok before
 rows_at format zero last before (byte ∷ bytes) = Err (length (byte ∷ bytes))

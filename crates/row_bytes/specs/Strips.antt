@@ -10,7 +10,7 @@ abbrev pub Strips : {X : Type 0} → (X → List ℕ) → List ℕ → List ℕ 
 Strips view front text None = (rest : List ℕ) → text ≡ front ++ rest → ⊥
 Strips view front text (Some x) = text ≡ front ++ view x
 
--- a text begins with the texts of the first `count` rows, one after another, and no more of them
+-- a text begins with the texts of the first `count` rows, in order, and of no further row
 pub record StripsRows (format : Format) (rows : List Row) (text : List ℕ) (count : ℕ) (rest : List ℕ) : Type 0 where
   pub within : count ≤ length rows
   pub text_is : text ≡ flat_map (row_text format) (take count rows) ++ rest

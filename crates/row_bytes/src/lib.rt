@@ -1,10 +1,10 @@
 //! The texts of rows, which replicas must agree on byte for byte: reading, writing, comparing and measuring them. Use
-//! it to read and write rows by this project's profile.
+//! it to read and write rows as docs/FORMATS.md defines them.
 //!
 //! - [`row`]: a row, and a list of rows.
 //! - [`reader`]: reading rows from texts.
 //! - [`writer`]: writing texts of rows.
-//! - [`comparison`]: comparing a text with that of a row in place.
+//! - [`comparison`]: comparing a text with a row's text in place.
 //! - [`lengths`]: the lengths of texts.
 //!
 //! ```

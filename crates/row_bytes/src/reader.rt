@@ -1,4 +1,4 @@
-//! Reading rows from their texts, as this project's profile defines them.
+//! Reading rows from their texts, as docs/FORMATS.md defines them.
 ghost use Rattle.std.specs.Prelude.{◌≡◌, ◌++◌, ℕ, List, [], ⊤, length, IfOk, IfErr, Some, MatchOption, option_map};
 ghost use Rattle.std.specs.List.{list_all, flat_map};
 ghost use Rattle.version_set.specs.Version.{version_text, IsVersionSet};
@@ -137,7 +137,7 @@ fn row_of(alloc: Global, format: Format, bytes: &[u8]) -> Result<(Row, &[u8]), R
     Ok((row, rest))
 }
 
-/// Reads the row at the front, and returns it with the bytes after it (this project's profile).
+/// Reads the row at the front, and returns it with the bytes after it.
 ///
 /// Refused: RowBroken, with the offset in bytes of the first field that isn't whole or breaks its rule, or of a whole
 /// version that isn't greater than the one before it, or is below or above an earlier one; NoMemory.
@@ -157,8 +157,8 @@ pub fn read_row(alloc: Global, format: Format, text: &[u8]) -> Result<(Row, &[u8
     }
 }
 
-/// Returns the key at the front of the text of a row, if the bytes begin with a whole key (this project's profile).
-/// Doesn't read the bytes after the key.
+/// Returns the key at the front of the text of a row, if the bytes begin with a whole key. Doesn't read the bytes after
+/// the key.
 pub fn key_at(text: &[u8]) -> Option<&[u8]>
     // The text begins with the key.
     ensures found { MatchOption result ⊤ (λ key. (rest : List ℕ) × BeginsWithKey text.now key.now rest) }
@@ -202,14 +202,13 @@ fn rows_of(alloc: Global, format: Format, text: &[u8]) -> Result<Vec<Row>, ReadE
     Ok(rows)
 }
 
-/// Reads rows up to the end of the text, in strictly ascending order of their keys (this project's profile). An empty
-/// text has no rows.
+/// Reads rows up to the end of the text, in strictly ascending order of their keys. Returns no rows for an empty text.
 ///
 /// Refused: RowBroken, with the offset in bytes of the first field that isn't whole or breaks its rule, of a whole
 /// version as in `read_row`, or of a whole row whose key isn't greater than the key before it; NoMemory. Allocates in
 /// proportion to the bytes read.
 pub fn read_rows(alloc: Global, format: Format, text: &[u8]) -> Result<RowList, Refusal>
-    // The result is rows of the format, and the text is their texts, one after another.
+    // The result is rows of the format, and the text is their texts, in order.
     ensures found { IfOk result (λ rows. AreRows format rows × (text.now ≡ flat_map (row_text format) rows)) }
     // A text that is the texts of rows is read, unless memory runs out.
     ensures only { (rows : List Row) → AreRows format rows → text.now ≡ flat_map (row_text format) rows → AreRead rows result }
@@ -223,15 +222,15 @@ pub fn read_rows(alloc: Global, format: Format, text: &[u8]) -> Result<RowList, 
     }
 }
 
-/// No row's text begins another row's text (this project's profile): if two row texts, each followed by any bytes, are
-/// equal, then the rows are equal and the bytes that follow are equal.
+/// No row's text begins another row's text: if two row texts, each followed by any bytes, are equal, then the rows are
+/// equal and the bytes that follow are equal.
 pub fn a_row_has_one_text()
     ensures { (format : Format) (r s : Row) (x y : List ℕ) → IsRow format r → IsRow format s
         → row_text format r ++ x ≡ row_text format s ++ y → (r ≡ s) × (x ≡ y) }
 {}
 
-/// The versions that are held for a key have a text (this project's profile): a key with a set that fits a format is a
-/// row of that format; and a row's versions are such a set.
+/// The versions that are held for a key have a text: a key with a set that fits a format is a row of that format; and a
+/// row's versions are such a set.
 pub fn a_held_set_is_a_row()
     ensures held { (format : Format) (r : Row) → IsVersionSet r.versions → FitsText format r → IsRow format r }
     ensures back { (format : Format) (r : Row) → IsRow format r → IsVersionSet r.versions × FitsText format r }

@@ -1,4 +1,4 @@
-//! Writing texts of rows, as this project's profile defines them.
+//! Writing texts of rows, as docs/FORMATS.md defines them.
 ghost use Rattle.std.specs.Prelude.{◌≡◌, ◌++◌, ◌+◌, ◌<◌, ◌≤◌, length, None, OnOk, OnErr};
 ghost use Rattle.std.specs.List.{flat_map, AllByRecursion};
 ghost use Rattle.std.specs.Int.{w16, to_be_bytes};
@@ -15,7 +15,7 @@ use vclock::{Format, Refusal};
 use version_set::{Version, VersionSet};
 
 /// Appends a pair of a clock: the node in two bytes, then its counter in eight. This call and the others below that
-/// append fail only if memory is needed beyond the room of `out`.
+/// append fail only if memory is needed beyond the capacity of `out`.
 fn put_pair(out: &mut Vec<u8>, pair: (u16, u64)) -> Result<(), AllocError>
     ensures ok { OnOk result (out.new.items ≡ out.old.items ++ pair_text pair) }
     ensures room { OnErr result (vec_capacity out.old < length out.old.items + length (pair_text pair)) }
@@ -86,8 +86,7 @@ fn put_versions(out: &mut Vec<u8>, format: Format, versions: &[Version]) -> Resu
     Ok(())
 }
 
-/// Appends the text of a row (this project's profile). Fails only if memory is needed beyond the room of `out`, which
-/// is then unchanged.
+/// Appends the text of a row. Fails only if memory is needed beyond the capacity of `out`, which is then unchanged.
 pub fn put_row(out: &mut Vec<u8>, format: Format, row: &Row) -> Result<(), AllocError>
     requires { FitsText format row.now }
     ensures ok { OnOk result (out.new.items ≡ out.old.items ++ row_text format row.now) }
@@ -98,7 +97,7 @@ pub fn put_row(out: &mut Vec<u8>, format: Format, row: &Row) -> Result<(), Alloc
     put_held(out, format, row.key.as_slice(), &row.versions)
 }
 
-/// Appends the text of the row of a key with a set, as `put_row` does.
+/// Appends the text of the row of a key with a set, like `put_row`.
 #[tactic(auto, unfolding(crate::specs::Rows::row_text), using(crate::proofs::LimitLaws::key_short))]
 fn put_held(
     out: &mut Vec<u8>,
@@ -118,7 +117,7 @@ fn put_held(
     put_versions(out, format, set.as_slice())
 }
 
-/// Returns the text of a row (this project's profile). Refused: NoMemory.
+/// Returns the text of a row. Refused: NoMemory.
 pub fn write_row(alloc: Global, format: Format, row: &Row) -> Result<Vec<u8>, Refusal>
     requires { FitsText format row.now }
     ensures { Answers result None (λ text. text.items ≡ row_text format row.now) }
@@ -126,7 +125,7 @@ pub fn write_row(alloc: Global, format: Format, row: &Row) -> Result<Vec<u8>, Re
     write_held(alloc, format, row.key.as_slice(), &row.versions)
 }
 
-/// Returns the text of the row of a key with a set, neither of which is copied. Refused: NoMemory.
+/// Returns the text of the row of a key with a set. Copies neither. Refused: NoMemory.
 pub fn write_held(
     alloc: Global,
     format: Format,

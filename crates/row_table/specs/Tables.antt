@@ -5,18 +5,18 @@ use Rattle.row_table.specs.declared.seed.Seed.{Seed}
 use Rattle.row_table.specs.declared.table.TableRow.{TableRow}
 use Rattle.row_table.specs.Hashes.{key_hash}
 
--- the seed, the rows in the order in which they were inserted, and the number of rows that can be inserted without allocating
+-- the seed, the rows in order of insertion, and the number of rows that can be inserted without allocating
 pub record Table : Type 0 where
   pub seed : Seed
   pub rows : List TableRow
   pub room : ℕ
 
--- a row, if there is one, has a property
+-- a row is present and has a property
 abbrev pub is_with : (TableRow → Bool) → Option TableRow → Bool
 is_with test None = false
 is_with test (Some r) = test r
 
--- the last of the first n rows with a property: one more than its place, or 0 if there is none
+-- the last of the first n rows with a property: one more than its place, or 0 for none
 abbrev pub last_with : (TableRow → Bool) → List TableRow → ℕ → ℕ
 last_with test rs zero = 0
 last_with test rs (suc n) = if is_with test (slice_get rs n) then suc n else last_with test rs n
@@ -26,11 +26,11 @@ abbrev pub before : ℕ → Option ℕ
 before zero = None
 before (suc n) = Some n
 
--- a row is of a key
+-- a row has the key
 abbrev pub is_of : List ℕ → TableRow → Bool
 is_of key r = bytes_eq r.key key
 
--- the bucket of a key, of so many
+-- the bucket of a key, among `size` buckets
 abbrev pub bucket_of : Seed → ℕ → List ℕ → ℕ
 bucket_of seed size key = key_hash seed key % 4294967296 % size
 
@@ -42,7 +42,7 @@ is_in seed size bucket r = nat_eq (bucket_of seed size r.key) bucket
 abbrev pub place_of : List TableRow → List ℕ → Option ℕ
 place_of rs key = before (last_with (is_of key) rs (length rs))
 
--- the row at a place, if there is a place
+-- the row at a place, if any
 abbrev pub at_place : List TableRow → Option ℕ → Option TableRow
 at_place rs None = None
 at_place rs (Some place) = slice_get rs place
@@ -58,7 +58,7 @@ set_in rs key = set_at rs (place_of rs key)
 abbrev pub with_room : Table → ℕ → Table
 with_room t rows = record t { room = max t.room rows }
 
--- the table with room for a row at a place
+-- the table with capacity for a row at a place
 abbrev pub with_room_at : Table → Option ℕ → Table
 with_room_at t None = with_room t 1
 with_room_at t (Some place) = t
@@ -75,12 +75,13 @@ put_in t (Some place) r = record t { rows = slice_set t.rows place r }
 abbrev pub with_put : Table → TableRow → Table
 with_put t r = put_in t (place_of t.rows r.key) r
 
--- the table with rows, the last of which is put first
+-- the table after rows are put, the last row first
 abbrev pub with_all : Table → List TableRow → Table
 with_all t [] = t
 with_all t (r ∷ rows) = with_put (with_all t rows) r
 
--- An index of the first rows has the last of them in each bucket that is there, and for each of them the one before it in its bucket.
+-- An index of the first rows has the last of them in each bucket made so far, and for each of them the one before it in
+-- its bucket.
 pub record IsIndex (seed : Seed) (rs : List TableRow) (size : ℕ) (last earlier : List ℕ) : Type 0 where
   pub some : 0 < size
   pub last_is : (bucket : ℕ) → bucket < length last → slice_get last bucket ≡ Some (last_with (is_in seed size bucket) rs (length earlier))

@@ -23,7 +23,7 @@ pub(crate) struct Index {
 }
 
 impl Index {
-    /// Makes an index of one bucket, which isn't there yet. Doesn't allocate.
+    /// Makes an index for one bucket, which isn't made yet. Doesn't allocate.
     pub(crate) fn new(alloc: Global) -> Index
         ensures size { result.size ≡ 1 }
         ensures last { result.last.items ≡ [] }
@@ -36,7 +36,7 @@ impl Index {
         }
     }
 
-    /// Makes an index without buckets and rows, with room for `rows` rows and their buckets.
+    /// Makes an index without buckets and rows, with capacity for `rows` rows and their buckets.
     pub(crate) fn with_room(alloc: Global, rows: usize) -> Result<Index, AllocError>
         requires few { (0 < rows) × (rows ≤ 4294967295) }
         ensures size { IfOk result (λ index. 0 < index.size) }
@@ -51,7 +51,7 @@ impl Index {
         })
     }
 
-    /// Makes an index of rows, with room for `room` rows in all.
+    /// Makes an index of rows, with capacity for `room` rows in all.
     pub(crate) fn of(
         alloc: Global,
         seed: Seed,
@@ -71,41 +71,28 @@ impl Index {
         Ok(index)
     }
 
-    /// Returns an equal index, without room for more rows.
-    pub(crate) fn try_clone(&self, alloc: Global) -> Result<Index, AllocError>
-        ensures size { IfOk result (λ copy. copy.size ≡ self.now.size) }
-        ensures last { IfOk result (λ copy. copy.last.items ≡ self.now.last.items) }
-        ensures earlier { IfOk result (λ copy. copy.earlier.items ≡ self.now.earlier.items) }
-    {
-        Ok(Index {
-            size: self.size,
-            last: Vec::from_slice(alloc, &self.last)?,
-            earlier: Vec::from_slice(alloc, &self.earlier)?,
-        })
-    }
-
-    /// The number of buckets.
+    /// Returns the number of buckets.
     pub(crate) fn size(&self) -> usize
         ensures { result ≡ self.now.size }
     {
         self.size
     }
 
-    /// The number of rows.
+    /// Returns the number of rows.
     pub(crate) fn len(&self) -> usize
         ensures { result ≡ length self.now.earlier.items }
     {
         self.earlier.len()
     }
 
-    /// Returns true if all buckets are there.
+    /// Returns true if all buckets are made.
     pub(crate) fn is_whole(&self) -> bool
         ensures { result ≡ (length self.now.last.items == self.now.size) }
     {
         self.last.len() == self.size
     }
 
-    /// Returns the place of the last row of a key among these rows, all of which the index has. Doesn't allocate.
+    /// Returns the place of the last row of a key among these rows. The index has all of them. Doesn't allocate.
     pub(crate) fn find(&self, seed: Seed, rows: &[TableRow], key: &[u8]) -> Option<usize>
         requires index { IsIndex seed rows.now self.now.size self.now.last.items self.now.earlier.items }
         requires all { length self.now.earlier.items ≡ length rows.now }
@@ -132,7 +119,7 @@ impl Index {
         (seed.hash(key) % 4_294_967_296 % self.size as u64) as usize
     }
 
-    /// Makes room for rows: so many in all.
+    /// Reserves capacity for `rows` rows in all.
     pub(crate) fn reserve(&mut self, rows: usize) -> Result<(), AllocError>
         requires few { (length self.old.earlier.items ≤ rows) × (rows ≤ 4294967295) }
         ensures room { OnOk result (rows ≤ vec_capacity self.new.earlier) }
@@ -142,7 +129,7 @@ impl Index {
         self.earlier.reserve(rows - self.earlier.len())
     }
 
-    /// Makes up to this many more buckets, in room that was made before. The index has no rows. Doesn't allocate.
+    /// Adds up to this many buckets within the reserved capacity. The index has no rows. Doesn't allocate.
     pub(crate) fn widen(&mut self, buckets: usize)
         requires room { (length self.old.last.items ≤ self.old.size) × (self.old.size ≤ vec_capacity self.old.last) }
         ensures last { self.new.last.items ≡ self.old.last.items ++ replicate (min buckets (self.old.size - length self.old.last.items)) 0 }
@@ -154,7 +141,7 @@ impl Index {
         made.unwrap();
     }
 
-    /// Adds up to this many of the rows that it hasn't, in room that was made before. Doesn't allocate.
+    /// Adds up to this many of the missing rows within the reserved capacity. Doesn't allocate.
     pub(crate) fn add_some(&mut self, seed: Seed, rows: &[TableRow], most: usize)
         requires index { IsIndex seed rows.now self.old.size self.old.last.items self.old.earlier.items }
         requires whole { length self.old.last.items ≡ self.old.size }
@@ -170,7 +157,7 @@ impl Index {
         }
     }
 
-    /// Adds the row that follows those that it has, in room that was made before.
+    /// Adds the first missing row within the reserved capacity.
     fn add(&mut self, seed: Seed, row: &TableRow)
         requires some { (0 < self.old.size) × (length self.old.last.items ≡ self.old.size) }
         requires room { (length self.old.earlier.items < vec_capacity self.old.earlier) × (length self.old.earlier.items < 4294967295) }

@@ -1,7 +1,7 @@
 //! The rows of a range by key: a key of any length is found by one probe and, mostly, one comparison.
 //!
 //! - [`table`]: tables of rows.
-//! - `index`: where a table finds its rows.
+//! - `index`: the index by which a table finds its rows.
 //! - [`seed`]: the hash of keys.
 //!
 //! ```

@@ -1,7 +1,6 @@
 //! Tables of rows.
 ghost use Rattle.std.specs.Prelude.{◌≡◌, ◌+◌, ◌<◌, ◌≤◌, [], length, None, IfSome};
 ghost use Rattle.std.specs.Option.{option_copied};
-ghost use Rattle.vclock.specs.Answer.{Answers};
 ghost use Rattle.vclock.specs.Outcome.{Does, gives};
 ghost use Rattle.row_table.specs.Tables.{at_place, place_of, set_at, set_in, with_room, with_room_at, with_row, with_put, with_all};
 
@@ -18,7 +17,7 @@ const ROWS_MAX: u64 = 4_294_967_295;
 /// The number of buckets of a larger index that an insertion makes, until all are there.
 const BUCKETS_A_STEP: usize = 32;
 
-/// The number of rows that an insertion adds to a larger index then, until it has all.
+/// The number of rows that an insertion adds to a larger index after that, until it has all.
 const ROWS_A_STEP: usize = 4;
 
 /// A key, its leaf, and the versions that are held for it.
@@ -32,22 +31,9 @@ pub struct TableRow {
     pub set: VersionSet,
 }
 
-impl TableRow {
-    /// Returns an equal row, which shares key and values. Refused: NoMemory.
-    pub fn try_clone(&self, alloc: Global) -> Result<TableRow, Refusal>
-        ensures { Answers result None (λ copy. copy ≡ self.now) }
-    {
-        Ok(TableRow {
-            key: self.key.try_clone()?,
-            leaf: self.leaf,
-            set: self.set.try_clone(alloc)?,
-        })
-    }
-}
-
-/// Rows in the order in which they were inserted. The last row of a key is found by a hash of the key: by one probe, and
-/// one comparison if no later row is in the same bucket. A larger index is made in steps, some at each insertion, so no
-/// insertion takes long.
+/// Rows in order of insertion. The last row of a key is found by a hash of the key: by one probe, and one comparison if
+/// no later row is in the same bucket. A larger index is made in steps, some at each insertion, so no insertion takes
+/// long.
 ///
 /// ```
 /// let place = table.find(row.key.as_slice());
@@ -99,14 +85,14 @@ impl RowTable {
         }
     }
 
-    /// The seed of the hash.
+    /// Returns the seed of the hash.
     pub fn seed(&self) -> Seed
         ensures { result ≡ self.now.seed }
     {
         self.seed
     }
 
-    /// The rows in the order in which they were inserted. Doesn't allocate.
+    /// Returns the rows in order of insertion. Doesn't allocate.
     pub fn rows(&self) -> &[TableRow]
         ensures { result.now ≡ self.now.rows }
     {
@@ -131,7 +117,7 @@ impl RowTable {
         }
     }
 
-    /// Returns the versions of the row at a place: none if there is no place. Doesn't allocate.
+    /// Returns the versions of the row at a place, or none for `None`. Doesn't allocate.
     pub fn held_at(&self, place: Option<usize>) -> Held<'_>
         requires { IfSome place (λ p. p < length self.now.rows) }
         ensures { result ≡ set_at self.now.rows place }
@@ -149,25 +135,7 @@ impl RowTable {
         self.held_at(self.find(key))
     }
 
-    /// Returns an equal table without room for more rows. The copies of rows share keys and values. Refused: NoMemory.
-    pub fn try_clone(&self, alloc: Global) -> Result<RowTable, Refusal>
-        ensures { Answers result None (λ copy. copy ≡ record self.now { room = 0 }) }
-    {
-        let mut rows = Vec::with_capacity(alloc, self.rows.len())?;
-        for row in &self.rows {
-            rows.push_reserved(row.try_clone(alloc)?);
-        }
-        Ok(RowTable {
-            alloc,
-            seed: self.seed,
-            rows,
-            index: self.index.try_clone(alloc)?,
-            larger: None,
-            room: 0,
-        })
-    }
-
-    /// Makes room for `rows` more rows. Refused: NoMemory, also if the table would have over 4,294,967,295 rows.
+    /// Reserves capacity for `rows` more rows. Refused: NoMemory, also if the table would have over 4,294,967,295 rows.
     pub fn reserve(&mut self, rows: u64) -> Result<(), Refusal>
         ensures { Does result self.old self.new (gives tt (with_room self.old rows)) }
     {
@@ -180,7 +148,7 @@ impl RowTable {
         Ok(())
     }
 
-    /// Makes room for `rows` more rows, no fewer than there was room for. If the index has less than two buckets a row,
+    /// Sets the capacity to `rows` more rows, no fewer than before. If the index has fewer than two buckets a row,
     /// begins a larger one, or makes it at once if the rows may double. Refused: NoMemory.
     fn make_room(&mut self, rows: usize) -> Result<(), Refusal>
         requires more { (self.old.room ≤ rows) × (0 < rows) }
@@ -204,7 +172,7 @@ impl RowTable {
         Ok(())
     }
 
-    /// Makes room for a row that is put at a place, which `find` returned. Refused: NoMemory.
+    /// Reserves capacity for a row that is put at a place, which `find` returned. Refused: NoMemory.
     pub fn make_room_at(&mut self, place: Option<usize>) -> Result<(), Refusal>
         ensures { Does result self.old self.new (gives tt (with_room_at self.old place)) }
     {
@@ -214,7 +182,7 @@ impl RowTable {
         Ok(())
     }
 
-    /// Inserts a row in room that was made before. Doesn't allocate.
+    /// Inserts a row within the reserved capacity. Doesn't allocate.
     pub fn insert(&mut self, row: TableRow)
         requires { 1 ≤ self.old.room }
         ensures { self.new ≡ with_row self.old row }
@@ -244,8 +212,8 @@ impl RowTable {
         self.larger = Some(larger);
     }
 
-    /// Puts a row in the place of the last row of its key, which `find` returned. If the key has no row, inserts it in
-    /// room that was made before. Doesn't allocate.
+    /// Puts a row in the place of the last row of its key, which `find` returned. If the key has no row, inserts it
+    /// within the reserved capacity. Doesn't allocate.
     pub fn put_at(&mut self, place: Option<usize>, row: TableRow)
         requires place { place ≡ place_of self.old.rows row.key }
         requires room { place ≡ None → 1 ≤ self.old.room }
@@ -257,8 +225,8 @@ impl RowTable {
         }
     }
 
-    /// Puts rows, the last first, each in the place of the last row of its key, or in room that was made before. Doesn't
-    /// allocate.
+    /// Puts rows, the last first: each in the place of the last row of its key, or within the reserved capacity if the
+    /// key has no row. Doesn't allocate.
     pub fn put_all(&mut self, mut rows: Vec<TableRow>)
         requires { length rows.items ≤ self.old.room }
         ensures { self.new ≡ with_all self.old rows.items }

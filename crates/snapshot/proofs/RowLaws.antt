@@ -18,7 +18,8 @@ values_fit : (format : Format) (vs : List Version) → AllByRecursion (IsVersion
 values_fit format [] all = tt
 values_fit format (v ∷ vs) all = (all.0.value, values_fit format vs all.1)
 
-pub versions_fit : (format : Format) (k : List ℕ) (rows : List Row) → AllByRecursion (IsRow format) rows → AllByRecursion (Fits format) (versions_in k rows)
+pub versions_fit : (format : Format) (k : List ℕ) (rows : List Row) → AllByRecursion (IsRow format) rows
+    → AllByRecursion (Fits format) (versions_in k rows)
 versions_fit format k [] all = tt
 versions_fit format k (r ∷ rows) all = elim (key_cmp k r.key) as (λ o. AllByRecursion (Fits format) (place_by o [] r.versions (versions_in k rows))) [
   | Less ↦ tt

@@ -22,15 +22,18 @@ abbrev spread_len : Format → (List ℕ → ℕ) → List Row → ℕ → ℕ �
 spread_len format leaf rows from n = sum_by (in_leaf_len format leaf rows) (range_with_len from n)
 
 -- a row of another leaf
-not_here : (format : Format) (leaf : List ℕ → ℕ) (r : Row) (rows : List Row) (i : ℕ) → ¬ (leaf r.key ≡ i) → in_leaf_len format leaf (r ∷ rows) i ≡ in_leaf_len format leaf rows i
+not_here : (format : Format) (leaf : List ℕ → ℕ) (r : Row) (rows : List Row) (i : ℕ) → ¬ (leaf r.key ≡ i)
+    → in_leaf_len format leaf (r ∷ rows) i ≡ in_leaf_len format leaf rows i
 not_here format leaf r rows i other = rw (ne_eqb (leaf r.key) i other) refl
 
 -- a row of the leaf
-here : (format : Format) (leaf : List ℕ → ℕ) (r : Row) (rows : List Row) (i : ℕ) → leaf r.key ≡ i → in_leaf_len format leaf (r ∷ rows) i ≡ length (row_text format r) + in_leaf_len format leaf rows i
+here : (format : Format) (leaf : List ℕ → ℕ) (r : Row) (rows : List Row) (i : ℕ) → leaf r.key ≡ i
+    → in_leaf_len format leaf (r ∷ rows) i ≡ length (row_text format r) + in_leaf_len format leaf rows i
 here format leaf r rows i is = rw (eq-eqb (leaf r.key) i is) (sum_by-cons (λ (x : Row). length (row_text format x)) r (rows_in_leaf leaf i rows))
 
 -- a row of a leaf before these
-behind : (format : Format) (leaf : List ℕ → ℕ) (r : Row) (rows : List Row) (n from : ℕ) → leaf r.key < from → spread_len format leaf (r ∷ rows) from n ≡ spread_len format leaf rows from n
+behind : (format : Format) (leaf : List ℕ → ℕ) (r : Row) (rows : List Row) (n from : ℕ) → leaf r.key < from
+    → spread_len format leaf (r ∷ rows) from n ≡ spread_len format leaf rows from n
 behind format leaf r rows zero from before = refl
 behind format leaf r rows (suc n) from before =
     let one = sum_by-cons (in_leaf_len format leaf (r ∷ rows)) from (range_with_len (from + 1) n) in
@@ -40,7 +43,8 @@ behind format leaf r rows (suc n) from before =
     omega arith
 
 -- a row of one of these
-among : (format : Format) (leaf : List ℕ → ℕ) (r : Row) (rows : List Row) (n from : ℕ) → from ≤ leaf r.key → leaf r.key < from + n → spread_len format leaf (r ∷ rows) from n ≡ length (row_text format r) + spread_len format leaf rows from n
+among : (format : Format) (leaf : List ℕ → ℕ) (r : Row) (rows : List Row) (n from : ℕ) → from ≤ leaf r.key → leaf r.key < from + n
+    → spread_len format leaf (r ∷ rows) from n ≡ length (row_text format r) + spread_len format leaf rows from n
 among format leaf r rows zero from least most = absurd (omega arith)
 among format leaf r rows (suc n) from least most =
     let one = sum_by-cons (in_leaf_len format leaf (r ∷ rows)) from (range_with_len (from + 1) n) in
@@ -64,7 +68,8 @@ none format leaf (suc n) from =
     omega arith
 
 -- all leaves have the size of the rows
-all_leaves : (format : Format) (leaf : List ℕ → ℕ) (rows : List Row) (n : ℕ) → ((key : List ℕ) → leaf key < n) → spread_len format leaf rows 0 n ≡ rows_len format rows
+all_leaves : (format : Format) (leaf : List ℕ → ℕ) (rows : List Row) (n : ℕ) → ((key : List ℕ) → leaf key < n)
+    → spread_len format leaf rows 0 n ≡ rows_len format rows
 all_leaves format leaf [] n below = none format leaf n 0
 all_leaves format leaf (r ∷ rows) n below =
     among format leaf r rows n 0 (omega arith) (omega (arith, below r.key))

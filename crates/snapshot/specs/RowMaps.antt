@@ -1,4 +1,4 @@
--- The rows of a range at one moment, and the tree over them: the paper of 2007, section 4.7.
+-- The rows of a range at one moment, and the tree over them: section 4.7 of the Dynamo paper.
 use Rattle.std.specs.Prelude.{◌≡◌, ℕ, ◌-◌, ◌<◌, ◌≤◌, ◌^◌, List}
 use Rattle.std.specs.List.{AllByRecursion}
 use Rattle.sha2.specs.Sha256.{sha256}

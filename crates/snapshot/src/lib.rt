@@ -1,4 +1,4 @@
-//! Snapshots: the rows and the tree of a range at one moment (the paper of 2007, section 4.7), which never change
+//! Snapshots: the rows and the tree of a range at one moment (section 4.7 of the Dynamo paper), which never change
 //! afterwards. Use it to offer a range to another replica and to answer its asks.
 //!
 //! - [`snapshot`]: the shared leaves of a range, with the digests of all nodes.

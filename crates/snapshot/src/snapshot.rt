@@ -24,10 +24,10 @@ use vclock::{Format, Refusal};
 use version_set::Held;
 use walk_messages::{Ask, Offer};
 
-/// All rows of a range at one moment, with the digest of each node of the tree over them. It shares leaves and
-/// digests with the range, which copies what is shared before changing it, so a snapshot never changes. A node offers a
-/// snapshot to its partners and answers their asks from it while writes continue. Only `new`, `of_shared`, `rows_text`,
-/// `answer` and `hashed_answer` allocate.
+/// All rows of a range at one moment, with the digest of each node of the tree over them. It shares leaves and digests
+/// with the range, which copies a shared part before changing it, so a snapshot never changes. A node offers a snapshot
+/// to its partners and answers their asks from it while writes continue. Only `new`, `of_shared`, `rows_text`, `answer`
+/// and `hashed_answer` allocate.
 ///
 /// ```
 /// let snapshot = Snapshot::new(alloc, Format::One, 3, 5, leaves, digests)?;
@@ -187,13 +187,13 @@ impl Snapshot {
         ensures held { result ≡ versions_in key.now self.now.rows }
         ensures fit { AllByRecursion (λ v. value_fault self.now.format v.kind v.value ≡ None) (versions_in key.now self.now.rows) }
     {
-        // Called for its clause alone: the rows have a tree.
+        // Called only for its clause: the rows have a tree.
         let format = self.format();
         let leaf = place(format, self.bits, key).leaf;
         Held::new(self.rows(leaf).find(key))
     }
 
-    /// Returns the text of the node in an ask (this project's profile).
+    /// Returns the text of the node in an ask.
     ///
     /// Refused, in order: BadMessage (the tree has no such node), NoMemory.
     pub fn answer(&self, alloc: Global, ask: Ask) -> Result<Vec<u8>, Refusal>

@@ -1,5 +1,5 @@
 //! A storm: a stress test of two nodes that write, rehash, and sync with each other, with a thread for each of these.
-//! Use it to see that background work goes on while writes do, and that both nodes agree in the end.
+//! Use it to check that background work continues alongside writes, and that both nodes agree in the end.
 //!
 //! - [`storm`]: the run of a storm, and its end.
 //! - [`tally`]: the progress of the threads.

@@ -33,11 +33,12 @@ pub struct StormEnd {
 /// rehashed, synced both ways, rehashed and closed.
 ///
 /// Each worker has one round for each put, but at most 100, and each round has a slot from one controller of 1 to 8
-/// slots. In a round NoSlot, Dirty, Gone and LinkLost are passed over. The gate is passed by each rehash worker (steps
-/// 1 and 2), by each writer after each put (step 3) and by each sync worker before each round (step 4). The tallies
-/// show the progress of the nodes.
+/// slots. A round ignores NoSlot, Dirty, Gone and LinkLost. The gate is passed by each rehash worker (steps 1 and 2),
+/// by each writer after each put (step 3) and by each sync worker before each round (step 4). The tallies show the
+/// progress of the nodes.
 ///
-/// Refused: any other refusal of a part. Also NoMemory, if a thread can't be made, or if the last sync loses its link.
+/// Refused: any other refusal of a part. Also NoMemory, if a thread can't be spawned, or if the last sync loses its
+/// link.
 pub fn run_storm<R: Threads + Wait + Sync, G: Gate + Sync>(
     rt: &R,
     alloc: Global,

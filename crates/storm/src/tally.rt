@@ -55,7 +55,7 @@ pub struct Tallies {
 }
 
 impl Tallies {
-    /// Makes tallies of zero.
+    /// Returns tallies of zero.
     pub fn new() -> Tallies {
         Tallies {
             one: SharedTally::new(),
@@ -65,7 +65,7 @@ impl Tallies {
 }
 
 impl SharedTally {
-    /// Makes a tally of zero.
+    /// Returns a tally of zero.
     fn new() -> SharedTally {
         SharedTally {
             tally: Mutex::new(Tally::nothing()),

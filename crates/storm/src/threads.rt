@@ -19,9 +19,9 @@ struct Ends {
 
 /// Runs the threads of both nodes until all have ended.
 ///
-/// Refused as the writers, the rehash workers and the sync workers are; also NoMemory, if a thread can't be made. Then
-/// the others have ended, too: the parts of a thread that can't be made, such as its ends of channels, are dropped before
-/// the others are waited for.
+/// Refused as the writers, the rehash workers and the sync workers are; also NoMemory, if a thread can't be spawned.
+/// Even then the others have ended: the parts of a thread that can't be spawned, such as its ends of channels, are
+/// dropped before the others are joined.
 pub(crate) fn run_nodes<S, T, C, R, G>(
     rt: &R,
     alloc: Global,
@@ -111,7 +111,7 @@ fn serve<L: Ledger, R: Wait>(
     Ok(())
 }
 
-/// Waits for the end of a thread. Refused as its work is; NoMemory, if it couldn't be made.
+/// Waits for the end of a thread. Refused as its work is; NoMemory, if it couldn't be spawned.
 fn joined<R: Threads>(
     rt: &R,
     thread: Option<JoinHandle<Result<(), Refusal>>>,

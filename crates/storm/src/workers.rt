@@ -16,7 +16,7 @@ const SYNC_TURNS: u64 = 600;
 /// The maximum number of rounds of a worker.
 const ROUNDS_MAX: u64 = 100;
 
-/// Rehashes a node's tree, and publishes a snapshot if it is clean then, in one round for each put, but at most 100.
+/// Rehashes a node's tree, and publishes a snapshot if the tree is clean, in one round for each put, but at most 100.
 /// Refused: NoMemory, SessionsFull.
 pub(crate) fn rehash_rounds<L: Ledger, C: Ledger, R: Wait, G: Gate>(
     rt: &R,
@@ -31,7 +31,7 @@ pub(crate) fn rehash_rounds<L: Ledger, C: Ledger, R: Wait, G: Gate>(
 }
 
 /// Syncs a node over a link, in one round for each put, but at most 100, and stops the link. Refused as
-/// [`ring_node::SharedRange::sync_worker`] is, except that NoSlot, Dirty, Gone and LinkLost are passed over.
+/// [`ring_node::SharedRange::sync_worker`] is, except that NoSlot, Dirty, Gone and LinkLost are ignored.
 pub(crate) fn sync_rounds<L: Ledger, C: Ledger, R: Wait, G: Gate>(
     rt: &R,
     alloc: Global,
@@ -61,7 +61,7 @@ fn sync_over<L: Ledger, C: Ledger, R: Wait, G: Gate>(
     Ok(())
 }
 
-/// Rehashes a node's tree with a slot, and publishes a snapshot if it is clean then.
+/// Rehashes a node's tree with a slot, and publishes a snapshot if the tree is clean.
 ///
 /// Refused: NoSlot, Dirty (there was a put after the rehash), SessionsFull, NoMemory.
 pub(crate) fn rehash<L: Ledger, C: Ledger, R: Wait, G: Gate>(
@@ -85,7 +85,7 @@ pub(crate) fn rehash<L: Ledger, C: Ledger, R: Wait, G: Gate>(
     Ok(())
 }
 
-/// Fetches over a link, with a slot, the versions that the other node has and this one lacks. Refused: NoSlot, or as
+/// Fetches the other node's versions that this one is missing over a link, with a slot. Refused: NoSlot, or as
 /// [`ring_node::SharedRange::sync_worker`] is.
 pub(crate) fn sync<L: Ledger, C: Ledger, R: Wait, G: Gate, K: Link>(
     rt: &R,
@@ -103,7 +103,7 @@ pub(crate) fn sync<L: Ledger, C: Ledger, R: Wait, G: Gate, K: Link>(
     Ok(())
 }
 
-/// Passes over NoSlot, Dirty, Gone and LinkLost, and returns any other refusal of a round.
+/// Ignores NoSlot, Dirty, Gone and LinkLost, and returns any other refusal of a round.
 fn pass_over(round: Result<(), Refusal>) -> Result<(), Refusal> {
     match round {
         Err(Refusal::NoSlot | Refusal::Dirty | Refusal::Gone | Refusal::LinkLost) => Ok(()),

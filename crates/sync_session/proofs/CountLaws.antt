@@ -1,5 +1,6 @@
 -- How often a node is asked.
-use Rattle.std.proofs.Common.{◌≡◌, ℕ, zero, suc, ◌+◌, ◌*◌, ◌<◌, ◌≤◌, Bool, true, false, not, cond, eqb, ltb, List, [], ◌∷◌, ◌++◌, ◌&&◌, ◌||◌, refl, sym, ap, subst, ◌∙◌, arith, inl, inr, zero-add}
+use Rattle.std.proofs.Common.{◌≡◌, ℕ, zero, suc, ◌+◌, ◌*◌, ◌<◌, ◌≤◌, Bool, true, false, not, cond, eqb, ltb, List, [], ◌∷◌, ◌++◌, ◌&&◌, ◌||◌, refl}
+use Rattle.std.proofs.Common.{sym, ap, subst, ◌∙◌, arith, inl, inr, zero-add}
 use Rattle.std.specs.Prelude.{bytes_eq}
 use Rattle.std.specs.List.{flat_map, filter, AllByRecursion}
 use Rattle.std.proofs.lemmas.Bool.{cases_Bool, cases_lt, both_ways, ltb-true, lt-ltb, ne_eqb, false_from_ne_true}
@@ -57,7 +58,8 @@ last_node own m text k n h = by_case (bytes_eq (child_digest text k) (digest_of 
 last_is : (own : RowMap) (m : Node) (text : List ℕ) (k : ℕ) (n : Node) → 1 ≤ times n (last_kid own m text k) → IsKid own m text (suc k) n
 last_is own m text k n h = by_case (bytes_eq (child_digest text k) (digest_of own (child m k))) refl (last_node own m text k n h) h
   where
-    by_case : (b : Bool) → bytes_eq (child_digest text k) (digest_of own (child m k)) ≡ b → n ≡ child m k → 1 ≤ times n (cond b [] (child m k ∷ [])) → IsKid own m text (suc k) n
+    by_case : (b : Bool) → bytes_eq (child_digest text k) (digest_of own (child m k)) ≡ b → n ≡ child m k → 1 ≤ times n (cond b [] (child m k ∷ []))
+        → IsKid own m text (suc k) n
     by_case true e is h = absurd (omega arith)
     by_case false e is h = record { j = k; below = omega arith; is = is; unlike = e }
 
@@ -73,7 +75,9 @@ kid_of own m text (suc k) n h =
     ]
 
 pub kid_in : (own : RowMap) (m : Node) (text : List ℕ) (k : ℕ) (n : Node) → IsKid own m text k n → 1 ≤ times n (differing own m text k)
-kid_in own m text k n kid = subst (λ (x : Node). 1 ≤ times x (differing own m text k)) (sym kid.is) (has_times (child m kid.j) (differing own m text k) (differing_has own m text k kid.j kid.below kid.unlike))
+kid_in own m text k n kid =
+    subst (λ (x : Node). 1 ≤ times x (differing own m text k)) (sym kid.is)
+    (has_times (child m kid.j) (differing own m text k) (differing_has own m text k kid.j kid.below kid.unlike))
 
 same_child : (m : Node) (a b : ℕ) → child m a ≡ child m b → a ≡ b
 same_child m a b e = let i : 16 * m.index + a ≡ 16 * m.index + b = ap (λ (n : Node). n.index) e in omega (arith, i)
@@ -139,11 +143,17 @@ pub record HasAsker (P : TakenText → Type 0) (own : RowMap) (taken : List Take
   pub by : IsAskedBy own t n
   pub counts : 1 ≤ times t.node (nodes_of taken)
 
-pub asker : (P : TakenText → Type 0) (own : RowMap) (taken : List TakenText) (n : Node) → AllByRecursion P taken → 1 ≤ times n (flat_map (asks own) taken) → HasAsker P own taken n
+pub asker : (P : TakenText → Type 0) (own : RowMap) (taken : List TakenText) (n : Node) → AllByRecursion P taken
+    → 1 ≤ times n (flat_map (asks own) taken) → HasAsker P own taken n
 asker P own [] n all h = absurd (omega arith)
 asker P own (t ∷ ts) n all h =
     elim (cases_lt 0 (times n (asks own t))) [
-      | inl here ↦ record { t = t; good = all.0; by = asked_by_text own t n (omega arith); counts = counted (is_same_node t.node t.node) (is_node-same t.node) }
+      | inl here ↦ record {
+        t = t;
+        good = all.0;
+        by = asked_by_text own t n (omega arith);
+        counts = counted (is_same_node t.node t.node) (is_node-same t.node);
+      }
       | inr later ↦
           let rest = asker P own ts n all.1 (omega (arith, times-append n (asks own t) (flat_map (asks own) ts))) in
           record { t = rest.t; good = rest.good; by = rest.by; counts = omega (arith, rest.counts) }
@@ -169,7 +179,8 @@ same_parent m o i j a b e =
     node_is m o (omega (arith, depth)) (omega (arith, index))
   where
     node_is : (m o : Node) → m.depth ≡ o.depth → m.index ≡ o.index → m ≡ o
-    node_is m o d i = ap (λ (k : ℕ). let x : Node = record { depth = k; index = m.index } in x) d ∙ ap (λ (k : ℕ). let x : Node = record { depth = o.depth; index = k } in x) i
+    node_is m o d i = ap (λ (k : ℕ). let x : Node = record { depth = k; index = m.index } in x) d
+        ∙ ap (λ (k : ℕ). let x : Node = record { depth = o.depth; index = k } in x) i
 
 times-filter : (xs : List Node) (n m : Node) → is_same_node n m ≡ false → times n (filter (λ x. not (is_same_node x m)) xs) ≡ times n xs
 times-filter [] n m other = refl
@@ -188,11 +199,14 @@ times-gone : (xs : List Node) (m : Node) → times m (filter (λ x. not (is_same
 times-gone [] m = refl
 times-gone (x ∷ xs) m =
     elim (cases_Bool (is_same_node x m)) [
-      | inl gone ↦ ap (λ b. times m (cond (not b) (x ∷ filter (λ x. not (is_same_node x m)) xs) (filter (λ x. not (is_same_node x m)) xs))) gone ∙ times-gone xs m
+      | inl gone ↦ ap (λ b. times m (cond (not b) (x ∷ filter (λ x. not (is_same_node x m)) xs) (filter (λ x. not (is_same_node x m)) xs))) gone
+          ∙ times-gone xs m
       | inr stays ↦
-          let off : is_same_node m x ≡ false = false_from_ne_true (is_same_node m x) (λ e. both_ways (is_same_node x m) stays (subst (λ (y : Node). is_same_node x y ≡ true) (sym (is_node-true m x e)) (is_node-same x))) in
+          let off : is_same_node m x ≡ false = false_from_ne_true (is_same_node m x)
+          (λ e. both_ways (is_same_node x m) stays (subst (λ (y : Node). is_same_node x y ≡ true) (sym (is_node-true m x e)) (is_node-same x))) in
           ap (λ b. times m (cond (not b) (x ∷ filter (λ x. not (is_same_node x m)) xs) (filter (λ x. not (is_same_node x m)) xs))) stays
-          ∙ (ap (λ b. cond b 1 0 + times m (filter (λ x. not (is_same_node x m)) xs)) off ∙ (zero-add (times m (filter (λ x. not (is_same_node x m)) xs)) ∙ times-gone xs m))
+          ∙ (ap (λ b. cond b 1 0 + times m (filter (λ x. not (is_same_node x m)) xs)) off
+          ∙ (zero-add (times m (filter (λ x. not (is_same_node x m)) xs)) ∙ times-gone xs m))
     ]
 
 pub all_unit : (ts : List TakenText) → AllByRecursion (λ u. Unit {0}) ts
@@ -200,15 +214,18 @@ all_unit [] = tt
 all_unit (t ∷ ts) = (tt, all_unit ts)
 
 -- no node that a due text asks was asked before
-new_kids : (held : List ℕ → List Version) (w : Walk) (t : TakenText) → Walked held w → IsOrderly w → IsDue w t → (n : Node) → 1 ≤ times n (asks w.own t) → times n w.asked ≡ 0
+new_kids : (held : List ℕ → List Version) (w : Walk) (t : TakenText) → Walked held w → IsOrderly w → IsDue w t → (n : Node)
+    → 1 ≤ times n (asks w.own t) → times n w.asked ≡ 0
 new_kids held w t h o due n kid =
     let by = asked_by_text w.own t n kid in
     elim (cases_lt 0 (times n w.asked)) [
       | inl before ↦
-          let all : times n w.asked ≡ times n (first_asked w.own w.root) + times n (flat_map (asks w.own) w.taken) = ap (times n) h.asked ∙ times-append n (first_asked w.own w.root) (flat_map (asks w.own) w.taken) in
+          let all : times n w.asked ≡ times n (first_asked w.own w.root) + times n (flat_map (asks w.own) w.taken) = ap (times n) h.asked
+          ∙ times-append n (first_asked w.own w.root) (flat_map (asks w.own) w.taken) in
           let deep : n.depth ≡ suc t.node.depth = ap (λ (x : Node). x.depth) by.kid.is in
           let who = asker (λ u. Unit {0}) w.own w.taken n (all_unit w.taken) (omega (arith, all, no_root w.own w.root n t.node.depth deep)) in
-          let same : who.t.node ≡ t.node = same_parent who.t.node t.node who.by.kid.j by.kid.j who.by.kid.below by.kid.below (sym who.by.kid.is ∙ by.kid.is) in
+          let same : who.t.node ≡ t.node = same_parent who.t.node t.node who.by.kid.j by.kid.j who.by.kid.below by.kid.below
+          (sym who.by.kid.is ∙ by.kid.is) in
           let twice : 1 ≤ times t.node (nodes_of w.taken) = subst (λ (m : Node). 1 ≤ times m (nodes_of w.taken)) same who.counts in
           absurd (omega (arith, twice, o.shared t.node, o.once t.node, has_times t.node w.outstanding due.asked))
       | inr none ↦ omega arith
@@ -220,12 +237,16 @@ orderly_after held w t h o due =
       shared = λ n.
           let asked = times-append n w.asked (asks w.own t) in
           let left = times-append n (filter (λ x. not (is_same_node x t.node)) w.outstanding) (asks w.own t) in
-          let took : times n (nodes_of (w.taken ++ t ∷ [])) ≡ times n (nodes_of w.taken) + (cond (is_same_node n t.node) 1 0 + 0) = ap (times n) (map-append (λ (u : TakenText). u.node) w.taken (t ∷ [])) ∙ times-append n (nodes_of w.taken) (t.node ∷ []) in
+          let took : times n (nodes_of (w.taken ++ t ∷ [])) ≡ times n (nodes_of w.taken) + (cond (is_same_node n t.node) 1 0 + 0) = ap (times n)
+          (map-append (λ (u : TakenText). u.node) w.taken (t ∷ [])) ∙ times-append n (nodes_of w.taken) (t.node ∷ []) in
           elim (cases_Bool (is_same_node n t.node)) [
             | inl same ↦
                 let is = is_node-true n t.node same in
-                let gone : times n (filter (λ x. not (is_same_node x t.node)) w.outstanding) ≡ 0 = subst (λ (m : Node). times m (filter (λ x. not (is_same_node x t.node)) w.outstanding) ≡ 0) (sym is) (times-gone w.outstanding t.node) in
-                let out : 1 ≤ times n w.outstanding = subst (λ (m : Node). 1 ≤ times m w.outstanding) (sym is) (has_times t.node w.outstanding due.asked) in
+                let gone : times n (filter (λ x. not (is_same_node x t.node)) w.outstanding) ≡ 0 = subst
+                (λ (m : Node). times m (filter (λ x. not (is_same_node x t.node)) w.outstanding) ≡ 0) (sym is)
+                (times-gone w.outstanding t.node) in
+                let out : 1 ≤ times n w.outstanding = subst (λ (m : Node). 1 ≤ times m w.outstanding) (sym is)
+                (has_times t.node w.outstanding due.asked) in
                 let one : (cond (is_same_node n t.node) 1 0 + 0) ≡ 1 = ap (λ b. cond b 1 0 + 0) same in
                 omega (arith, asked, left, took, gone, out, one, o.shared n, o.once n)
             | inr other ↦
@@ -242,7 +263,8 @@ orderly_after held w t h o due =
     }
 
 pub orderly_started : (own : RowMap) (offered : List ℕ) → IsOrderly (started own offered)
-orderly_started own offered = record { shared = λ n. sym (zero-add (times n (first_asked own offered))); once = λ n. one (bytes_eq offered (root_of own)) n }
+orderly_started own offered =
+    record { shared = λ n. sym (zero-add (times n (first_asked own offered))); once = λ n. one (bytes_eq offered (root_of own)) n }
   where
     single : (c : Bool) → cond c 1 0 + 0 ≤ 1
     single true = omega arith

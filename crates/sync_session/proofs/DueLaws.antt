@@ -1,5 +1,6 @@
 -- What a session expects at the nodes that it has outstanding.
-use Rattle.std.proofs.Common.{◌≡◌, ℕ, zero, suc, ◌+◌, ◌*◌, ◌/◌, ◌%◌, ◌<◌, ◌≤◌, true, Option, Some, None, List, length, drop, refl, ap, subst, sym, ◌∙◌, arith, inl, inr}
+use Rattle.std.proofs.Common.{◌≡◌, ℕ, zero, suc, ◌+◌, ◌*◌, ◌/◌, ◌%◌, ◌<◌, ◌≤◌, true, Option, Some, None, List, length, drop, refl, ap, subst, sym}
+use Rattle.std.proofs.Common.{◌∙◌, arith, inl, inr}
 use Rattle.std.specs.Prelude.{is_some, option_map}
 use Rattle.std.proofs.lemmas.List.{length-take, length-drop}
 use Rattle.tree_nodes.specs.Nodes.{Node, contains_node}
@@ -17,7 +18,8 @@ pub record IsAwaited (w : Walk) (n : Node) : Type 0 where
   pub long : length digest ≡ 32
 
 -- the text of an inner node has a digest for each child
-digest_long : (w : Walk) (n : Node) (text : List ℕ) (j : ℕ) → n.depth < levels w → j < 16 → IsCanonical w.own n text → length (child_digest text j) ≡ 32
+digest_long : (w : Walk) (n : Node) (text : List ℕ) (j : ℕ) → n.depth < levels w → j < 16 → IsCanonical w.own n text
+    → length (child_digest text j) ≡ 32
 digest_long w n text j deep lt (inl inner) = omega (arith, lt, inner.1.size, length-take 32 (drop (32 * j + 1) text), length-drop (32 * j + 1) text)
 digest_long w n text j deep lt (inr leaf) = absurd (omega (arith, deep, leaf.0))
 
@@ -38,7 +40,8 @@ child_awaited w d i traced deep took = by_case (taken_at w.taken (at_node d (i /
 asked_awaited : (w : Walk) → IsTraced w → length w.root ≡ 32 → (d i : ℕ) → 1 ≤ times (at_node d i) w.asked → IsAwaited w (at_node d i)
 asked_awaited w traced long zero i h = record { shallow = omega arith; digest = w.root; expects = refl; long = long }
 asked_awaited w traced long (suc d) i h =
-    let who = asker (IsRightlyTaken w) w.own w.taken (at_node (suc d) i) traced.texts (omega (arith, h, asked_times w traced (at_node (suc d) i), no_root w.own w.root (at_node (suc d) i) d refl)) in
+    let who = asker (IsRightlyTaken w) w.own w.taken (at_node (suc d) i) traced.texts
+    (omega (arith, h, asked_times w traced (at_node (suc d) i), no_root w.own w.root (at_node (suc d) i) d refl)) in
     let kid = who.by.kid in
     let depth : suc d ≡ suc who.t.node.depth = ap (λ (n : Node). n.depth) kid.is in
     let index : i ≡ 16 * who.t.node.index + kid.j = ap (λ (n : Node). n.index) kid.is in
@@ -48,6 +51,7 @@ asked_awaited w traced long (suc d) i h =
     child_awaited w d i traced (omega (arith, who.by.inner, deep)) (subst (λ (n : Node). 1 ≤ times n (nodes_of w.taken)) parent who.counts)
 
 -- Each outstanding node is one of the tree, and the session expects a digest there.
-pub outstanding_awaited : (w : Walk) → IsTraced w → IsOrderly w → length w.root ≡ 32 → (n : Node) → contains_node n w.outstanding ≡ true → IsAwaited w n
+pub outstanding_awaited : (w : Walk) → IsTraced w → IsOrderly w → length w.root ≡ 32 → (n : Node) → contains_node n w.outstanding ≡ true
+    → IsAwaited w n
 outstanding_awaited w traced orderly long n has =
     asked_awaited w traced long n.depth n.index (omega (arith, orderly.shared n, has_times n w.outstanding has))

@@ -1,8 +1,10 @@
 -- Where each text is the partner's own, what is asked is where the trees differ.
-use Rattle.std.proofs.Common.{◌≡◌, ℕ, zero, suc, ◌+◌, ◌-◌, ◌*◌, ◌/◌, ◌%◌, ◌^◌, ◌<◌, ◌≤◌, Bool, true, false, not, cond, eqb, Option, Some, None, List, [], ◌∷◌, ◌||◌, refl, sym, ap, subst, ◌∙◌, arith, inl, inr, zero-add}
+use Rattle.std.proofs.Common.{◌≡◌, ℕ, zero, suc, ◌+◌, ◌-◌, ◌*◌, ◌/◌, ◌%◌, ◌^◌, ◌<◌, ◌≤◌, Bool, true, false, not, cond, eqb, Option, Some, None, List}
+use Rattle.std.proofs.Common.{[], ◌∷◌, ◌||◌, refl, sym, ap, subst, ◌∙◌, arith, inl, inr, zero-add}
 use Rattle.std.specs.Prelude.{is_some, bytes_eq, option_map}
 use Rattle.std.specs.List.{flat_map, filter, AllByRecursion}
-use Rattle.std.proofs.lemmas.Bool.{cases_Bool, cases_lt, or_cases, or_left, or_right, both_ways, eqb-true, and_parts, and_from, false_from_ne_true, not-true}
+use Rattle.std.proofs.lemmas.Bool.{cases_Bool, cases_lt, or_cases, or_left, or_right, both_ways, eqb-true, and_parts, and_from, false_from_ne_true}
+use Rattle.std.proofs.lemmas.Bool.{not-true}
 use Rattle.std.proofs.lemmas.List.Folds.{list_any-append}
 use Rattle.std.proofs.lemmas.Slice.Eq.{bytes_eq-Decides}
 use Rattle.row_bytes.specs.declared.row.Row.{Row}
@@ -18,9 +20,11 @@ use Rattle.tree_nodes.specs.Nodes.{Node, top, child, is_same_node, contains_node
 use Rattle.hash_tree.specs.Texts.{leaf_text, inner_text, node_text}
 use Rattle.sync_session.proofs.TextLaws.{text_above, leaf_rows, leaf_are, length-children, child_digest-text}
 use Rattle.sync_session.specs.TreeNodes.{text_of, digest_of}
-use Rattle.sync_session.specs.Walks.{Walk, TakenText, Walked, child_digest, taken_at, expected_at, first_asked, asks, IsCanonical, IsInnerText, AreSpelled, IsPartners}
+use Rattle.sync_session.specs.Walks.{Walk, TakenText, Walked, child_digest, taken_at, expected_at, first_asked, asks, IsCanonical, IsInnerText}
+use Rattle.sync_session.specs.Walks.{AreSpelled, IsPartners}
 use Rattle.sync_session.specs.Steps.{IsDue}
-use Rattle.sync_session.specs.Differing.{first_of_level, nodes_above_depth, all_nodes, is_unlike, differs_at, differ, times, nodes_of, IsOrderly, IsTraced, IsHonest, IsNearlyDone}
+use Rattle.sync_session.specs.Differing.{first_of_level, nodes_above_depth, all_nodes, is_unlike, differs_at, differ, times, nodes_of, IsOrderly}
+use Rattle.sync_session.specs.Differing.{IsTraced, IsHonest, IsNearlyDone}
 use Rattle.sync_session.proofs.DescentLaws.{at_node, levels, is_node-true, is_node-same, All-taken_at, entry, has_node-flat_map}
 use Rattle.sync_session.proofs.CountLaws.{times-append, has_times, times_has, asker, no_root, asks_in}
 use Rattle.sync_session.proofs.TraceLaws.{traced}
@@ -31,14 +35,16 @@ pub bytes_eq_comm : (a b : List ℕ) → bytes_eq a b ≡ bytes_eq b a
 bytes_eq_comm a b =
     elim (cases_Bool (bytes_eq a b)) [
       | inl same ↦ same ∙ sym ((bytes_eq-Decides b a).1 (sym ((bytes_eq-Decides a b).0 same)))
-      | inr off ↦ off ∙ sym (false_from_ne_true (bytes_eq b a) (λ e. both_ways (bytes_eq a b) off ((bytes_eq-Decides a b).1 (sym ((bytes_eq-Decides b a).0 e)))))
+      | inr off ↦ off ∙ sym (false_from_ne_true (bytes_eq b a)
+          (λ e. both_ways (bytes_eq a b) off ((bytes_eq-Decides a b).1 (sym ((bytes_eq-Decides b a).0 e)))))
     ]
 
 has_filter : (p : Node → Bool) (n : Node) (xs : List Node) → p n ≡ true → contains_node n xs ≡ true → contains_node n (filter p xs) ≡ true
 has_filter p n [] e h = h
 has_filter p n (x ∷ xs) e h =
     elim (or_cases (is_same_node n x) (contains_node n xs) h) [
-      | inl here ↦ ap (λ b. contains_node n (cond b (x ∷ filter p xs) (filter p xs))) (subst (λ (y : Node). p y ≡ true) (is_node-true n x here) e) ∙ or_left (is_same_node n x) (contains_node n (filter p xs)) here
+      | inl here ↦ ap (λ b. contains_node n (cond b (x ∷ filter p xs) (filter p xs))) (subst (λ (y : Node). p y ≡ true) (is_node-true n x here) e)
+          ∙ or_left (is_same_node n x) (contains_node n (filter p xs)) here
       | inr later ↦ pick (p x) (filter p xs) (has_filter p n xs e later)
     ]
   where
@@ -50,7 +56,9 @@ filter_has : (p : Node → Bool) (n : Node) (xs : List Node) → contains_node n
 filter_has p n [] h = absurd (cc)
 filter_has p n (x ∷ xs) h = by_case (p x) refl h (filter_has p n xs)
   where
-    by_case : (b : Bool) → p x ≡ b → contains_node n (cond b (x ∷ filter p xs) (filter p xs)) ≡ true → (contains_node n (filter p xs) ≡ true → (p n ≡ true) × (contains_node n xs ≡ true)) → (p n ≡ true) × ((is_same_node n x || contains_node n xs) ≡ true)
+    by_case : (b : Bool) → p x ≡ b → contains_node n (cond b (x ∷ filter p xs) (filter p xs)) ≡ true
+        → (contains_node n (filter p xs) ≡ true → (p n ≡ true) × (contains_node n xs ≡ true))
+        → (p n ≡ true) × ((is_same_node n x || contains_node n xs) ≡ true)
     by_case true e h again = elim (or_cases (is_same_node n x) (contains_node n (filter p xs)) h) [
       | inl here ↦ (subst (λ (y : Node). p y ≡ true) (sym (is_node-true n x here)) e, or_left (is_same_node n x) (contains_node n xs) here)
       | inr later ↦ let r = again later in (r.0, or_right (is_same_node n x) (contains_node n xs) r.1)
@@ -69,17 +77,20 @@ level_has d (suc k) i lt =
     list_any-append (is_same_node (at_node d i)) (first_of_level d k) (at_node d k ∷ [])
     ∙ elim (cases_lt i k) [
       | inl less ↦ or_left (contains_node (at_node d i) (first_of_level d k)) (contains_node (at_node d i) (at_node d k ∷ [])) (level_has d k i less)
-      | inr more ↦ or_right (contains_node (at_node d i) (first_of_level d k)) (contains_node (at_node d i) (at_node d k ∷ [])) (single (at_node d i) (at_node d k) (ap (at_node d) (omega arith)))
+      | inr more ↦ or_right (contains_node (at_node d i) (first_of_level d k)) (contains_node (at_node d i) (at_node d k ∷ []))
+          (single (at_node d i) (at_node d k) (ap (at_node d) (omega arith)))
     ]
 
 level_only : (d k : ℕ) (n : Node) → contains_node n (first_of_level d k) ≡ true → (n.depth ≡ d) × (n.index < k)
 unfolding first_of_level
 level_only d zero n h = absurd (cc)
 level_only d (suc k) n h =
-    elim (or_cases (contains_node n (first_of_level d k)) (contains_node n (at_node d k ∷ [])) (sym (list_any-append (is_same_node n) (first_of_level d k) (at_node d k ∷ [])) ∙ h)) [
+    elim (or_cases (contains_node n (first_of_level d k)) (contains_node n (at_node d k ∷ []))
+    (sym (list_any-append (is_same_node n) (first_of_level d k) (at_node d k ∷ [])) ∙ h)) [
       | inl early ↦ let r = level_only d k n early in (r.0, omega (arith, r.1))
       | inr last ↦ elim (or_cases (is_same_node n (at_node d k)) false last) [
-        | inl here ↦ let is = is_node-true n (at_node d k) here in let index : n.index ≡ k = ap (λ (x : Node). x.index) is in (ap (λ (x : Node). x.depth) is, omega (arith, index))
+        | inl here ↦ let is = is_node-true n (at_node d k) here in let index : n.index ≡ k = ap (λ (x : Node). x.index) is in
+            (ap (λ (x : Node). x.depth) is, omega (arith, index))
         | inr never ↦ absurd (cc)
       ]
     ]
@@ -90,15 +101,18 @@ levels_have zero d i lt within = absurd (omega arith)
 levels_have (suc m) d i lt within =
     list_any-append (is_same_node (at_node d i)) (nodes_above_depth m) (first_of_level m (16 ^ m))
     ∙ elim (cases_lt d m) [
-      | inl less ↦ or_left (contains_node (at_node d i) (nodes_above_depth m)) (contains_node (at_node d i) (first_of_level m (16 ^ m))) (levels_have m d i less within)
-      | inr more ↦ or_right (contains_node (at_node d i) (nodes_above_depth m)) (contains_node (at_node d i) (first_of_level m (16 ^ m))) (subst (λ (k : ℕ). contains_node (at_node d i) (first_of_level k (16 ^ k)) ≡ true) (omega arith) (level_has d (16 ^ d) i within))
+      | inl less ↦ or_left (contains_node (at_node d i) (nodes_above_depth m)) (contains_node (at_node d i) (first_of_level m (16 ^ m)))
+          (levels_have m d i less within)
+      | inr more ↦ or_right (contains_node (at_node d i) (nodes_above_depth m)) (contains_node (at_node d i) (first_of_level m (16 ^ m)))
+          (subst (λ (k : ℕ). contains_node (at_node d i) (first_of_level k (16 ^ k)) ≡ true) (omega arith) (level_has d (16 ^ d) i within))
     ]
 
 levels_only : (m : ℕ) (n : Node) → contains_node n (nodes_above_depth m) ≡ true → (n.depth < m) × (n.index < 16 ^ n.depth)
 unfolding nodes_above_depth
 levels_only zero n h = absurd (cc)
 levels_only (suc m) n h =
-    elim (or_cases (contains_node n (nodes_above_depth m)) (contains_node n (first_of_level m (16 ^ m))) (sym (list_any-append (is_same_node n) (nodes_above_depth m) (first_of_level m (16 ^ m))) ∙ h)) [
+    elim (or_cases (contains_node n (nodes_above_depth m)) (contains_node n (first_of_level m (16 ^ m)))
+    (sym (list_any-append (is_same_node n) (nodes_above_depth m) (first_of_level m (16 ^ m))) ∙ h)) [
       | inl early ↦ let r = levels_only m n early in (omega (arith, r.0), r.1)
       | inr last ↦ let r = level_only m (16 ^ m) n last in (omega (arith, r.0), subst (λ (d : ℕ). n.index < 16 ^ d) (sym r.0) r.1)
     ]
@@ -107,7 +121,8 @@ levels_only (suc m) n h =
 
 child_digest_of : (t : RowMap) (n : Node) (j : ℕ) → n.depth < tree_depth t.format → j < 16 → child_digest (text_of t n) j ≡ digest_of t (child n j)
 child_digest_of t n j deep lt =
-    ap (λ (h : ℕ). child_digest (text_above t h n.index) j) (omega (arith, deep)) ∙ child_digest-text t (tree_depth t.format - suc n.depth) n.index j lt
+    ap (λ (h : ℕ). child_digest (text_above t h n.index) j) (omega (arith, deep))
+    ∙ child_digest-text t (tree_depth t.format - suc n.depth) n.index j lt
 
 -- what the proofs below rest on
 record IsFair (w : Walk) (other : RowMap) : Type 0 where
@@ -123,7 +138,8 @@ pub record IsDifferent (w : Walk) (other : RowMap) (d i : ℕ) : Type 0 where
   pub shallow : d ≤ levels w
   pub within : i < 16 ^ d
 
-pub asked_times : (w : Walk) → IsTraced w → (n : Node) → times n w.asked ≡ times n (first_asked w.own w.root) + times n (flat_map (asks w.own) w.taken)
+pub asked_times : (w : Walk) → IsTraced w → (n : Node)
+    → times n w.asked ≡ times n (first_asked w.own w.root) + times n (flat_map (asks w.own) w.taken)
 asked_times w h n = ap (times n) h.asked ∙ times-append n (first_asked w.own w.root) (flat_map (asks w.own) w.taken)
 
 -- the first node is asked only where the roots differ
@@ -134,16 +150,19 @@ first_only w n h = by_case (bytes_eq w.root (root_of w.own)) refl h
     same true e h = is_node-true n top e
     same false e h = absurd (omega arith)
 
-    by_case : (b : Bool) → bytes_eq w.root (root_of w.own) ≡ b → 1 ≤ times n (cond b [] (top ∷ [])) → (n ≡ top) × (bytes_eq w.root (root_of w.own) ≡ false)
+    by_case : (b : Bool) → bytes_eq w.root (root_of w.own) ≡ b → 1 ≤ times n (cond b [] (top ∷ []))
+        → (n ≡ top) × (bytes_eq w.root (root_of w.own) ≡ false)
     by_case true e h = absurd (omega arith)
     by_case false e h = (same (is_same_node n top) refl h, e)
 
 root_unlike : (w : Walk) (other : RowMap) → IsPartners w other → is_unlike w.own other top ≡ not (bytes_eq w.root (root_of w.own))
 root_unlike w other p = ap not (bytes_eq_comm (root_of w.own) (root_of other) ∙ ap (λ r. bytes_eq r (root_of w.own)) p.root)
 
-kid_unlike : (w : Walk) (other : RowMap) → IsPartners w other → (n : Node) (j : ℕ) → n.depth < levels w → j < 16 → is_unlike w.own other (child n j) ≡ not (bytes_eq (child_digest (text_of other n) j) (digest_of w.own (child n j)))
+kid_unlike : (w : Walk) (other : RowMap) → IsPartners w other → (n : Node) (j : ℕ) → n.depth < levels w → j < 16
+    → is_unlike w.own other (child n j) ≡ not (bytes_eq (child_digest (text_of other n) j) (digest_of w.own (child n j)))
 kid_unlike w other p n j deep lt =
-    ap not (bytes_eq_comm (digest_of w.own (child n j)) (digest_of other (child n j)) ∙ ap (λ r. bytes_eq r (digest_of w.own (child n j))) (sym (child_digest_of other n j (omega (arith, deep, same_levels w other p)) lt)))
+    ap not (bytes_eq_comm (digest_of w.own (child n j)) (digest_of other (child n j))
+    ∙ ap (λ r. bytes_eq r (digest_of w.own (child n j))) (sym (child_digest_of other n j (omega (arith, deep, same_levels w other p)) lt)))
 
 -- each node that was asked is where they differ
 asked_differs : (w : Walk) (other : RowMap) → IsFair w other → (d i : ℕ) → 1 ≤ times (at_node d i) w.asked → IsDifferent w other d i
@@ -163,7 +182,8 @@ asked_differs w other fair zero i h =
           }
     ]
 asked_differs w other fair (suc d) i h =
-    let who = asker (λ t. t.text ≡ text_of other t.node) w.own w.taken (at_node (suc d) i) fair.honest (omega (arith, asked_times w fair.traced (at_node (suc d) i), no_root w.own w.root (at_node (suc d) i) d refl)) in
+    let who = asker (λ t. t.text ≡ text_of other t.node) w.own w.taken (at_node (suc d) i) fair.honest
+    (omega (arith, asked_times w fair.traced (at_node (suc d) i), no_root w.own w.root (at_node (suc d) i) d refl)) in
     let kid = who.by.kid in
     let depth : suc d ≡ suc who.t.node.depth = ap (λ (n : Node). n.depth) kid.is in
     let index : i ≡ 16 * who.t.node.index + kid.j = ap (λ (n : Node). n.index) kid.is in
@@ -188,8 +208,11 @@ is_taken_at (t ∷ ts) n h =
     elim (cases_Bool (is_same_node t.node n)) [
       | inl same ↦ ap (λ b. is_some (cond b (Some t.text) (taken_at ts n))) same
       | inr other ↦
-          let off : is_same_node n t.node ≡ false = false_from_ne_true (is_same_node n t.node) (λ e. both_ways (is_same_node t.node n) other (subst (λ (x : Node). is_same_node x n ≡ true) (is_node-true n t.node e) (is_node-same n))) in
-          let fewer : (cond (is_same_node n t.node) 1 0 + times n (nodes_of ts)) ≡ times n (nodes_of ts) = ap (λ b. cond b 1 0 + times n (nodes_of ts)) off ∙ zero-add (times n (nodes_of ts)) in
+          let off : is_same_node n t.node ≡ false = false_from_ne_true (is_same_node n t.node)
+          (λ e. both_ways (is_same_node t.node n) other
+          (subst (λ (x : Node). is_same_node x n ≡ true) (is_node-true n t.node e) (is_node-same n))) in
+          let fewer : (cond (is_same_node n t.node) 1 0 + times n (nodes_of ts)) ≡ times n (nodes_of ts) = ap
+          (λ b. cond b 1 0 + times n (nodes_of ts)) off ∙ zero-add (times n (nodes_of ts)) in
           ap (λ b. is_some (cond b (Some t.text) (taken_at ts n))) other ∙ is_taken_at ts n (omega (arith, fewer))
     ]
 
@@ -202,10 +225,12 @@ honest_at w other honest n h = by_case (taken_at w.taken n) refl (is_taken_at w.
     by_case (Some text) at is = at ∙ ap (λ (x : List ℕ). Some x) (All-taken_at (λ t. t.text ≡ text_of other t.node) w.taken n text honest at)
 
 -- each node where they differ is asked, where no inner node is outstanding
-differing_asked : (w : Walk) (other : RowMap) → IsFair w other → IsOrderly w → IsNearlyDone w → (d i : ℕ) → d ≤ levels w → i < 16 ^ d → differs_at w.own other d i ≡ true → 1 ≤ times (at_node d i) w.asked
+differing_asked : (w : Walk) (other : RowMap) → IsFair w other → IsOrderly w → IsNearlyDone w → (d i : ℕ) → d ≤ levels w → i < 16 ^ d
+    → differs_at w.own other d i ≡ true → 1 ≤ times (at_node d i) w.asked
 differing_asked w other fair orderly done zero i shallow within e =
     let index : i ≡ 0 = omega arith in
-    let unlike : bytes_eq w.root (root_of w.own) ≡ false = not-true (bytes_eq w.root (root_of w.own)) (sym (root_unlike w other fair.partner) ∙ (ap (λ (k : ℕ). is_unlike w.own other (at_node zero k)) (sym index) ∙ e)) in
+    let unlike : bytes_eq w.root (root_of w.own) ≡ false = not-true (bytes_eq w.root (root_of w.own))
+    (sym (root_unlike w other fair.partner) ∙ (ap (λ (k : ℕ). is_unlike w.own other (at_node zero k)) (sym index) ∙ e)) in
     let first : times (at_node zero 0) (first_asked w.own w.root) ≡ 1 = ap (λ b. times (at_node zero 0) (cond b [] (top ∷ []))) unlike in
     subst (λ (k : ℕ). 1 ≤ times (at_node zero k) w.asked) (sym index) (omega (arith, first, asked_times w fair.traced (at_node zero 0)))
 differing_asked w other fair orderly done (suc d) i shallow within e =
@@ -219,34 +244,47 @@ differing_asked w other fair orderly done (suc d) i shallow within e =
           let place : 16 * (i / 16) + i % 16 ≡ i = omega arith in
           let unlike : bytes_eq (child_digest (text_of other n) (i % 16)) (digest_of w.own (child n (i % 16))) ≡ false =
           not-true (bytes_eq (child_digest (text_of other n) (i % 16)) (digest_of w.own (child n (i % 16))))
-          (sym (kid_unlike w other fair.partner n (i % 16) (omega arith) (omega arith)) ∙ (ap (λ (k : ℕ). is_unlike w.own other (at_node (suc d) k)) place ∙ parts.1)) in
+          (sym (kid_unlike w other fair.partner n (i % 16) (omega arith) (omega arith))
+          ∙ (ap (λ (k : ℕ). is_unlike w.own other (at_node (suc d) k)) place ∙ parts.1)) in
           let asks_it : 1 ≤ times (at_node (suc d) i) (asks w.own (entry n (text_of other n))) =
           asks_in w.own (entry n (text_of other n)) (at_node (suc d) i)
-          (record { inner = omega arith; kid = record { j = i % 16; below = omega arith; is = ap (at_node (suc d)) (sym place); unlike = unlike } }) in
-          let found = has_times (at_node (suc d) i) (flat_map (asks w.own) w.taken) (has_node-flat_map (asks w.own) w.taken n (at_node (suc d) i) (text_of other n) text (times_has (at_node (suc d) i) (asks w.own (entry n (text_of other n))) asks_it)) in
+          (record {
+            inner = omega arith;
+            kid = record { j = i % 16; below = omega arith; is = ap (at_node (suc d)) (sym place); unlike = unlike };
+          }) in
+          let found = has_times (at_node (suc d) i) (flat_map (asks w.own) w.taken)
+          (has_node-flat_map (asks w.own) w.taken n (at_node (suc d) i) (text_of other n) text
+          (times_has (at_node (suc d) i) (asks w.own (entry n (text_of other n))) asks_it)) in
           omega (arith, found, asked_times w fair.traced (at_node (suc d) i))
     ]
 
-pub asked_is_differ : (w : Walk) (other : RowMap) → IsTraced w → IsPartners w other → IsHonest w other → (n : Node) → contains_node n w.asked ≡ true → contains_node n (differ w.own other) ≡ true
+pub asked_is_differ : (w : Walk) (other : RowMap) → IsTraced w → IsPartners w other → IsHonest w other → (n : Node) → contains_node n w.asked ≡ true
+    → contains_node n (differ w.own other) ≡ true
 asked_is_differ w other traced partner honest n h =
     let is = asked_differs w other (record { traced = traced; partner = partner; honest = honest }) n.depth n.index (has_times n w.asked h) in
-    has_filter (λ m. differs_at w.own other m.depth m.index) n (all_nodes w.own.format) is.differs (levels_have (suc (levels w)) n.depth n.index (omega (arith, is.shallow)) is.within)
+    has_filter (λ m. differs_at w.own other m.depth m.index) n (all_nodes w.own.format) is.differs
+    (levels_have (suc (levels w)) n.depth n.index (omega (arith, is.shallow)) is.within)
 
-pub differ_is_asked : (held : List ℕ → List Version) (w : Walk) (other : RowMap) → Walked held w → IsOrderly w → IsPartners w other → IsHonest w other → IsNearlyDone w → (n : Node) → contains_node n (differ w.own other) ≡ true → contains_node n w.asked ≡ true
+pub differ_is_asked : (held : List ℕ → List Version) (w : Walk) (other : RowMap) → Walked held w → IsOrderly w → IsPartners w other → IsHonest w other
+    → IsNearlyDone w → (n : Node) → contains_node n (differ w.own other) ≡ true → contains_node n w.asked ≡ true
 differ_is_asked held w other walked orderly partner honest done n h =
     let f = filter_has (λ m. differs_at w.own other m.depth m.index) n (all_nodes w.own.format) h in
     let at = levels_only (suc (levels w)) n f.1 in
-    times_has n w.asked (differing_asked w other (record { traced = traced held w walked orderly; partner = partner; honest = honest }) orderly done n.depth n.index (omega (arith, at.0)) at.1 f.0)
+    times_has n w.asked (differing_asked w other
+    (record { traced = traced held w walked orderly; partner = partner; honest = honest }) orderly done n.depth n.index
+    (omega (arith, at.0)) at.1 f.0)
 
 -- ---- the true text of an outstanding node is taken
 
-due_digest : (w : Walk) (other : RowMap) → IsFair w other → (d i : ℕ) → 1 ≤ times (at_node d i) w.asked → expected_at w.root w.taken d i ≡ Some (digest_of other (at_node d i))
+due_digest : (w : Walk) (other : RowMap) → IsFair w other → (d i : ℕ) → 1 ≤ times (at_node d i) w.asked
+    → expected_at w.root w.taken d i ≡ Some (digest_of other (at_node d i))
 due_digest w other fair zero i h =
     let is = asked_differs w other fair zero i h in
     let index : i ≡ 0 = omega (arith, is.within) in
     ap (λ (x : List ℕ). Some x) (sym fair.partner.root ∙ ap (λ (k : ℕ). digest_of other (at_node zero k)) (sym index))
 due_digest w other fair (suc d) i h =
-    let who = asker (λ t. t.text ≡ text_of other t.node) w.own w.taken (at_node (suc d) i) fair.honest (omega (arith, asked_times w fair.traced (at_node (suc d) i), no_root w.own w.root (at_node (suc d) i) d refl)) in
+    let who = asker (λ t. t.text ≡ text_of other t.node) w.own w.taken (at_node (suc d) i) fair.honest
+    (omega (arith, asked_times w fair.traced (at_node (suc d) i), no_root w.own w.root (at_node (suc d) i) d refl)) in
     let kid = who.by.kid in
     let depth : suc d ≡ suc who.t.node.depth = ap (λ (n : Node). n.depth) kid.is in
     let index : i ≡ 16 * who.t.node.index + kid.j = ap (λ (n : Node). n.index) kid.is in
@@ -256,7 +294,9 @@ due_digest w other fair (suc d) i h =
     let taken : 1 ≤ times (at_node d (i / 16)) (nodes_of w.taken) = subst (λ (n : Node). 1 ≤ times n (nodes_of w.taken)) parent who.counts in
     let place : 16 * (i / 16) + i % 16 ≡ i = omega arith in
     ap (option_map (λ t. child_digest t (i % 16))) (honest_at w other fair.honest (at_node d (i / 16)) taken)
-    ∙ ap (λ (x : List ℕ). Some x) (child_digest_of other (at_node d (i / 16)) (i % 16) (omega (arith, who.by.inner, deep, same_levels w other fair.partner)) (omega arith) ∙ ap (λ (k : ℕ). digest_of other (at_node (suc d) k)) place)
+    ∙ ap (λ (x : List ℕ). Some x)
+    (child_digest_of other (at_node d (i / 16)) (i % 16) (omega (arith, who.by.inner, deep, same_levels w other fair.partner)) (omega arith)
+    ∙ ap (λ (k : ℕ). digest_of other (at_node (suc d) k)) place)
 
 -- the partner's text of a node with children has its form
 inner_form : (t : RowMap) (h i : ℕ) → IsInnerText t.format (text_above t (suc h) i)
@@ -267,7 +307,8 @@ all_here : (f : Row → ℕ) (i : ℕ) (rows : List Row) → AllByRecursion (λ 
 all_here f i [] = tt
 all_here f i (r ∷ rows) = by_case (eqb (f r) i) refl (all_here f i rows)
   where
-    by_case : (b : Bool) → eqb (f r) i ≡ b → AllByRecursion (λ (r : Row). f r ≡ i) (filter (λ r. eqb (f r) i) rows) → AllByRecursion (λ (r : Row). f r ≡ i) (cond b (r ∷ filter (λ r. eqb (f r) i) rows) (filter (λ r. eqb (f r) i) rows))
+    by_case : (b : Bool) → eqb (f r) i ≡ b → AllByRecursion (λ (r : Row). f r ≡ i) (filter (λ r. eqb (f r) i) rows)
+        → AllByRecursion (λ (r : Row). f r ≡ i) (cond b (r ∷ filter (λ r. eqb (f r) i) rows) (filter (λ r. eqb (f r) i) rows))
     by_case true e rest = (eqb-true (f r) i e, rest)
     by_case false e rest = rest
 
@@ -281,12 +322,14 @@ leaf_form m is n = record {
 }
 
 -- what rows of the partner's spell is spelled by rows of the own range
-own_spelled : (w : Walk) (other : RowMap) → IsPartners w other → (n : Node) (text : List ℕ) (rows : List Row) → AreSpelled other n text rows → AreSpelled w.own n text rows
+own_spelled : (w : Walk) (other : RowMap) → IsPartners w other → (n : Node) (text : List ℕ) (rows : List Row) → AreSpelled other n text rows
+    → AreSpelled w.own n text rows
 own_spelled w other p n text rows is = record {
   text_is = is.text_is ∙ ap (λ (f : Format). leaf_text f rows) p.format;
   are = subst (λ (f : Format). AreRows f rows) p.format is.are;
   range = All-weaker _ _ rows (λ r e. ap (λ (b : ℕ). range_at b r.key) (sym p.bits) ∙ e ∙ p.range) is.range;
-  leaf = All-weaker _ _ rows (λ r e. ap (λ (b : ℕ). leaf_at w.own.format b r.key) (sym p.bits) ∙ ap (λ (f : Format). leaf_at f other.bits r.key) (sym p.format) ∙ e) is.leaf;
+  leaf = All-weaker _ _ rows (λ r e. ap (λ (b : ℕ). leaf_at w.own.format b r.key) (sym p.bits)
+      ∙ ap (λ (f : Format). leaf_at f other.bits r.key) (sym p.format) ∙ e) is.leaf;
 }
 
 -- the partner's own text is one that the node can have
@@ -295,16 +338,19 @@ canonical_of w other p n shallow =
     let same = same_levels w other p in
     elim (cases_lt n.depth (levels w)) [
       | inl inner ↦
-          let form : IsInnerText other.format (text_of other n) = subst (λ (h : ℕ). IsInnerText other.format (text_above other h n.index)) (omega (arith, inner, same)) (inner_form other (tree_depth other.format - suc n.depth) n.index) in
+          let form : IsInnerText other.format (text_of other n) = subst (λ (h : ℕ). IsInnerText other.format (text_above other h n.index))
+          (omega (arith, inner, same)) (inner_form other (tree_depth other.format - suc n.depth) n.index) in
           inl (inner, subst (λ (f : Format). IsInnerText f (text_of other n)) p.format form)
       | inr leaf ↦
           let deep : n.depth ≡ levels w = omega arith in
           let height : zero ≡ tree_depth other.format - n.depth = omega (arith, deep, same) in
-          let form : AreSpelled other n (text_of other n) (leaf_rows other n.index) = subst (λ (h : ℕ). AreSpelled other n (text_above other h n.index) (leaf_rows other n.index)) height (leaf_form other p.map n) in
+          let form : AreSpelled other n (text_of other n) (leaf_rows other n.index) = subst
+          (λ (h : ℕ). AreSpelled other n (text_above other h n.index) (leaf_rows other n.index)) height (leaf_form other p.map n) in
           inr (deep, (leaf_rows other n.index, own_spelled w other p n (text_of other n) (leaf_rows other n.index) form))
     ]
 
-pub true_text_due : (held : List ℕ → List Version) (w : Walk) (other : RowMap) → Walked held w → IsOrderly w → IsPartners w other → IsHonest w other → (n : Node) → contains_node n w.outstanding ≡ true → IsDue w (entry n (text_of other n)) × IsCanonical w.own n (text_of other n)
+pub true_text_due : (held : List ℕ → List Version) (w : Walk) (other : RowMap) → Walked held w → IsOrderly w → IsPartners w other → IsHonest w other
+    → (n : Node) → contains_node n w.outstanding ≡ true → IsDue w (entry n (text_of other n)) × IsCanonical w.own n (text_of other n)
 true_text_due held w other walked orderly partner honest n h =
     let fair : IsFair w other = record { traced = traced held w walked orderly; partner = partner; honest = honest } in
     let asked : 1 ≤ times n w.asked = omega (arith, has_times n w.outstanding h, orderly.shared n) in
@@ -324,9 +370,11 @@ differs_comm a b (suc d) i = rw (differs_comm a b d (i / 16), unlike_comm a b (a
 
 filter_same_test : (p q : Node → Bool) → ((n : Node) → p n ≡ q n) → (xs : List Node) → filter p xs ≡ filter q xs
 filter_same_test p q h [] = refl
-filter_same_test p q h (x ∷ xs) = ap (λ b. cond b (x ∷ filter p xs) (filter p xs)) (h x) ∙ ap (λ ys. cond (q x) (x ∷ ys) ys) (filter_same_test p q h xs)
+filter_same_test p q h (x ∷ xs) = ap (λ b. cond b (x ∷ filter p xs) (filter p xs)) (h x)
+    ∙ ap (λ ys. cond (q x) (x ∷ ys) ys) (filter_same_test p q h xs)
 
 pub differ_comm : (a b : RowMap) → a.format ≡ b.format → differ a b ≡ differ b a
 differ_comm a b e =
-    filter_same_test (λ n. differs_at a b n.depth n.index) (λ n. differs_at b a n.depth n.index) (λ n. differs_comm a b n.depth n.index) (all_nodes a.format)
+    filter_same_test (λ n. differs_at a b n.depth n.index) (λ n. differs_at b a n.depth n.index) (λ n. differs_comm a b n.depth n.index)
+    (all_nodes a.format)
     ∙ ap (λ (f : Format). filter (λ n. differs_at b a n.depth n.index) (all_nodes f)) e

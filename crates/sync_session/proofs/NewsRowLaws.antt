@@ -42,7 +42,8 @@ record IsLast (last : List ℕ) (others : List Row) (r : Row) : Type 0 where
   before : AllByRecursion (λ (x : Row). pointwise nat_eq x.key r.key ≡ false) others
   next : is_before last r.key ≡ true
 
-last_other : (own rows others : List Row) (known : ℕ) (r : Row) (last : List ℕ) → KeysAscend last rows → AreOthers own rows (others ++ r ∷ []) known → IsLast last others r
+last_other : (own rows others : List Row) (known : ℕ) (r : Row) (last : List ℕ) → KeysAscend last rows → AreOthers own rows (others ++ r ∷ []) known
+    → IsLast last others r
 last_other own [] others known r last ascending news = absurd (omega (arith, ap length news.0, length-append others (r ∷ [])))
 last_other own (x ∷ rows) others known r last ascending news = elim news [
   | inl other ↦ by_others others other.1.0 (λ ys news. last_other own rows ys known r x.key ascending.1 news) other.1.1 other.1.2
@@ -51,8 +52,10 @@ last_other own (x ∷ rows) others known r last ascending news = elim news [
       record { before = rest.before; next = before_trans last x.key r.key ascending.0 rest.next }
 ]
   where
-    by_others : (others more : List Row) → ((ys : List Row) → AreOthers own rows (ys ++ r ∷ []) known → IsLast x.key ys r) → others ++ r ∷ [] ≡ x ∷ more → AreOthers own rows more known → IsLast last others r
-    by_others [] more again e news = let head : r ≡ x = cc in record { before = tt; next = subst (λ (y : Row). is_before last y.key ≡ true) (sym head) ascending.0 }
+    by_others : (others more : List Row) → ((ys : List Row) → AreOthers own rows (ys ++ r ∷ []) known → IsLast x.key ys r)
+        → others ++ r ∷ [] ≡ x ∷ more → AreOthers own rows more known → IsLast last others r
+    by_others [] more again e news = let head : r ≡ x = cc in
+        record { before = tt; next = subst (λ (y : Row). is_before last y.key ≡ true) (sym head) ascending.0 }
     by_others (y ∷ ys) more again e news =
         let head : y ≡ x = cc in
         let tail : ys ++ r ∷ [] ≡ more = cc in
@@ -63,13 +66,15 @@ last_other own (x ∷ rows) others known r last ascending news = elim news [
         }
 
 -- the rows before a row that was read have other keys
-pub read_apart : {m : RowMap} {n : Node} {text last rest : List ℕ} {known : ℕ} (others : List Row) (r : Row) → IsReadTo m n text last rest (others ++ r ∷ []) known → AllByRecursion (λ (x : Row). pointwise nat_eq x.key r.key ≡ false) others
+pub read_apart : {m : RowMap} {n : Node} {text last rest : List ℕ} {known : ℕ} (others : List Row) (r : Row)
+    → IsReadTo m n text last rest (others ++ r ∷ []) known → AllByRecursion (λ (x : Row). pointwise nat_eq x.key r.key ≡ false) others
 read_apart {m = m} {known = known} others r read = (last_other m.rows read.way.rows others known r [] read.way.are.ascending read.way.news).before
 
 -- ---- what holds of all
 
 -- what holds of all rows holds of those that the own ones lack
-pub others_all : (P : Row → Type 0) (own rows others : List Row) (known : ℕ) → AllByRecursion P rows → AreOthers own rows others known → AllByRecursion P others
+pub others_all : (P : Row → Type 0) (own rows others : List Row) (known : ℕ) → AllByRecursion P rows → AreOthers own rows others known
+    → AllByRecursion P others
 others_all P own [] others known all news = subst (AllByRecursion P) (sym news.0) tt
 others_all P own (r ∷ rows) others known all news = elim news [
   | inl other ↦ subst (AllByRecursion P) (sym other.1.1) (all.0, others_all P own rows other.1.0 known all.1 other.1.2)

@@ -30,7 +30,8 @@ all_here m leaf (r ∷ rows) e =
 pub spelled_here : (m : RowMap) (n : Node) (text : List ℕ) (rows : List Row) → AreSpelled m n text rows → list_all (is_here m n.index) rows ≡ true
 spelled_here m n text rows is = each rows is.range is.leaf
   where
-    each : (rows : List Row) → AllByRecursion (λ (r : Row). range_at m.bits r.key ≡ m.range) rows → AllByRecursion (λ (r : Row). leaf_in m r.key ≡ n.index) rows → list_all (is_here m n.index) rows ≡ true
+    each : (rows : List Row) → AllByRecursion (λ (r : Row). range_at m.bits r.key ≡ m.range) rows
+        → AllByRecursion (λ (r : Row). leaf_in m r.key ≡ n.index) rows → list_all (is_here m n.index) rows ≡ true
     each [] range leaf = refl
     each (r ∷ rows) range leaf =
         and_from (is_here m n.index r) (list_all (is_here m n.index) rows)
@@ -38,7 +39,8 @@ spelled_here m n text rows is = each rows is.range is.leaf
         (each rows range.1 leaf.1)
 
 -- What a leaf's text spells follows its first byte.
-pub spelled_text : (m : RowMap) (n : Node) (text : List ℕ) (rows : List Row) (f : Format) (mark : ℕ) → AreSpelled m n text rows → f ≡ m.format → mark ≡ leaf_byte f → AreRows f rows × (text ≡ mark ∷ flat_map (row_text f) rows)
+pub spelled_text : (m : RowMap) (n : Node) (text : List ℕ) (rows : List Row) (f : Format) (mark : ℕ) → AreSpelled m n text rows → f ≡ m.format
+    → mark ≡ leaf_byte f → AreRows f rows × (text ≡ mark ∷ flat_map (row_text f) rows)
 unfolding leaf_text
 spelled_text m n text rows f mark is format first = (
   subst (λ (g : Format). AreRows g rows) (sym format) is.are,
@@ -46,7 +48,8 @@ spelled_text m n text rows f mark is format first = (
 )
 
 -- the bytes that follow
-pub spelled_body : (m : RowMap) (n : Node) (text : List ℕ) (rows : List Row) (f : Format) (mark : ℕ) (body : List ℕ) → AreSpelled m n text rows → f ≡ m.format → mark ≡ leaf_byte f → text ≡ mark ∷ body → AreRows f rows × (body ≡ flat_map (row_text f) rows)
+pub spelled_body : (m : RowMap) (n : Node) (text : List ℕ) (rows : List Row) (f : Format) (mark : ℕ) (body : List ℕ) → AreSpelled m n text rows
+    → f ≡ m.format → mark ≡ leaf_byte f → text ≡ mark ∷ body → AreRows f rows × (body ≡ flat_map (row_text f) rows)
 spelled_body m n text rows f mark body is format first e =
     let all = spelled_text m n text rows f mark is format first in
     (all.0, ap (λ (t : List ℕ). behind t) (sym e ∙ all.1))
@@ -56,7 +59,8 @@ spelled_body m n text rows f mark body is format first e =
     behind (b ∷ bs) = bs
 
 -- Rows that were read behind the first byte, and lie there, are spelled.
-pub spelled_by : (m : RowMap) (n : Node) (text : List ℕ) (rows : List Row) (f : Format) (mark : ℕ) (body : List ℕ) → f ≡ m.format → mark ≡ leaf_byte f → text ≡ mark ∷ body → AreRows f rows → body ≡ flat_map (row_text f) rows → list_all (is_here m n.index) rows ≡ true → AreSpelled m n text rows
+pub spelled_by : (m : RowMap) (n : Node) (text : List ℕ) (rows : List Row) (f : Format) (mark : ℕ) (body : List ℕ) → f ≡ m.format → mark ≡ leaf_byte f
+    → text ≡ mark ∷ body → AreRows f rows → body ≡ flat_map (row_text f) rows → list_all (is_here m n.index) rows ≡ true → AreSpelled m n text rows
 unfolding leaf_text
 spelled_by m n text rows f mark body format first e are read here =
     let place = all_here m n.index rows here in

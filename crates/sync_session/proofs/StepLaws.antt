@@ -1,5 +1,6 @@
 -- A record stays right.
-use Rattle.std.proofs.Common.{◌≡◌, ℕ, zero, suc, ◌/◌, ◌%◌, ◌<◌, ◌≤◌, ◌⊎◌, Bool, true, false, not, cond, Option, Some, None, List, [], ◌∷◌, ◌++◌, refl, sym, ap, subst, ◌∙◌, inl, inr, append_assoc, append-nil, length, arith}
+use Rattle.std.proofs.Common.{◌≡◌, ℕ, zero, suc, ◌/◌, ◌%◌, ◌<◌, ◌≤◌, ◌⊎◌, Bool, true, false, not, cond, Option, Some, None, List, [], ◌∷◌, ◌++◌}
+use Rattle.std.proofs.Common.{refl, sym, ap, subst, ◌∙◌, inl, inr, append_assoc, append-nil, length, arith}
 use Rattle.std.specs.Prelude.{is_some, option_map}
 use Rattle.std.specs.List.{flat_map, filter, AllByRecursion}
 use Rattle.std.proofs.lemmas.Bool.{cases_Bool, or_left, or_right, or_cases}
@@ -12,7 +13,8 @@ use Rattle.version_set.proofs.ListLaws.{all-push}
 use Rattle.sync_session.specs.declared.state.SessionState.TheVariants.{Finished}
 use Rattle.tree_nodes.specs.Nodes.{Node, is_same_node, contains_node}
 use Rattle.snapshot.specs.RowMaps.{RowMap, IsRowMap}
-use Rattle.sync_session.specs.Walks.{Walk, TakenText, taken_at, child_digest, expected_at, first_asked, asks, Held, IsLeafHeld, IsCanonical, AreSpelled, IsRightlyTaken, Walked}
+use Rattle.sync_session.specs.Walks.{Walk, TakenText, taken_at, child_digest, expected_at, first_asked, asks, Held, IsLeafHeld, IsCanonical}
+use Rattle.sync_session.specs.Walks.{AreSpelled, IsRightlyTaken, Walked}
 use Rattle.sync_session.specs.Steps.{state_by, started, left_after, after, IsDue, Grows}
 use Rattle.hash_tree.proofs.TextLaws.{same_leaf}
 use Rattle.sync_session.proofs.DescentLaws.{is_node-true, is_node-same}
@@ -39,7 +41,8 @@ walked_grows before now w grows h =
     }
 
 -- the rows that a leaf's text spells are the ones that were accepted
-pub spelled_held : (held : List ℕ → List Version) (own : RowMap) (t : TakenText) (rows : List Row) → AreSpelled own t.node t.text rows → Held rows held → IsLeafHeld own held t
+pub spelled_held : (held : List ℕ → List Version) (own : RowMap) (t : TakenText) (rows : List Row) → AreSpelled own t.node t.text rows
+    → Held rows held → IsLeafHeld own held t
 spelled_held held own t rows is h leaf others are spelled =
     let same : rows ≡ others = same_leaf own.format rows others is.are.each are.each (sym is.text_is ∙ spelled) in
     subst (λ (rs : List Row). Held rs held) same h
@@ -50,7 +53,8 @@ state_done : (nodes : List Node) → state_by nodes ≡ Finished → nodes ≡ [
 state_done [] e = refl
 state_done (n ∷ nodes) e = absurd (cc)
 
-pub walked_started : (held : List ℕ → List Version) (own : RowMap) (offered : List ℕ) → IsRowMap own → Held own.rows held → Walked held (started own offered)
+pub walked_started : (held : List ℕ → List Version) (own : RowMap) (offered : List ℕ) → IsRowMap own → Held own.rows held
+    → Walked held (started own offered)
 walked_started held own offered is h =
     record {
       map = is;
@@ -68,7 +72,8 @@ taken_at-stays : (ts us : List TakenText) (n : Node) (text : List ℕ) → taken
 taken_at-stays [] us n text e = absurd (cc)
 taken_at-stays (t ∷ ts) us n text e = both (is_same_node t.node n) (taken_at-stays ts us n text) e
   where
-    both : (b : Bool) → (taken_at ts n ≡ Some text → taken_at (ts ++ us) n ≡ Some text) → cond b (Some t.text) (taken_at ts n) ≡ Some text → cond b (Some t.text) (taken_at (ts ++ us) n) ≡ Some text
+    both : (b : Bool) → (taken_at ts n ≡ Some text → taken_at (ts ++ us) n ≡ Some text) → cond b (Some t.text) (taken_at ts n) ≡ Some text
+        → cond b (Some t.text) (taken_at (ts ++ us) n) ≡ Some text
     both true again e = e
     both false again e = again e
 
@@ -87,25 +92,29 @@ taken_now (u ∷ ts) t = either (is_same_node u.node t.node) (taken_now ts t)
     either true h = refl
     either false h = h
 
-expected_stays : (offered : List ℕ) (ts us : List TakenText) (d i : ℕ) (x : List ℕ) → expected_at offered ts d i ≡ Some x → expected_at offered (ts ++ us) d i ≡ Some x
+expected_stays : (offered : List ℕ) (ts us : List TakenText) (d i : ℕ) (x : List ℕ) → expected_at offered ts d i ≡ Some x
+    → expected_at offered (ts ++ us) d i ≡ Some x
 expected_stays offered ts us zero i x e = e
 expected_stays offered ts us (suc d) i x e = by_case (taken_at ts parent) refl e
   where
     parent : Node
     parent = record { depth = d; index = i / 16 }
 
-    by_case : (o : Option (List ℕ)) → taken_at ts parent ≡ o → option_map (λ t. child_digest t (i % 16)) o ≡ Some x → option_map (λ t. child_digest t (i % 16)) (taken_at (ts ++ us) parent) ≡ Some x
+    by_case : (o : Option (List ℕ)) → taken_at ts parent ≡ o → option_map (λ t. child_digest t (i % 16)) o ≡ Some x
+        → option_map (λ t. child_digest t (i % 16)) (taken_at (ts ++ us) parent) ≡ Some x
     by_case None at e = absurd (cc)
     by_case (Some text) at e = ap (option_map (λ t. child_digest t (i % 16))) (taken_at-stays ts us parent text at) ∙ e
 
 -- what is still outstanding
-kept : (nodes : List Node) (n m : Node) → is_same_node m n ≡ false → contains_node m nodes ≡ true → contains_node m (filter (λ x. not (is_same_node x n)) nodes) ≡ true
+kept : (nodes : List Node) (n m : Node) → is_same_node m n ≡ false → contains_node m nodes ≡ true
+    → contains_node m (filter (λ x. not (is_same_node x n)) nodes) ≡ true
 kept [] n m other h = h
 kept (x ∷ nodes) n m other h =
     elim (or_cases (is_same_node m x) (contains_node m nodes) h) [
       | inl here ↦
           let stays : is_same_node x n ≡ false = subst (λ (y : Node). is_same_node y n ≡ false) (is_node-true m x here) other in
-          ap (λ b. contains_node m (cond (not b) (x ∷ filter (λ x. not (is_same_node x n)) nodes) (filter (λ x. not (is_same_node x n)) nodes))) stays ∙ or_left (is_same_node m x) (contains_node m (filter (λ x. not (is_same_node x n)) nodes)) here
+          ap (λ b. contains_node m (cond (not b) (x ∷ filter (λ x. not (is_same_node x n)) nodes) (filter (λ x. not (is_same_node x n)) nodes))) stays
+          ∙ or_left (is_same_node m x) (contains_node m (filter (λ x. not (is_same_node x n)) nodes)) here
       | inr later ↦ pick (not (is_same_node x n)) (filter (λ x. not (is_same_node x n)) nodes) (kept nodes n m other later)
     ]
   where
@@ -136,34 +145,41 @@ fewer (x ∷ nodes) n h =
     maybe_with true ys short = omega (arith, short)
     maybe_with false ys short = omega (arith, short)
 
-answered_after : (held : List ℕ → List Version) (w : Walk) (t : TakenText) → Walked held w → (n : Node) → contains_node n (w.asked ++ asks w.own t) ≡ true → (is_some (taken_at (w.taken ++ t ∷ []) n) ≡ true) ⊎ (contains_node n (left_after w t) ≡ true)
+answered_after : (held : List ℕ → List Version) (w : Walk) (t : TakenText) → Walked held w → (n : Node)
+    → contains_node n (w.asked ++ asks w.own t) ≡ true → (is_some (taken_at (w.taken ++ t ∷ []) n) ≡ true) ⊎ (contains_node n (left_after w t) ≡ true)
 answered_after held w t h n e =
     let rest = filter (λ x. not (is_same_node x t.node)) w.outstanding in
     elim (or_cases (contains_node n w.asked) (contains_node n (asks w.own t)) (sym (list_any-append (is_same_node n) w.asked (asks w.own t)) ∙ e)) [
       | inl before ↦ elim (h.answered n before) [
         | inl taken ↦ inl (some_stays w.taken (t ∷ []) n taken)
         | inr out ↦ elim (cases_Bool (is_same_node n t.node)) [
-          | inl same ↦ inl (subst (λ (m : Node). is_some (taken_at (w.taken ++ t ∷ []) m) ≡ true) (sym (is_node-true n t.node same)) (taken_now w.taken t))
-          | inr other ↦ inr (list_any-append (is_same_node n) rest (asks w.own t) ∙ or_left (contains_node n rest) (contains_node n (asks w.own t)) (kept w.outstanding t.node n other out))
+          | inl same ↦ inl (subst (λ (m : Node). is_some (taken_at (w.taken ++ t ∷ []) m) ≡ true) (sym (is_node-true n t.node same))
+              (taken_now w.taken t))
+          | inr other ↦ inr (list_any-append (is_same_node n) rest (asks w.own t)
+              ∙ or_left (contains_node n rest) (contains_node n (asks w.own t)) (kept w.outstanding t.node n other out))
         ]
       ]
       | inr new ↦ inr (list_any-append (is_same_node n) rest (asks w.own t) ∙ or_right (contains_node n rest) (contains_node n (asks w.own t)) new)
     ]
 
-pub walked_after : (held : List ℕ → List Version) (w : Walk) (t : TakenText) → Walked held w → IsDue w t → IsCanonical w.own t.node t.text → IsLeafHeld w.own held t → Walked held (after w t)
+pub walked_after : (held : List ℕ → List Version) (w : Walk) (t : TakenText) → Walked held w → IsDue w t → IsCanonical w.own t.node t.text
+    → IsLeafHeld w.own held t → Walked held (after w t)
 walked_after held w t h due canonical is_held =
     record {
       map = h.map;
       own_held = h.own_held;
       rows_held = all-push _ w.taken t h.rows_held is_held;
       texts = all-push (IsRightlyTaken (after w t)) w.taken t
-          (All-weaker (IsRightlyTaken w) (IsRightlyTaken (after w t)) w.taken (λ u is. record { canonical = is.canonical; digest = expected_stays w.root w.taken (t ∷ []) u.node.depth u.node.index _ is.digest }) h.texts)
+          (All-weaker (IsRightlyTaken w) (IsRightlyTaken (after w t)) w.taken
+          (λ u is. record { canonical = is.canonical; digest = expected_stays w.root w.taken (t ∷ []) u.node.depth u.node.index _ is.digest })
+          h.texts)
           (record { canonical = canonical; digest = expected_stays w.root w.taken (t ∷ []) t.node.depth t.node.index _ due.digest });
       asked =
           let first = first_asked w.own w.root in
           ap (λ (xs : List Node). xs ++ asks w.own t) h.asked
           ∙ (append_assoc first (flat_map (asks w.own) w.taken) (asks w.own t)
-          ∙ ap (λ (xs : List Node). first ++ xs) (ap (λ (xs : List Node). flat_map (asks w.own) w.taken ++ xs) (sym (append-nil (asks w.own t))) ∙ sym (flat_map-append (asks w.own) w.taken (t ∷ []))));
+          ∙ ap (λ (xs : List Node). first ++ xs) (ap (λ (xs : List Node). flat_map (asks w.own) w.taken ++ xs) (sym (append-nil (asks w.own t)))
+          ∙ sym (flat_map-append (asks w.own) w.taken (t ∷ []))));
       answered = answered_after held w t h;
       finished = state_done (left_after w t);
     }

@@ -1,5 +1,6 @@
 -- The texts of the nodes of a row map, and the rows of its leaves.
-use Rattle.std.proofs.Common.{◌≡◌, ℕ, zero, suc, ◌+◌, ◌*◌, ◌^◌, ◌<◌, List, [], ◌∷◌, ◌++◌, length, take, drop, get_or, None, refl, ap, subst, ◌∙◌, arith}
+use Rattle.std.proofs.Common.{◌≡◌, ℕ, zero, suc, ◌+◌, ◌*◌, ◌^◌, ◌<◌, List, [], ◌∷◌, ◌++◌, length, take, drop, get_or, None, refl, ap, subst, ◌∙◌}
+use Rattle.std.proofs.Common.{arith}
 use Rattle.std.specs.List.{flat_map, AllByRecursion}
 use Rattle.std.proofs.lemmas.List.{take_at, length-append}
 use Rattle.std.proofs.lemmas.Grind.{common_steps}
@@ -33,7 +34,8 @@ leaf_rows m index = rows_in_leaf (leaf_in m) index m.rows
 -- ---- digests in texts
 
 -- one of several texts of 32 bytes that follow each other
-part_of : (ds : List (List ℕ)) (j : ℕ) → ((i : ℕ) → i < length ds → length (get_or ds i []) ≡ 32) → j < length ds → take 32 (drop (32 * j) (flat_map (λ d. d) ds)) ≡ get_or ds j []
+part_of : (ds : List (List ℕ)) (j : ℕ) → ((i : ℕ) → i < length ds → length (get_or ds i []) ≡ 32) → j < length ds
+    → take 32 (drop (32 * j) (flat_map (λ d. d) ds)) ≡ get_or ds j []
 part_of [] j long lt = absurd (omega arith)
 part_of (d ∷ ds) zero long lt = take_at d (flat_map (λ d. d) ds) 32 (long 0 (omega arith))
 part_of (d ∷ ds) (suc j) long lt =
@@ -62,14 +64,17 @@ child_length m height i k l =
 -- A node's children have 512 bytes of digests.
 pub length-children : (m : RowMap) (height i : ℕ) → length (flat_map (λ d. d) (children_of m height i)) ≡ 512
 length-children m height i =
-    length_parts (children_of m height i) (child_length m height i) ∙ ap (λ (n : ℕ). 32 * n) (length-per_child (λ j. sha256 (text_above m height (16 * i + j))))
+    length_parts (children_of m height i) (child_length m height i)
+    ∙ ap (λ (n : ℕ). 32 * n) (length-per_child (λ j. sha256 (text_above m height (16 * i + j))))
 
 -- A child's digest stands in the node's text.
-pub child_digest-text : (m : RowMap) (height i j : ℕ) → j < 16 → child_digest (text_above m (suc height) i) j ≡ sha256 (text_above m height (16 * i + j))
+pub child_digest-text : (m : RowMap) (height i j : ℕ) → j < 16
+    → child_digest (text_above m (suc height) i) j ≡ sha256 (text_above m height (16 * i + j))
 unfolding node_text inner_text
 child_digest-text m height i j lt =
     let f : ℕ → List ℕ = λ j. sha256 (text_above m height (16 * i + j)) in
-    skip _ (32 * j) (flat_map (λ d. d) (per_child f)) ∙ part_of (per_child f) j (child_length m height i) (omega (arith, length-per_child f)) ∙ per_child-at f j lt
+    skip _ (32 * j) (flat_map (λ d. d) (per_child f)) ∙ part_of (per_child f) j (child_length m height i) (omega (arith, length-per_child f))
+    ∙ per_child-at f j lt
   where
     skip : (b k : ℕ) (xs : List ℕ) → take 32 (drop (k + 1) (b ∷ xs)) ≡ take 32 (drop k xs)
     skip b k xs = grind (arith, common_steps)
@@ -94,7 +99,8 @@ ancestor_below (suc h) d leaf lt =
 -- ---- the order of a leaf's rows
 
 -- keys that ascend among each other ascend one by one
-pub keys_ascend : (last : List ℕ) (rows : List Row) → AllByRecursion (λ (x : Row). key_cmp last x.key ≡ Less) rows → AscendByKey rows → KeysAscend last rows
+pub keys_ascend : (last : List ℕ) (rows : List Row) → AllByRecursion (λ (x : Row). key_cmp last x.key ≡ Less) rows → AscendByKey rows
+    → KeysAscend last rows
 keys_ascend last [] all a = tt
 keys_ascend last (r ∷ rows) all a = (ap is_lt all.0, keys_ascend r.key rows a.0 a.1)
 
@@ -111,4 +117,8 @@ after_nothing format (r ∷ rows) all = (some r.key all.0.key, after_nothing for
 pub leaf_are : (m : RowMap) → IsRowMap m → (index : ℕ) → AreRows m.format (leaf_rows m index)
 leaf_are m is index =
     let each = all-filter (IsRow m.format) _ m.rows is.each in
-    record { each = each; ascending = keys_ascend [] (leaf_rows m index) (after_nothing m.format (leaf_rows m index) each) (Pairwise-filter (λ (r x : Row). key_cmp r.key x.key ≡ Less) _ m.rows is.ascending) }
+    record {
+      each = each;
+      ascending = keys_ascend [] (leaf_rows m index) (after_nothing m.format (leaf_rows m index) each)
+          (Pairwise-filter (λ (r x : Row). key_cmp r.key x.key ≡ Less) _ m.rows is.ascending);
+    }

@@ -29,7 +29,8 @@ traced_failed w h = record {
 -- one that was cancelled, as it stood
 pub traced_cancelled : (w : Walk) (state : SessionState) → IsTraced w → IsTraced (cancelled_by w state)
 traced_cancelled w Open h = record {
-  texts = All-weaker (IsRightlyTaken w) (IsRightlyTaken (cancelled_by w Open)) w.taken (λ t is. record { canonical = is.canonical; digest = is.digest }) h.texts;
+  texts = All-weaker (IsRightlyTaken w) (IsRightlyTaken (cancelled_by w Open)) w.taken
+      (λ t is. record { canonical = is.canonical; digest = is.digest }) h.texts;
   asked = h.asked;
   took = h.took;
   once = h.once;

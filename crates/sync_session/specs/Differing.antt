@@ -13,7 +13,7 @@ unfoldable pub first_of_level : ℕ → ℕ → List Node
 first_of_level depth zero = []
 first_of_level depth (suc k) = first_of_level depth k ++ record { depth = depth; index = k } ∷ []
 
--- the nodes above a depth, by depth and then by index
+-- the nodes above a depth, by depth, then by index
 unfoldable pub nodes_above_depth : ℕ → List Node
 nodes_above_depth zero = []
 nodes_above_depth (suc depth) = nodes_above_depth depth ++ first_of_level depth (16 ^ depth)
@@ -31,11 +31,11 @@ abbrev pub differs_at : RowMap → RowMap → ℕ → ℕ → Bool
 differs_at own other zero i = is_unlike own other (record { depth = zero; index = i })
 differs_at own other (suc depth) i = differs_at own other depth (i / 16) && is_unlike own other (record { depth = suc depth; index = i })
 
--- the nodes for which differs_at is true, by depth and then by index
+-- the nodes for which differs_at is true, by depth, then by index
 abbrev pub differ : RowMap → RowMap → List Node
 differ own other = filter (λ n. differs_at own other n.depth n.index) (all_nodes own.format)
 
--- the number of times that a list has a node
+-- the number of occurrences of a node in a list
 abbrev pub times : Node → List Node → ℕ
 times n [] = 0
 times n (m ∷ nodes) = (if is_same_node n m then 1 else 0) + times n nodes
@@ -48,8 +48,8 @@ pub record IsOrderly (w : Walk) : Type 0 where
   pub shared : (n : Node) → times n w.asked ≡ times n (nodes_of w.taken) + times n w.outstanding
   pub once : (n : Node) → times n w.asked ≤ 1
 
--- The facts of a walk that stay true however it ends: each taken text is one that its node can have and had the digest
--- that was expected there; the nodes asked are those that the texts ask, each once; and only nodes that were asked were
+-- The facts of a walk that stay true however it ends: each taken text is canonical for its node and had the digest that
+-- was expected there; the nodes asked are those that the texts ask, each once; and only nodes that were asked were
 -- taken.
 pub record IsTraced (w : Walk) : Type 0 where
   pub texts : AllByRecursion (IsRightlyTaken w) w.taken
@@ -57,7 +57,7 @@ pub record IsTraced (w : Walk) : Type 0 where
   pub took : (n : Node) → times n (nodes_of w.taken) ≤ times n w.asked
   pub once : (n : Node) → times n w.asked ≤ 1
 
--- each taken text is that of the partner
+-- each taken text is the partner's
 abbrev pub IsHonest : Walk → RowMap → Type 0
 IsHonest w other = AllByRecursion (λ t. t.text ≡ text_of other t.node) w.taken
 
@@ -65,10 +65,10 @@ IsHonest w other = AllByRecursion (λ t. t.text ≡ text_of other t.node) w.take
 abbrev pub IsNearlyDone : Walk → Type 0
 IsNearlyDone w = (n : Node) → contains_node n w.outstanding ≡ true → n.depth ≡ tree_depth w.own.format
 
--- the texts were taken in the order in which their nodes were asked
+-- the texts were taken in the order of their nodes' asks
 abbrev pub IsInTurn : Walk → Type 0
 IsInTurn w = (rest : List Node) × (w.asked ≡ nodes_of w.taken ++ rest)
 
--- nodes by depth, and then by index
+-- nodes by depth, then by index
 abbrev pub AscendByPlace : List Node → Type 0
 AscendByPlace nodes = Pairwise (λ n m. place_of n < place_of m) nodes

@@ -15,11 +15,11 @@ use Rattle.sync_session.specs.declared.news.News.{News}
 use Rattle.sync_session.specs.Walks.{TakenText, Walk, AreSpelled, IsInnerText}
 use Rattle.sync_session.specs.Steps.{IsDue, IsTakeFault}
 
--- the fault of a text that is found without memory
+-- a text's fault other than NoMemory
 abbrev pub IsBeginFault : Walk → TakenText → Refusal → Type 0
 IsBeginFault w t e = IsTakeFault w t e × (e ≢ refusals.NoMemory)
 
--- a text is awaited, or the fault of a text that is not
+-- a text is awaited, or has a fault
 abbrev pub Awaits : Walk → TakenText → Result (Unit {0}) Refusal → Type 0
 Awaits w t (Ok ok) = IsDue w t
 Awaits w t (Err e) = IsBeginFault w t e
@@ -35,10 +35,10 @@ abbrev pub Shows : Walk → TakenText → Result (List Row) Refusal → Type 0
 Shows w t (Ok rows) = IsDue w t × (((t.node.depth < tree_depth w.own.format) × IsInnerText w.own.format t.text × (rows ≡ [])) ⊎ ((t.node.depth ≡ tree_depth w.own.format) × AreSpelled w.own t.node t.text rows))
 Shows w t (Err e) = IsTakeFault w t e
 
--- ---- the rows of a leaf's text that the local rows lack
+-- ---- the rows of a leaf's text that are missing from the local rows
 
--- The rows of a text, compared with own rows: others are those that own does not contain, in order, and known is the
--- number of versions of the rest.
+-- The rows of a text, compared with own rows: others are the rows that own doesn't contain, in order, and known is the
+-- number of versions of the other ones.
 abbrev pub AreOthers : List Row → List Row → List Row → ℕ → Type 0
 AreOthers own [] others known = (others ≡ []) × (known ≡ 0)
 AreOthers own (r ∷ rows) others known =
@@ -64,12 +64,12 @@ pub record LiesIn (m : RowMap) (leaf : ℕ) (key : List ℕ) : Type 0 where
   pub range : range_at m.bits key ≡ m.range
   pub leaf_is : leaf_in m key ≡ leaf
 
--- the row at the front of a text and the rest after it; None if the text does not begin with a row of this leaf
+-- the row at the front of a text and the rest after it; None if the text doesn't begin with a row of this leaf
 abbrev pub FrontRow : RowMap → ℕ → List ℕ → Option (Row × List ℕ) → Type 0
 FrontRow m leaf text (Some x) = IsRow m.format x.0 × LiesIn m leaf x.0.key × (text ≡ row_text m.format x.0 ++ x.1)
 FrontRow m leaf text None = (r : Row) (rest : List ℕ) → IsRow m.format r → LiesIn m leaf r.key → text ≡ row_text m.format r ++ rest → ⊥
 
--- the local rows with which a text begins, from that of a key on: the number of their versions, the last key, and the
+-- the local rows at the front of a text, from the row of a key on: the number of their versions, the last key, and the
 -- rest
 pub record FrontRun (b : Bucket) (key text : List ℕ) (versions : ℕ) (last after : List ℕ) : Type 0 where
   pub run : List Row
@@ -78,14 +78,14 @@ pub record FrontRun (b : Bucket) (key text : List ℕ) (versions : ℕ) (last af
   pub last_is : last ≡ last_key run
   pub text_is : text ≡ flat_map (row_text b.format) run ++ after
 
--- the local rows with which a text begins, if it begins with the row of a key
+-- the local rows at the front of a text, if it begins with the row of a key
 abbrev pub FrontOwn : Bucket → List ℕ → List ℕ → Option (ℕ × List ℕ × List ℕ) → Type 0
 FrontOwn b key text (Some x) = FrontRun b key text x.0 x.1 x.2
 FrontOwn b key text None = (r : Row) (rest : List ℕ) → Contains b.rows r → r.key ≡ key → text ≡ row_text b.format r ++ rest → ⊥
 
 -- ---- reading a leaf's text row by row
 
--- the key of the last row, or the key before them if there is no row
+-- the key of the last row, or the key before the rows if they are empty
 abbrev pub end_key : List ℕ → List Row → List ℕ
 end_key last [] = last
 end_key last (r ∷ rows) = end_key r.key rows
@@ -109,7 +109,7 @@ pub record IsReadTo (m : RowMap) (n : Node) (text last rest : List ℕ) (others 
   pub text_is : text ≡ leaf_byte m.format ∷ body
   pub way : OnTheWay m n text body last rest others known
 
--- the text was read up to one more row that isn't local; or to its end, and has no other such row
+-- the text was read up to one more row that isn't local; or to its end, without such a row
 abbrev pub StepsTo : RowMap → Node → List ℕ → ℕ → List Row → Option Row → List ℕ → List ℕ → ℕ → Type 0
 StepsTo m n text left others (Some r) last rest known = IsReadTo m n text last rest (others ++ r ∷ []) known × (length rest < left)
 StepsTo m n text left others None last rest known = IsReadTo m n text last rest others known × (rest ≡ [])
@@ -119,7 +119,7 @@ abbrev pub IsReadFault : RowMap → Node → List ℕ → Refusal → Type 0
 IsReadFault m n text refusals.NotCanonical = (rows : List Row) → AreSpelled m n text rows → ⊥
 IsReadFault m n text e = e ≡ refusals.NoMemory
 
--- a text that is due: of an inner node, or of a leaf and read up to its first row
+-- a text that is due: an inner node's, or a leaf's that is read up to its first row
 abbrev pub BeginsAtOnce : Walk → TakenText → Option (List ℕ × List ℕ × ℕ) → Type 0
 BeginsAtOnce w t None = IsDue w t × (t.node.depth < tree_depth w.own.format) × IsInnerText w.own.format t.text
 BeginsAtOnce w t (Some p) = IsDue w t × (t.node.depth ≡ tree_depth w.own.format) × IsReadTo w.own t.node t.text p.0 p.1 [] p.2

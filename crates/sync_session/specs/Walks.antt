@@ -1,5 +1,5 @@
--- Walks: the record of a session, and the conditions for it to be right. Sessions are those of the paper of 2007,
--- section 4.7: two trees are compared from the root down, and the leaves that differ are handed over.
+-- Walks: the record of a session, and the conditions for its validity. A session (the Dynamo paper, section 4.7)
+-- compares two trees from the root down, and transfers the leaves that differ.
 use Rattle.std.specs.Prelude.{◌≡◌, ℕ, zero, suc, ◌+◌, ◌*◌, ◌/◌, ◌%◌, ◌⊎◌, true, IsTrue, is_some, bytes_eq, Option, Some, None, option_map, List, [], ◌∷◌, ◌++◌, take, drop, length, if◌then◌else◌, nat_lt, nat_eq, slice_index, ◌<◌}
 use Rattle.std.specs.List.{flat_map, AllByRecursion, Contains}
 use Rattle.sha2.specs.Sha256.{sha256}
@@ -21,8 +21,8 @@ pub record TakenText : Type 0 where
   pub node : Node
   pub text : List ℕ
 
--- the local rows, the root that the partner offered, all nodes that were asked, those that are not answered, the texts
--- that were taken, each list in order, and the state of the session
+-- the local rows, the root that the partner offered, all nodes that were asked, those not answered yet, the texts that
+-- were taken, each list in order, and the state of the session
 pub record Walk : Type 0 where
   pub own : RowMap
   pub root : List ℕ
@@ -91,7 +91,7 @@ pub record IsInnerText (format : Format) (text : List ℕ) : Type 0 where
 abbrev pub IsCanonical : RowMap → Node → List ℕ → Type 0
 IsCanonical m n text = ((n.depth < tree_depth m.format) × IsInnerText m.format text) ⊎ ((n.depth ≡ tree_depth m.format) × ((rows : List Row) × AreSpelled m n text rows))
 
--- a text that was rightly taken
+-- a taken text that is canonical and has the expected digest
 pub record IsRightlyTaken (w : Walk) (t : TakenText) : Type 0 where
   pub canonical : IsCanonical w.own t.node t.text
   pub digest : expected w.root w.taken t.node ≡ Some (sha256 t.text)
@@ -100,9 +100,9 @@ pub record IsRightlyTaken (w : Walk) (t : TakenText) : Type 0 where
 abbrev pub IsLeafHeld : RowMap → (List ℕ → List Version) → TakenText → Type 0
 IsLeafHeld own held t = t.node.depth ≡ tree_depth own.format → (rows : List Row) → AreRows own.format rows → t.text ≡ leaf_text own.format rows → Held rows held
 
--- A record that is right for the versions held now: the local rows are held, and so are those of each taken leaf; each
--- taken text is one that its node can have and has the digest that was expected there; the nodes asked are those that
--- the texts ask; each of them has its text or is outstanding; and a finished session has nothing outstanding.
+-- A record that is valid for the versions held now: the local rows and the rows of each taken leaf are held; each taken
+-- text is canonical for its node and has the digest that was expected there; the nodes asked are those that the texts
+-- ask; each of them has its text or is outstanding; and a finished session has nothing outstanding.
 pub record Walked (held : List ℕ → List Version) (w : Walk) : Type 0 where
   pub map : IsRowMap w.own
   pub own_held : Held w.own.rows held
@@ -112,7 +112,7 @@ pub record Walked (held : List ℕ → List Version) (w : Walk) : Type 0 where
   pub answered : (n : Node) → contains_node n w.asked ≡ true → (is_some (taken_at w.taken n) ≡ true) ⊎ (contains_node n w.outstanding ≡ true)
   pub finished : w.state ≡ Finished → w.outstanding ≡ []
 
--- a text that is compared: of a node of either tree, or taken
+-- a compared text: of a node of either tree, or taken
 abbrev pub IsCompared : RowMap → RowMap → List TakenText → List ℕ → Type 0
 IsCompared own other taken text =
     ((n : Node) × IsNode (tree_depth own.format) n × (text ≡ text_of own n))

@@ -11,14 +11,14 @@ ghost use Rattle.sync_session.specs.Steps.{started, after, failed, cancelled_by,
 ghost use Rattle.sync_session.specs.Differing.{differ, IsOrderly, IsTraced, IsHonest, IsNearlyDone, IsInTurn, AscendByPlace};
 
 /// After a finished session each version of the partner's rows is held or is below a held version. The partner's rows
-/// are any rows of the local format, ring bits and range whose root is the offered one. The law assumes that no two
-/// different texts among those compared share a digest, and nothing about the answers.
+/// are any rows of the local format, ring bits and range whose root is the offered root. The law assumes that no two
+/// different compared texts share a digest, and nothing about the answers.
 pub fn a_finished_session_is_held()
     ensures { (held : List ℕ → List Version) (w : Walk) (other : RowMap) → Walked held w → w.state ≡ Finished
         → IsPartners w other → NoTwoShareADigest w.own other w.taken → Held other.rows held }
 {}
 
-/// The record of a walk stays right as versions are accepted and as texts are taken.
+/// The record of a walk stays valid as versions are accepted and as texts are taken.
 pub fn a_walk_stays_right()
     ensures started { (held : List ℕ → List Version) (own : RowMap) (offered : List ℕ) → IsRowMap own
         → Held own.rows held → Walked held (started own offered) }
@@ -45,8 +45,8 @@ pub fn a_walk_leaves_a_trace()
 
 /// A session whose taken texts are all the partner's asks only nodes at which the trees differ, however it ends. Such a
 /// session has asked all of them once no inner node is outstanding, and the partner's text of an outstanding node has
-/// the expected digest and is canonical. If any session takes texts in the order of its asks, the nodes asked are in
-/// order of depth and then of index. Two trees of one format differ at the same nodes, whichever of them is local.
+/// the expected digest and is canonical. If any session takes texts in the order of its asks, it asks nodes in order of
+/// depth, then of index. Two trees of one format differ at the same nodes, whichever is local.
 pub fn a_session_asks_where_the_trees_differ()
     ensures only { (w : Walk) (other : RowMap) → IsTraced w → IsPartners w other → IsHonest w other
         → (n : Node) → contains_node n w.asked ≡ true → contains_node n (differ w.own other) ≡ true }

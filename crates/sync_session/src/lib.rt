@@ -1,12 +1,12 @@
-//! Sessions of anti-entropy (the paper of 2007, section 4.7): a walk of a partner's tree from the root down to the
-//! leaves that differ from the local ones. Use it to find the rows of a partner that the local snapshot lacks.
+//! Sessions of anti-entropy (the Dynamo paper, section 4.7): a walk of a partner's tree from the root down to the
+//! leaves that differ from the local ones. Use it to find the partner's rows that are missing from the local snapshot.
 //!
 //! - [`session`]: one walk: the nodes asked, and the texts taken.
-//! - [`news`]: the rows of a leaf's text that the local snapshot lacks.
+//! - [`news`]: the rows of a leaf's text that are missing from the local snapshot.
 //! - [`state`]: the state of a session.
 //! - [`taken_text`]: a text that a session took.
-//! - [`laws`]: laws proved from the definitions. After a finished session all versions of the partner's rows are held
-//!   or below held ones, if no two different texts share a digest.
+//! - [`laws`]: laws proved from the definitions. After a finished session each version of the partner's rows is held or
+//!   is below a held version, if no two different texts share a digest.
 //!
 //! ```
 //! match session.take(alloc, node, text)? {

@@ -1,4 +1,4 @@
-//! The rows of a partner's leaf that the local snapshot lacks.
+//! The rows of a partner's leaf that are missing from the local snapshot.
 ghost use Rattle.std.specs.Prelude.{◌≡◌, ◌<◌, ◌^◌, ℕ, List, [], None, length, MatchResult, option_map};
 ghost use Rattle.std.specs.List.{sum_by};
 ghost use Rattle.vclock.specs.Answer.{Answers};
@@ -15,8 +15,8 @@ use std::alloc::Global;
 use tree_nodes::NodeAt;
 use vclock::Refusal;
 
-/// The rows of a leaf's text that the local snapshot lacks. A row that the local snapshot has, byte by byte, is counted
-/// and not read, so most of a text costs no more than comparing it.
+/// The rows of a leaf's text that are missing from the local snapshot. A row that the local snapshot has, byte for
+/// byte, is counted and not read, so most of a text costs no more than a comparison.
 #[derive(Debug)]
 pub struct News {
     /// The rows of the text that aren't rows of the local snapshot, in ascending order of key.
@@ -38,10 +38,10 @@ impl News {
     }
 }
 
-/// A place in the text of a leaf: the rows before it were compared with those of the local snapshot.
+/// A place in the text of a leaf: the rows before it were compared with the local snapshot's.
 #[derive(Clone, Copy)]
 pub struct NewsPlace<'a> {
-    /// The key of the last row before the place: no bytes at the first row.
+    /// The key of the last row before the place: empty at the first row.
     pub(crate) last: &'a [u8],
     /// The bytes from the place on.
     pub(crate) rest: &'a [u8],
@@ -52,14 +52,14 @@ pub struct NewsPlace<'a> {
 /// A step through the text of a leaf.
 #[derive(Drop)]
 pub struct NewsStep<'a> {
-    /// The next row that the local snapshot lacks, or `None` at the end of the text.
+    /// The next row that is missing from the local snapshot, or `None` at the end of the text.
     pub row: Option<Row>,
     /// The place after that row, or at the end.
     pub place: NewsPlace<'a>,
 }
 
-/// Reads on to the next row that the local snapshot lacks. Refused: NotCanonical (no rows of the range give the leaf
-/// this text), NoMemory, which may replace NotCanonical.
+/// Reads to the next row that is missing from the local snapshot. Refused: NotCanonical (no rows of the range give the
+/// leaf this text), NoMemory, which may replace NotCanonical.
 pub(crate) fn next_news<'a>(
     alloc: Global,
     own: &'a Snapshot,
@@ -75,7 +75,7 @@ pub(crate) fn next_news<'a>(
         step.row step.place.last.now step.place.rest.now step.place.known)
         (IsReadFault own.now node text) }
 {
-    // Called for its clause alone: the local rows are those of a range.
+    // Called only for its clause: the local rows belong to one range.
     let _format = own.format();
     let leaf = own.rows(node.index);
     let mut known = place.known;
@@ -142,7 +142,7 @@ pub(crate) fn leaf_news(
     }
 }
 
-/// Local rows with which a text begins, one after another.
+/// Consecutive local rows at the front of a text.
 #[derive(Clone, Copy)]
 struct Run<'a> {
     /// The number of their versions.
@@ -153,8 +153,8 @@ struct Run<'a> {
     after: &'a [u8],
 }
 
-/// Returns the rows of a leaf with which the bytes begin, from that of a key on, or `None` if they don't begin with the
-/// row of the key. Most of a text is skipped in this way, one run at a time.
+/// Returns the rows of a leaf at the front of the bytes, from the row of `key` on, or `None` if the bytes don't begin
+/// with that row. Most of a text is skipped in this way, one run at a time.
 fn front_run<'a>(leaf: &'a SharedLeaf, key: &[u8], text: &'a [u8]) -> Option<Run<'a>>
     requires { AscendByKey leaf.now.rows }
     ensures { FrontOwn leaf.now key.now text.now (option_map (λ x. (x.versions, x.last.now, x.after.now)) result) }

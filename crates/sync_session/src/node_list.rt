@@ -13,7 +13,7 @@ use tree_nodes::{Digest, NodeAt};
 /// The length of a digest, in bytes.
 const DIGEST_LEN: usize = 32;
 
-/// Returns true if the list has the node.
+/// Returns true if the node is in the list.
 pub fn has(nodes: &[NodeAt], node: NodeAt) -> bool
     ensures { result ≡ contains_node node nodes.now }
 {
@@ -99,7 +99,7 @@ pub fn differing(
     Ok(nodes)
 }
 
-/// Removes a node from a list, and keeps the list's room.
+/// Removes a node from a list, and keeps the list's capacity.
 pub fn remove(nodes: &mut Vec<NodeAt>, node: NodeAt)
     ensures kept { nodes.new.items ≡ filter (λ n. not (is_same_node n node)) nodes.old.items }
     ensures room { vec_capacity nodes.new ≡ vec_capacity nodes.old }
@@ -110,7 +110,7 @@ pub fn remove(nodes: &mut Vec<NodeAt>, node: NodeAt)
     nodes.retain(|other| *other != node);
 }
 
-/// Appends nodes to a list that has room for them.
+/// Appends nodes to a list with capacity for them.
 pub fn append(nodes: &mut Vec<NodeAt>, new: &[NodeAt])
     requires { vec_len nodes.old + length new.now ≤ vec_capacity nodes.old }
     ensures items { nodes.new.items ≡ nodes.old.items ++ new.now }

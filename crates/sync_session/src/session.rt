@@ -24,7 +24,7 @@ use std::sync::Arc;
 use tree_nodes::{Digest, Hashed, NodeAt, tree_depth};
 use vclock::Refusal;
 
-/// The kind of a text that a session took.
+/// The kind of text that a session took.
 #[derive(Debug, Drop)]
 pub enum Answered {
     /// The text of an inner node: its children that differ are now asked.
@@ -33,8 +33,8 @@ pub enum Answered {
     Leaf(RowList),
 }
 
-/// A walk of two trees: the rows of the local snapshot are compared with those of a partner, of whom only the root is
-/// known at first. It asks for the root's text, then for the children whose digests differ, down to the leaves that
+/// A walk of two trees: the rows of the local snapshot are compared with the rows of a partner, whose root is all that
+/// is known at first. It asks for the root's text, then for the children whose digests differ, down to the leaves that
 /// differ, and no others. The partner isn't trusted: each text must have the digest that is expected at its node.
 ///
 /// Only `start`, `rows_of`, `next_news`, `news_of`, `take` and `take_inner` allocate. On error a session is unchanged,
@@ -51,7 +51,7 @@ pub struct Session {
     root: Digest,
     asked: Vec<NodeAt>,
     outstanding: Vec<NodeAt>,
-    /// Always has room for the text of each outstanding node.
+    /// Always has capacity for the text of each outstanding node.
     taken: Vec<Taken>,
     state: SessionState,
 }
@@ -77,8 +77,8 @@ impl Model for Session {
 }
 
 impl Session {
-    /// Starts a session that compares a snapshot with a partner's root. If the roots are equal, it is finished and asks
-    /// nothing; otherwise it asks for the root's text. Refused: NoMemory.
+    /// Starts a session that compares a snapshot with a partner's root. If the roots are equal, the session is finished
+    /// and asks nothing; otherwise it asks for the root's text. Refused: NoMemory.
     pub fn start(
         alloc: Global,
         own: Arc<Snapshot, Global>,
@@ -119,14 +119,14 @@ impl Session {
         self.root
     }
 
-    /// Returns the nodes that were asked and aren't answered, in the order in which they are to be answered.
+    /// Returns the nodes that were asked and aren't answered yet, in the order of their asks.
     pub fn outstanding(&self) -> &[NodeAt]
         ensures { result.now ≡ self.now.outstanding }
     {
         &self.outstanding
     }
 
-    /// Returns true if a node was asked and isn't answered.
+    /// Returns true if a node was asked and isn't answered yet.
     pub fn is_outstanding(&self, node: NodeAt) -> bool
         ensures { result ≡ contains_node node self.now.outstanding }
     {
@@ -180,7 +180,7 @@ impl Session {
         Ok(())
     }
 
-    /// Returns true if the node is inner and the text has the form of an inner node's.
+    /// Returns true if the node is inner and the text has an inner node's form.
     fn is_inner(&self, node: NodeAt, text: &Hashed) -> bool
         ensures { IsTrue result ↔ ((node.depth < tree_depth self.now.own.format) × IsInnerText self.now.own.format text.now) }
     {
@@ -238,8 +238,8 @@ impl Session {
         }
     }
 
-    /// Reads a leaf's text on from a place to the next row that the local snapshot lacks, without taking the text. A row
-    /// that the local snapshot has, byte by byte, is counted and not read.
+    /// Reads a leaf's text from a place to the next row that is missing from the local snapshot, without taking the
+    /// text. A row that the local snapshot has, byte for byte, is counted and not read.
     ///
     /// Refused: NotCanonical (no rows of the range give the leaf this text), NoMemory, which may replace NotCanonical.
     pub fn next_news<'a>(
@@ -260,11 +260,11 @@ impl Session {
         news::next_news(alloc, &self.own, node, place)
     }
 
-    /// Returns the rows in a text that is due and that the local snapshot lacks, without taking the text. A row that
-    /// the local snapshot has is counted and not read. The text of an inner node has no rows.
+    /// Returns the rows in a text that is due, without those that the local snapshot has, and doesn't take the text. A
+    /// row that the local snapshot has is counted and not read. The text of an inner node has no rows.
     ///
     /// Refused, in order: NotAsked, WrongDigest, NotCanonical and NoMemory, as `rows_of` is. Memory is needed only for
-    /// rows that the local snapshot lacks, and NoMemory may then replace NotCanonical.
+    /// rows that are missing from the local snapshot; with such rows, NoMemory may replace NotCanonical.
     pub fn news_of(&self, alloc: Global, node: NodeAt, text: &Hashed) -> Result<News, Refusal>
         ensures { Tells self.now (record { node = node; text = text.now }) result }
     {
@@ -333,7 +333,7 @@ impl Session {
         self.state = state_by(&self.outstanding);
     }
 
-    /// Ends a session as failed, after a text that is due but that its node can't have.
+    /// Ends a session as failed, after a text that is due but isn't one that its node can have.
     pub fn fail(&mut self)
         requires { (t : TakenText) × IsDue self.old t × (IsCanonical self.old.own t.node t.text → ⊥) }
         ensures { self.new ≡ failed self.old }
@@ -359,7 +359,7 @@ impl Session {
     }
 }
 
-/// Records the text of an outstanding node, and makes these nodes outstanding. There is room for both.
+/// Records the text of an outstanding node, and makes these nodes outstanding. There is capacity for both.
 fn record(
     taken: &mut Vec<Taken>,
     outstanding: &mut Vec<NodeAt>,

@@ -5,7 +5,7 @@
 pub enum SessionState {
     /// Some node is outstanding.
     Open,
-    /// Every node that was asked is answered.
+    /// Every node that was asked has been answered.
     Finished,
     /// A text had the expected digest, but its node can't have that text.
     Failed,

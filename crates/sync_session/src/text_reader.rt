@@ -17,7 +17,7 @@ use std::alloc::Global;
 use tree_nodes::NodeAt;
 use vclock::{Format, Refusal};
 
-/// Returns true if a text has the form of an inner node's text.
+/// Returns true if a text has an inner node's form.
 pub fn is_inner(format: Format, text: &[u8]) -> bool
     ensures { IsTrue result ↔ IsInnerText format text.now }
 {

@@ -1,5 +1,6 @@
 -- The snapshot of a range without rows, in format 1.
-use Rattle.std.proofs.Common.{◌≡◌, ℕ, zero, suc, ◌+◌, ◌*◌, ◌-◌, ◌<◌, ◌≤◌, ◌^◌, Some, List, [], ◌∷◌, ◌++◌, None, length, get_or, map, replicate, refl, sym, ap, subst, ◌∙◌, arith}
+use Rattle.std.proofs.Common.{◌≡◌, ℕ, zero, suc, ◌+◌, ◌*◌, ◌-◌, ◌<◌, ◌≤◌, ◌^◌, Some, List, [], ◌∷◌, ◌++◌, None, length, get_or, map, replicate, refl}
+use Rattle.std.proofs.Common.{sym, ap, subst, ◌∙◌, arith}
 use Rattle.std.proofs.lemmas.List.{get_or-map, get_or-replicate, get_or_append_left, get_or-append_right, length-append, length-replicate}
 use Rattle.std.proofs.lemmas.List.FromFn.{fill_by_all}
 use Rattle.sha2.specs.Sha256.{sha256}
@@ -41,16 +42,19 @@ node_is leaf (suc height) index =
     let d = sha256 (text_of height) in
     let each : (j : ℕ) → j < 16 → get_or (replicate 16 d) j [] ≡ sha256 (node_text One leaf [] height (16 * index + j)) =
     λ j less. get_or-replicate 16 j d [] less ∙ ap sha256 (sym (node_is leaf height (16 * index + j))) in
-    sym (ap (inner_text One) (per_child_is (λ j. sha256 (node_text One leaf [] height (16 * index + j))) (replicate 16 d) (length-replicate 16 d) each))
+    sym (ap (inner_text One)
+    (per_child_is (λ j. sha256 (node_text One leaf [] height (16 * index + j))) (replicate 16 d) (length-replicate 16 d) each))
 
 -- There are 273 digests.
 length-by_place : (root inner leaf : List ℕ) → length (by_place root inner leaf) ≡ 273
-length-by_place root inner leaf = omega (arith, length-append (replicate 16 inner) (replicate 256 leaf), length-replicate 16 inner, length-replicate 256 leaf)
+length-by_place root inner leaf =
+    omega (arith, length-append (replicate 16 inner) (replicate 256 leaf), length-replicate 16 inner, length-replicate 256 leaf)
 
 -- The digest of an inner node stands at its place.
 at_inner : (root inner leaf : List ℕ) (index : ℕ) → index < 16 → get_or (by_place root inner leaf) (suc index) [] ≡ inner
 at_inner root inner leaf index less =
-    get_or_append_left (replicate 16 inner) (replicate 256 leaf) [] index (omega (arith, length-replicate 16 inner)) ∙ get_or-replicate 16 index inner [] less
+    get_or_append_left (replicate 16 inner) (replicate 256 leaf) [] index (omega (arith, length-replicate 16 inner))
+    ∙ get_or-replicate 16 index inner [] less
 
 -- The digest of a leaf stands at its place.
 at_leaf : (root inner leaf : List ℕ) (index : ℕ) → index < 256 → get_or (by_place root inner leaf) (suc (16 + index)) [] ≡ leaf
@@ -59,7 +63,8 @@ at_leaf root inner leaf index less =
     ∙ get_or-replicate 256 (16 + index - 16) leaf [] (omega arith)
 
 -- Each node has the digest of its text at its place.
-at_place : (depth height index : ℕ) → depth + height ≡ 2 → index < 16 ^ depth → get_or true_digests (place_at depth index) [] ≡ sha256 (text_of height)
+at_place : (depth height index : ℕ) → depth + height ≡ 2 → index < 16 ^ depth
+    → get_or true_digests (place_at depth index) [] ≡ sha256 (text_of height)
 at_place zero height index sum within =
     let first : place_at zero index ≡ 0 = omega arith in
     let level : height ≡ 2 = omega arith in
@@ -88,7 +93,8 @@ right : (leaf : List ℕ → ℕ) → AreTrue One leaf [] (map Some true_digests
 unfolding AreTrue
 right leaf depth height index d sum within e =
     let place = place_at depth index in
-    let before : place < length true_digests = omega (arith, place_before depth height index sum within, length-by_place (sha256 (text_of 2)) (sha256 (text_of 1)) (sha256 (text_of 0))) in
+    let before : place < length true_digests = omega
+    (arith, place_before depth height index sum within, length-by_place (sha256 (text_of 2)) (sha256 (text_of 1)) (sha256 (text_of 0))) in
     let got : Some (get_or true_digests place []) ≡ Some d = sym (get_or-map (λ (x : List ℕ). Some x) true_digests place [] None before) ∙ e in
     let is : get_or true_digests place [] ≡ d = cc in
     sym is ∙ at_place depth height index sum within ∙ ap sha256 (sym (node_is leaf height index))
@@ -96,7 +102,8 @@ right leaf depth height index d sum within e =
 -- The leaves have no rows.
 leaves_are : (bits range : ℕ) → replicate 256 empty_leaf ≡ leaves_of (empty_map bits range)
 unfolding leaves_of
-leaves_are bits range = fill_by_all (bucket_at (empty_map bits range)) (replicate 256 empty_leaf) 256 empty_leaf (length-replicate 256 empty_leaf) (λ j less. get_or-replicate 256 j empty_leaf empty_leaf less)
+leaves_are bits range = fill_by_all (bucket_at (empty_map bits range)) (replicate 256 empty_leaf) 256 empty_leaf (length-replicate 256 empty_leaf)
+    (λ j less. get_or-replicate 256 j empty_leaf empty_leaf less)
 
 -- No rows are a row map.
 empty_rows : (bits range : ℕ) → bits ≤ 8 → range < 2 ^ bits → IsRowMap (empty_map bits range)
@@ -109,7 +116,8 @@ empty_rows bits range few less = record {
 }
 
 -- Leaves without rows and the digests of their nodes' texts make a snapshot.
-pub empty_snapshot : (bits range : ℕ) (leaves : List Bucket) (digests : List (List ℕ)) (root inner leaf : List ℕ) → bits ≤ 8 → range < 2 ^ bits → leaves ≡ replicate 256 (record { format = One; rows = [] })
+pub empty_snapshot : (bits range : ℕ) (leaves : List Bucket) (digests : List (List ℕ)) (root inner leaf : List ℕ) → bits ≤ 8 → range < 2 ^ bits
+    → leaves ≡ replicate 256 (record { format = One; rows = [] })
     → leaf ≡ leaf_text One [] → inner ≡ inner_text One (replicate 16 (sha256 leaf)) → root ≡ inner_text One (replicate 16 (sha256 inner))
     → digests ≡ sha256 root ∷ replicate 16 (sha256 inner) ++ replicate 256 (sha256 leaf) → IsSnapshot (map_of One bits range leaves) leaves digests
 empty_snapshot bits range leaves digests root inner leaf few less no_rows leaf_is inner_is root_is digests_are =

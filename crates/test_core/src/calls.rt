@@ -109,7 +109,7 @@ pub(crate) fn accept(
     }
 }
 
-/// Returns the number of versions that a range holds of a key.
+/// Returns the number of versions of a key that a range holds.
 pub(crate) fn count_held(state: &RangeState, key: &[u8]) -> usize {
     state.store().versions(key).len()
 }
@@ -148,7 +148,7 @@ pub(crate) fn install(state: &mut RangeState, job: Job) -> Result<(), Refusal> {
     state.install(node, &run_job(job))
 }
 
-/// Keeps the rows now as the moment of a range.
+/// Keeps the current rows as the moment of a range.
 pub(crate) fn hold_moment(alloc: Global, state: &mut RangeState) -> Result<(), Refusal> {
     let _before = state.hold_moment(alloc)?;
     Ok(())
@@ -169,7 +169,7 @@ pub(crate) fn install_in_moment(state: &mut RangeState, job: Job) -> Result<(), 
     state.install_moment(node, &run_job(job))
 }
 
-/// Keeps the rows now as the moment of a range, and hashes all its nodes.
+/// Keeps the current rows as the moment of a range, and hashes all its nodes.
 pub(crate) fn hold_whole_moment(alloc: Global, state: &mut RangeState) -> Result<(), Refusal> {
     hold_moment(alloc, state)?;
     for _level in 0..4 {
@@ -197,12 +197,12 @@ pub(crate) fn migrate(alloc: Global, state: &mut RangeState) -> Result<(), Refus
     state.migrate(alloc)
 }
 
-/// Makes a new range with a limit that begins with the versions that a range holds, at seat 4.
+/// Makes a new range with a limit from the versions that a range holds, at seat 4.
 pub(crate) fn renew(alloc: Global, state: &RangeState, limit: u64) -> Result<RangeState, Refusal> {
     state.renewed(alloc, 4, limit)
 }
 
-/// Begins a renewal beside the puts.
+/// Begins a renewal alongside puts.
 pub(crate) fn begin_renewal(alloc: Global, state: &RangeState) -> Result<RenewalStart, Refusal> {
     state.begin_renewal(alloc)
 }
@@ -212,7 +212,7 @@ pub(crate) fn build(alloc: Global, start: &RenewalStart, limit: u64) -> Result<R
     start.renewal(alloc, 4, limit)
 }
 
-/// Accepts some of a range's later entries into the new range at seat 4, and returns the number of those that are left.
+/// Accepts some of a range's later entries into the new range at seat 4, and returns the number of entries left.
 pub(crate) fn catch_up(
     alloc: Global,
     renewal: &mut Renewal,
@@ -222,7 +222,7 @@ pub(crate) fn catch_up(
     renewal.catch_up(alloc, 4, old, most)
 }
 
-/// Puts the new range in the place of the old one, which it returns, after the entries that are left, at seat 4.
+/// Accepts the entries that are left at seat 4, replaces the old range by the new one, and returns the old one.
 pub(crate) fn finish(
     alloc: Global,
     renewal: Renewal,

@@ -1,4 +1,4 @@
-//! Ranges that are renewed beside their puts.
+//! Ranges that are renewed alongside puts.
 use crate::calls::{
     accept, begin_renewal, build, catch_up, finish, hold_moment, hold_whole_moment, new_range,
     offer, open_session, put, rehash, root_of,
@@ -94,8 +94,8 @@ fn expect_same(
     )
 }
 
-/// Catches up entry by entry with the three that a range accepted since a renewal began, puts once more, and finishes.
-/// Returns the old range.
+/// Catches up, entry by entry, with the three entries that a range accepted since a renewal began, puts once more, and
+/// finishes. Returns the old range.
 fn replace_range(
     alloc: Global,
     mut renewal: Renewal,
@@ -114,7 +114,7 @@ fn replace_range(
     }
 }
 
-/// Renews a range of a format beside four more entries, and compares it with the old one.
+/// Renews a range of a format alongside four more entries, and compares it with the old one.
 fn renew_beside_puts(rt: &(impl Threads + Sync), alloc: Global, format: u8) -> Result<(), Fail> {
     let mut state = range(rt, alloc, format)?;
     let start = begin_renewal(alloc, &state)?;
@@ -157,8 +157,7 @@ fn a_range_is_renewed_beside_its_puts(rt: HostRuntime) -> Result<(), Fail> {
     renew_beside_puts(&rt, alloc, 2)
 }
 
-/// Renews a range beside three puts, and returns the number of entries that were left at the second one, and the old
-/// range.
+/// Renews a range alongside three puts. Returns the number of entries left at the second one, and the old range.
 fn renew_beside_three(
     alloc: Global,
     state: &mut RangeState,
@@ -206,8 +205,8 @@ fn a_renewal_begins_from_a_whole_moment_within_its_limit(rt: HostRuntime) -> Res
     expect_refused(short, Refusal::JournalFull, "four versions are held")
 }
 
-/// Returns a range of another place or other entries than the one that a renewal began from: of format 2; with four
-/// entries; and with six, of which the last has the version of `b` that the moment holds.
+/// Returns ranges that a renewal can't have begun from: one of format 2, one with four entries, and one with six, whose
+/// last has the version of `b` that the moment holds.
 fn strangers(rt: &(impl Threads + Sync), alloc: Global) -> Result<[RangeState; 3], Fail> {
     let mut short = new_range(alloc, 1, 1_000)?;
     let mut other = new_range(alloc, 1, 1_000)?;

@@ -33,14 +33,14 @@ fn hint_without_a_key(alloc: Global) -> Result<Event, Refusal> {
     }))
 }
 
-/// Returns the event in which a text that is not the root's is installed there.
+/// Returns the event that installs a text at the root that isn't the root's.
 fn install_of_abc(alloc: Global) -> Result<Event, Fail> {
     let node = node_at(0, 0)?;
     let hashed = hash(Text::copy_of(alloc, b"abc")?);
     Ok(Event::Install(InstallEvent { node, hashed }))
 }
 
-/// Returns the events of a put, of a version that is refused, of a get, of a job and of a text that is refused.
+/// Returns five events: a put, a version that is refused, a get, a job and a text that is refused.
 fn five_events(alloc: Global) -> Result<Vec<Event>, Fail> {
     let mut events = Vec::with_capacity(alloc, 5)?;
     events.push(put_of_a(alloc)?)?;

@@ -35,7 +35,7 @@ fn range_of(alloc: Global, limit: u64, node: u16, keys: &[&[u8]]) -> Result<Rang
     Ok(state)
 }
 
-/// Makes a range of format 2 with 100,000 keys and values of 100 bytes. The newer one has newer values of 1,100 of them.
+/// Makes a range of format 2 with 100,000 keys and values of 100 bytes. The newer range has newer values of 1,100 keys.
 fn many(alloc: Global, is_newer: bool) -> Result<RangeState, Fail> {
     let mut state = new_range(alloc, 2, 200_000)?;
     for number in 0..100_000u32 {
@@ -48,7 +48,7 @@ fn many(alloc: Global, is_newer: bool) -> Result<RangeState, Fail> {
     Ok(state)
 }
 
-/// Returns the rows of a range now, as a whole moment.
+/// Returns the current rows of a range as a whole moment.
 fn moment(alloc: Global, state: &mut RangeState) -> Result<Arc<Snapshot, Global>, Fail> {
     hold_moment(alloc, state)?;
     for _portion in 0..1_000 {
@@ -146,13 +146,13 @@ impl Pair {
         self.asks(alloc)
     }
 
-    /// Returns how far the exchange is.
+    /// Returns the progress of the exchange.
     fn report(&self) -> Report {
         self.exchange.report(&self.state)
     }
 }
 
-/// Asserts that a verdict is that an answer is bad, for the cause with a number.
+/// Asserts that a verdict calls an answer bad for this cause.
 fn expect_bad(verdict: Verdict, cause: Refusal) -> Result<(), Fail> {
     match verdict {
         Verdict::Bad(refusal) => expect(
@@ -177,7 +177,7 @@ fn crowded(alloc: Global) -> Result<RangeState, Fail> {
     Ok(state)
 }
 
-/// Returns the exchange of a range in which `k` is crowded with one that holds a version more, and other keys.
+/// Returns the exchange of a range whose `k` is crowded with a range that holds one more version of it, and other keys.
 fn crowded_pair(alloc: Global, bounds: Bounds) -> Result<Pair, Fail> {
     let other = range_of(alloc, 1_000, 65, &[b"a", b"b", b"c", b"k"])?;
     Pair::new(alloc, crowded(alloc)?, other, bounds)

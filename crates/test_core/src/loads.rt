@@ -30,7 +30,7 @@ fn expect_loaded(
     expect((taken, known) == counts, "rows are taken or known")
 }
 
-/// Asserts that a text isn't loaded, for this cause, and that the range has one entry afterwards.
+/// Asserts that a text isn't loaded for this cause, and that the range has one entry afterwards.
 fn expect_not_loaded(
     alloc: Global,
     state: &mut RangeState,
@@ -83,7 +83,7 @@ fn the_rows_of_a_leaf_are_written(rt: HostRuntime) -> Result<(), Fail> {
 const TOMBSTONE: &[u8] =
     b"\x00\x01a\x00\x01\x01\x01\x00\x01\x00\x00\x00\x00\x00\x00\x00\x01\x00\x00\x00\x00";
 
-/// Asserts that rows of a format aren't loaded, for this cause, and that the range holds nothing afterwards.
+/// Asserts that rows of a format aren't loaded for this cause, and that the range is empty afterwards.
 fn expect_no_rows(
     alloc: Global,
     state: &mut RangeState,

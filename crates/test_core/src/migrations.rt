@@ -18,7 +18,7 @@ fn range(alloc: Global) -> Result<RangeState, Fail> {
     Ok(state)
 }
 
-/// Asserts that a migrated range is of format 2, has its rows, and hashes each node.
+/// Asserts that a migrated range has format 2 and its rows, and hashes each node.
 fn expect_format_2(
     rt: &(impl Threads + Sync),
     alloc: Global,
@@ -59,7 +59,7 @@ fn a_job_that_was_taken_before_is_stale(rt: HostRuntime) -> Result<(), Fail> {
     expect_late(alloc, &mut range(alloc)?)
 }
 
-/// Asserts that a migration cancels a session that is open, and that an offer of format 1 is refused then.
+/// Asserts that a migration cancels an open session, and that the range refuses an offer of format 1 afterwards.
 fn expect_cancelled(
     rt: &(impl Threads + Sync),
     alloc: Global,

@@ -21,15 +21,15 @@ fn hash_ready(alloc: Global, state: &mut RangeState) -> Result<usize, Fail> {
     Ok(ready)
 }
 
-/// Hashes a portion of a range's moment, and returns the number of the moment's nodes that are dirty then.
+/// Hashes a portion of a range's moment, and returns the number of the moment's nodes that are still dirty.
 fn hash_portion(alloc: Global, state: &mut RangeState) -> Result<usize, Fail> {
     let mut portion = state.take_portion(alloc, 20)?;
     portion.run(alloc);
     Ok(state.install_portion(portion))
 }
 
-/// Asserts that a moment of a range with `a` gets its digests after `b` was put, and that the range gets all but those of
-/// the nodes above `b`.
+/// Asserts that a moment of a range with `a` gets its digests after `b` was put, and that the range gets all digests
+/// except for the nodes above `b`.
 fn expect_whole(alloc: Global, state: &mut RangeState, root: Digest) -> Result<(), Fail> {
     let early = moment_root(alloc, state);
     expect_refused(early, Refusal::Dirty, "no node of the moment is clean")?;

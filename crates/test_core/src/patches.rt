@@ -39,7 +39,7 @@ const WIDE: Bounds = Bounds {
     lost: 8,
 };
 
-/// The room for an outline.
+/// The maximum length of an outline, in bytes.
 const ROOM: usize = 1_000;
 
 /// A key, and the node at which it is put, 1 to 65,535.
@@ -54,7 +54,7 @@ fn range_of(alloc: Global, value: &[u8], puts: &[Put<'_>]) -> Result<RangeState,
     Ok(state)
 }
 
-/// Returns the rows of a range now, as a whole moment.
+/// Returns the current rows of a range as a whole moment.
 fn moment(alloc: Global, state: &mut RangeState) -> Result<Arc<Snapshot, Global>, Fail> {
     hold_moment(alloc, state)?;
     for _portion in 0..1_000 {
@@ -94,8 +94,7 @@ fn an_outline_and_its_patch_have_their_bytes(rt: HostRuntime) -> Result<(), Fail
     )
 }
 
-/// A session of a range with a partner's rows, which the range outlines node by node: a loop of its own, without an
-/// exchange.
+/// A session of a range with a partner's rows, which the range outlines node by node, without an exchange.
 struct Walk {
     state: RangeState,
     partner: Arc<Snapshot, Global>,
@@ -126,7 +125,7 @@ impl Walk {
         Ok(patch(alloc, &self.partner, ask, &marks)?)
     }
 
-    /// Takes the text that a patch makes.
+    /// Takes the text made by a patch.
     fn take(&mut self, alloc: Global, bytes: &[u8]) -> Result<AnswerTaken, Fail> {
         let Some((ask, steps)) = patch_parts(alloc, bytes) else {
             return Err("it is no patch")?;
@@ -254,7 +253,7 @@ impl Pair {
         })
     }
 
-    /// Returns the message of the next ask: an outline, if there is one.
+    /// Returns the message of the next ask: an outline, if the exchange makes one.
     fn message(&mut self, alloc: Global, ask: Ask) -> Result<Vec<u8>, Fail> {
         match self.exchange.outline(alloc, &self.state, ask.node, ROOM)? {
             Some(outline) => {
@@ -265,7 +264,7 @@ impl Pair {
         }
     }
 
-    /// Sends an ask, and takes the answer. A partner's patch is changed, if it `lies`, and lost, if it `is_old`.
+    /// Sends an ask, and takes the answer. A patch is changed if the partner `lies`, and lost if it `is_old`.
     fn send(&mut self, alloc: Global, ask: Ask, lies: bool, is_old: bool) -> Result<(), Fail> {
         let message = self.message(alloc, ask)?;
         let answer = answer_to(alloc, &self.partner, ask, &message)?;
@@ -285,7 +284,7 @@ impl Pair {
         self.exchange.take(alloc, &mut self.state, 0, answer);
     }
 
-    /// Sends asks until the exchange has none.
+    /// Sends asks until the exchange has no more.
     fn run(&mut self, alloc: Global, lies: bool, is_old: bool) -> Result<Report, Fail> {
         for _ in 0..1_000 {
             let Some(ask) = self.exchange.next(&self.state) else {
@@ -307,7 +306,7 @@ fn answer_to(alloc: Global, partner: &Snapshot, ask: Ask, message: &[u8]) -> Res
     Ok(encode(alloc, &Message::Answer(Answer { offer, node, text }))?)
 }
 
-/// Returns bytes of which the last one is changed.
+/// Returns the bytes with the last one changed.
 fn changed(alloc: Global, bytes: &[u8]) -> Result<Vec<u8>, Fail> {
     let mut other = Vec::from_slice(alloc, bytes)?;
     let last = other.pop().ok_or("there are no bytes")?;

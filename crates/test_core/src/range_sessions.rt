@@ -94,7 +94,7 @@ fn expect_not_opened(
     expect_refused(opened, refusal, "an offer is refused")
 }
 
-/// Asserts that a range opens 64 sessions, and another one once the first is cancelled.
+/// Asserts that a range opens 64 sessions, and one more once the first is cancelled.
 fn expect_64_open(alloc: Global, state: &mut RangeState) -> Result<(), Fail> {
     let root = abc(alloc)?.digest();
     expect_numbers(alloc, state, root, 64)?;
@@ -136,7 +136,7 @@ fn a_range_keeps_1024_records_at_the_most(rt: HostRuntime) -> Result<(), Fail> {
     expect_1024_kept(alloc, &mut clean_range(&rt, alloc)?)
 }
 
-/// Asserts that an offer of another format is refused, and one of another range.
+/// Asserts that the range refuses an offer of another format and one of another range.
 fn expect_own_offers(alloc: Global, state: &mut RangeState, good: Offer) -> Result<(), Fail> {
     let other_format = Offer {
         format: 2,
@@ -186,8 +186,8 @@ fn expect_first(state: &RangeState, depth: u8, index: u16) -> Result<(), Fail> {
     )
 }
 
-/// Asserts that the first session takes the partner's root once, after a forged one, and that there is no second
-/// session.
+/// Asserts that the first session takes the partner's root once, after a forged one, and that a second session doesn't
+/// exist.
 fn expect_once(alloc: Global, state: &mut RangeState, partner: &Snapshot) -> Result<(), Fail> {
     let root = node_at(0, 0)?;
     expect_not_taken(
@@ -216,7 +216,7 @@ fn expect_version(alloc: Global, state: &mut RangeState, partner: &Snapshot) -> 
     )
 }
 
-/// Asserts that a session takes true texts alone, and ends with the partner's version and its root.
+/// Asserts that a session takes only true texts, and ends with the partner's version and its root.
 fn expect_true_texts(
     rt: &(impl Threads + Sync),
     alloc: Global,
@@ -239,8 +239,8 @@ fn a_session_takes_true_texts_once_up_to_the_partners_version(rt: HostRuntime) -
     expect_true_texts(&rt, alloc, &mut clean_range(&rt, alloc)?, &partner)
 }
 
-/// Asserts that a range whose session 0 has ended, and brought its first entry, keeps an open session alone when the ended
-/// ones are dropped, with its number, and that the numbers go on.
+/// Asserts that a range keeps only its open session, under its number, when it drops the ended ones, and that the
+/// numbers continue. Its session 0 has ended and accepted the first entry.
 fn expect_one_kept(alloc: Global, state: &mut RangeState) -> Result<(), Fail> {
     let open = open_session(alloc, state, offer([7; 32]))?;
     state.drop_ended_sessions();
@@ -271,8 +271,8 @@ fn ended_sessions_are_dropped(rt: HostRuntime) -> Result<(), Fail> {
     expect_one_kept(alloc, &mut state)
 }
 
-/// Asserts the size of the entries and of what sessions keep in addition, of a range whose only row has 21 bytes: 3 of the
-/// key `a`, 2 of the number of versions, and 16 of a version with one pair and the value `x`.
+/// Asserts the size of the journal and of the sessions, in a range whose only row has 21 bytes: 3 of the key `a`, 2 of
+/// the number of versions, and 16 of a version with one pair and the value `x`.
 fn expect_bytes(state: &RangeState, journal: u64, sessions: u64) -> Result<(), Fail> {
     let bytes = RangeBytes {
         rows: 21,
@@ -345,7 +345,7 @@ fn walk(
     Ok(())
 }
 
-/// Asserts that a session of a range without rows asks a partner exactly these nodes, in order, and is finished then.
+/// Asserts that a session of a range without rows asks a partner exactly these nodes, in order, and finishes.
 fn expect_walk(
     rt: &(impl Threads + Sync),
     alloc: Global,
@@ -357,8 +357,8 @@ fn expect_walk(
     expect_asked(&state, nodes)
 }
 
-/// Asserts the nodes that a partner with the row of `a` is asked: those above it, and with the row of `abc`, which is
-/// in leaf 144, those above both.
+/// Asserts the nodes that partners are asked. With the row of `a`: the nodes above it. With the row of `abc` too, which
+/// is in leaf 144: the nodes above both.
 fn expect_walks(
     rt: &(impl Threads + Sync),
     alloc: Global,

@@ -1,4 +1,4 @@
-//! The tree of a range as one value.
+//! The tree of a range, as one value.
 use crate::calls::{snapshot_of_a, text_at};
 use key_ring::place;
 use range_tree::Tree;

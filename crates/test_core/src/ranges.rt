@@ -43,7 +43,7 @@ fn expect_held(alloc: Global, state: &RangeState, versions: &str) -> Result<(), 
     expect(held.as_str() == versions, "a range holds its versions")
 }
 
-/// Asserts that a value that is put is held.
+/// Asserts that a range holds a value that is put.
 fn expect_put(alloc: Global, state: &mut RangeState) -> Result<(), Fail> {
     expect_held(alloc, state, "")?;
     expect(put_a(alloc, state, &[])? == 0, "the put is entry 0")?;
@@ -68,7 +68,8 @@ fn expect_accepted(
     expect(accepted == number, "a copy is the next entry or known")
 }
 
-/// Asserts that two values of `a` with one clock are accepted, that the first is known then, and that both are held.
+/// Asserts that two values of `a` with one clock are accepted, that the first is known afterwards, and that both are
+/// held.
 fn expect_both(alloc: Global, state: &mut RangeState) -> Result<(), Fail> {
     expect_accepted(alloc, state, b"q", Some(0))?;
     expect_accepted(alloc, state, b"p", Some(1))?;
@@ -98,8 +99,8 @@ fn accept_key(alloc: Global, state: &mut RangeState, key: &[u8]) -> Result<Optio
     accept(alloc, state, key, version(alloc, (1, 1), Kind::Live, b"x")?)
 }
 
-/// Asserts that `a` is in this leaf and not in leaf 0 once it is accepted, and that `b`, for which the journal has no
-/// room, is not held.
+/// Asserts that `a` is in this leaf and not in leaf 0 once it is accepted, and that `b`, which doesn't fit in the
+/// journal, isn't held.
 fn expect_a_in(alloc: Global, state: &mut RangeState, leaf: u16) -> Result<(), Fail>
     requires { leaf < 256 }
 {
@@ -125,8 +126,8 @@ fn rows_lie_in_the_leaf_of_their_key(rt: HostRuntime) -> Result<(), Fail> {
     expect_a_in(alloc, &mut new_range(alloc, 2, 1)?, 204)
 }
 
-/// Makes a range in which client 1 put `x` under `a`, and then again, beside a copy of node 2. The clocks that are held
-/// are (1, 2) and (2, 1).
+/// Makes a range in which client 1 put `x` under `a` twice, alongside a copy from node 2. The held clocks are (1, 2)
+/// and (2, 1).
 fn range_of_two_clients(alloc: Global) -> Result<RangeState, Fail> {
     let mut state = new_range(alloc, 1, 10)?;
     put_a(alloc, &mut state, &[])?;

@@ -37,7 +37,7 @@ fn range_of_abc(
     Ok(state)
 }
 
-/// Reconciles two replicas of one range, which are at the nodes 1 and 2.
+/// Reconciles two replicas of one range, at nodes 1 and 2.
 fn reconcile_both(
     alloc: Global,
     a: &mut RangeState,
@@ -81,8 +81,8 @@ fn expect_counts(
     )
 }
 
-/// Asserts that each of two ranges takes a version in a session with the other one, and that they have equal roots once
-/// a number of nodes of each is hashed again, and then nothing to ask.
+/// Asserts that each of two ranges takes a version in a session with the other one. Once a number of nodes of each is
+/// hashed again, their roots are equal, and there is nothing left to ask.
 fn expect_both(
     rt: &(impl Threads + Sync),
     alloc: Global,

@@ -1,4 +1,4 @@
-//! Sessions by themselves: the comparison of two trees, and the partner's answers.
+//! Sessions without a range: the comparison of two trees, and the partner's answers.
 use crate::calls::{abc, clean_range, hashed_at, snapshot, snapshot_of_a};
 use snapshot::Snapshot;
 use std::alloc::Global;

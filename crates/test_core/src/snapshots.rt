@@ -63,8 +63,8 @@ fn expect_new_leaf(
     expect(!is_old, "a new snapshot has the new text")
 }
 
-/// Asserts that after another put a snapshot has the old text, as the first session's has, and a new one has another
-/// text.
+/// Asserts that a snapshot keeps the old text after another put, like the first session's, and that a new one has
+/// another text.
 fn expect_old_text(
     rt: &(impl Threads + Sync),
     alloc: Global,
@@ -89,7 +89,7 @@ fn what_was_taken_before_a_put_has_the_old_text(rt: HostRuntime) -> Result<(), F
     expect_old_text(&rt, alloc, &mut state, &snapshot)
 }
 
-/// Puts two values under `a`, and asserts that a job taken in between has the text with the first alone.
+/// Puts two values under `a`, and asserts that a job taken in between has the text with only the first.
 fn expect_old_job(alloc: Global, state: &mut RangeState) -> Result<(), Fail> {
     put_a(alloc, state, &[])?;
     let old = run_job(next_job(alloc, state)?);

@@ -39,7 +39,7 @@ fn a_text_has_its_digest(rt: HostRuntime) -> Result<(), Fail> {
     )
 }
 
-/// Asserts that a text is that of a node above 16 nodes with this digest, in format 1.
+/// Asserts that a text is the text of a node above 16 nodes with this digest, in format 1.
 fn expect_inner(text: &[u8], digest: Digest) -> Result<(), Fail> {
     expect(
         text.len() == 513 && text.starts_with(&[1, 0x6e, 0x34]),
@@ -98,7 +98,7 @@ fn install_next(alloc: Global, state: &mut RangeState, depth: u8, index: u16) ->
     Ok(install(state, job)?)
 }
 
-/// Puts two values under `a`, and asserts that the digest of its leaf with the first alone is late.
+/// Puts two values under `a`, and asserts that the digest of its leaf with only the first is late.
 fn expect_late(alloc: Global, state: &mut RangeState) -> Result<(), Fail> {
     put_a(alloc, state, &[])?;
     let job = job_at(alloc, state, 2, 12)?;
@@ -114,7 +114,7 @@ fn expect_path(alloc: Global, state: &mut RangeState) -> Result<(), Fail> {
     expect(take_job(alloc, state)?.is_none(), "all nodes are clean")
 }
 
-/// Hashes a new range, and asserts that a late digest isn't installed, and that those of the nodes' new texts are.
+/// Hashes a new range, and asserts that a late digest isn't installed and the digests of the new texts are.
 fn expect_rehash(
     rt: &(impl Threads + Sync),
     alloc: Global,
@@ -133,7 +133,7 @@ fn a_late_digest_is_not_installed(rt: HostRuntime) -> Result<(), Fail> {
     expect_rehash(&rt, alloc, &mut new_range(alloc, 1, 1_000)?)
 }
 
-/// Asserts that a portion of the nodes is hashed, and how many are dirty then.
+/// Asserts that a portion of the nodes is hashed, and the number that are still dirty.
 fn expect_portion(
     alloc: Global,
     state: &mut RangeState,
@@ -148,8 +148,9 @@ fn expect_portion(
     )
 }
 
-/// Asserts that a new range is rehashed in portions, and has the root then that `rehash` makes: 100 of the 256 leaves; the
-/// other 156, and the 6 nodes whose 16 children are among the 100; the other 10 nodes above leaves; and the root.
+/// Asserts that a new range is rehashed in portions, and ends with the root that `rehash` makes. The portions are 100
+/// of the 256 leaves; the other 156, and the 6 nodes whose 16 children are among the 100; the other 10 nodes above
+/// leaves; and the root.
 fn expect_portions(
     rt: &(impl Threads + Sync),
     alloc: Global,
@@ -216,7 +217,7 @@ fn accept_three(alloc: Global, state: &mut RangeState) -> Result<(), Refusal> {
     Ok(())
 }
 
-/// Asserts that each hashed text is that of its job run alone.
+/// Asserts that each hashed text equals the text of its job when run by itself.
 fn expect_run(hashed: &[Hashed], jobs: Vec<Job>) -> Result<(), Fail> {
     for (one, job) in hashed.iter().zip(jobs) {
         let other = run_job(job);

@@ -57,7 +57,7 @@ fn take<L: Ledger>(
     Ok((taken.receipts, taken.state))
 }
 
-/// Takes the true text of a node for session 1, as `take` does.
+/// Takes the true text of a node for session 1, with the results of `take`.
 fn take_true<L: Ledger>(
     alloc: Global,
     locked: &mut Locked<L>,
@@ -135,7 +135,7 @@ fn expect_true_texts<L: Ledger>(
     )
 }
 
-/// Answers two sessions of a range, and cancels one that isn't there.
+/// Answers two sessions of a range, and cancels one that doesn't exist.
 fn answer<L: Ledger>(
     alloc: Global,
     locked: &mut Locked<L>,

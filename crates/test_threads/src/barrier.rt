@@ -4,7 +4,7 @@ use std::sync::Wait;
 use std::sync::atomic::{AtomicU64, Ordering};
 use std::thread;
 
-/// The maximum number of times that a thread checks if it may go on.
+/// The maximum number of times that a thread checks if it may continue.
 const LOOKS_MAX: u64 = 10_000_000;
 
 /// A barrier that holds a thread until it is opened. As a gate it holds a worker at one step.
@@ -38,7 +38,7 @@ impl Barrier {
         self.wait_for(&self.arrived);
     }
 
-    /// Lets the held thread go on, and each one that reaches the barrier later.
+    /// Releases the held thread, and each one that reaches the barrier later.
     pub fn open(&self) {
         self.opened.store(1, Ordering::SeqCst);
     }

@@ -20,7 +20,7 @@ use walk_messages::Offer;
 /// The number of the partner of each sync.
 const PARTNER: u16 = 2;
 
-/// Returns the clock in which node 1 has counted this number of times. It is empty for 0.
+/// Returns a clock that node 1 has counted this number of times. It is empty for 0.
 fn counted(alloc: Global, count: u64) -> Result<Clock, Refusal> {
     if count == 0 {
         Clock::from_pairs(alloc, &[])
@@ -29,8 +29,7 @@ fn counted(alloc: Global, count: u64) -> Result<Clock, Refusal> {
     }
 }
 
-/// Puts the value `x`, with a context in which node 1 has counted this number of times. Returns the number of the
-/// entry.
+/// Puts the value `x`, with a context that node 1 has counted this number of times. Returns the number of the entry.
 pub fn put<L: Ledger, R: Wait>(
     rt: &R,
     alloc: Global,
@@ -106,7 +105,7 @@ pub fn get<L: Ledger, R: Wait>(
     }
 }
 
-/// Returns the versions of a key that are held, for no pass.
+/// Returns the held versions of a key, without a pass.
 pub fn look<L: Ledger, R: Wait>(
     rt: &R,
     alloc: Global,

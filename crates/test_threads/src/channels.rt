@@ -40,8 +40,7 @@ fn a_server_refuses_what_is_no_ask(rt: HostRuntime) -> Result<(), Fail> {
     expect(failures == 1, "only the lost call is counted")
 }
 
-/// Asks with bytes that are not an ask, and for an offer that doesn't exist. Returns the number of failures of the
-/// link.
+/// Asks with bytes that aren't an ask, and for an offer that doesn't exist. Returns the number of failures of the link.
 fn ask_badly<R: Wait>(rt: &R, link: ChannelLink) -> u64 {
     let mut link = link;
     let lost = matches!(link.ask(rt, b"no ask"), Reached::Lost);

@@ -43,7 +43,7 @@ fn expect_report(report: DeliverReport, delivered: u64, known: u64, kept: u64) -
 struct OneHint {
     /// The owner of the hint.
     owner: u16,
-    /// True if the journal has its entry before.
+    /// True if the journal is full before the delivery.
     full: bool,
     /// The counts of the report, or `None` if the owner is refused as a stranger.
     counts: Option<(u64, u64, u64)>,

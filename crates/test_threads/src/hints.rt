@@ -14,8 +14,8 @@ use test_values::versions::version;
 use vclock::{Bytes, Refusal};
 use version_set::Kind;
 
-/// Returns true if node 2's answer that it journaled the version of that key that node 1 has counted this number of
-/// times confirms the hint of that id.
+/// Returns true if node 2 confirms a hint after it journaled the version of this key that node 1 has counted this
+/// number of times.
 fn is_confirmed<R: Wait>(
     rt: &R,
     alloc: Global,
@@ -37,7 +37,7 @@ fn is_confirmed<R: Wait>(
     }
 }
 
-/// A hint for node 2 of the version of `a` that node 1 has counted once, up to its confirmation.
+/// A hint for node 2, up to its confirmation: the version of `a` that node 1 has counted once.
 struct OneHint;
 
 impl NodeTest for OneHint {
@@ -84,12 +84,12 @@ fn count<R: Wait>(rt: &R, hints: &SharedHints) -> HintCounts {
     hints.counts(rt)
 }
 
-/// Drops the delivered hints, and numbers the others anew.
+/// Drops the delivered hints, and renumbers the others.
 fn renew<R: Wait>(rt: &R, alloc: Global, hints: &mut SharedHints) -> Result<(), Refusal> {
     hints.renew(rt, alloc)
 }
 
-/// Returns true if the pending hint of node 2 with the least id over `after` has the next id and this key.
+/// Returns true if the pending hint of node 2 with the least id above `after` has the next id and this key.
 fn is_next<R: Wait>(
     rt: &R,
     alloc: Global,
@@ -103,7 +103,7 @@ fn is_next<R: Wait>(
     }
 }
 
-/// Five hints for node 2, the second of which is delivered before they are numbered anew.
+/// Five hints for node 2. The second is delivered before they are renumbered.
 struct FiveHints;
 
 impl NodeTest for FiveHints {

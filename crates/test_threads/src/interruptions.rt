@@ -68,7 +68,7 @@ enum Deed {
 }
 
 impl Deed {
-    /// Makes the call, and returns the number of its entry, if there is one.
+    /// Makes the call, and returns the number of its entry, if any.
     fn run<L: Ledger, R: Wait>(
         self,
         rt: &R,
@@ -91,7 +91,7 @@ impl Deed {
     }
 }
 
-/// Makes a call when a thread is held at the barrier, and opens the barrier.
+/// Makes a call while a thread is held at the barrier, then opens the barrier.
 fn do_beside<L: Ledger, R: Wait>(
     rt: &R,
     alloc: Global,
@@ -106,13 +106,13 @@ fn do_beside<L: Ledger, R: Wait>(
     done
 }
 
-/// A sync with a partner that has `a`, held at its asks until a call is made on the range, which is clean and has no
-/// rows. The sync has the last of two passes.
+/// A sync with a partner that has `a`. It is held at its asks until a call is made on the range, which is clean and has
+/// no rows. The sync has the last of two passes.
 #[derive(Clone, Copy)]
 struct Interrupted {
     /// The call.
     deed: Deed,
-    /// The number of its entry, if it has one.
+    /// The number of its entry, if any.
     done: Option<u64>,
     /// The report of the sync.
     report: SyncReport,
@@ -148,7 +148,7 @@ fn sync_beside<L: Ledger + Send + Sync, C: Ledger + Send + Sync, R: Threads + Wa
     expect(report? == test.report, "the report is the expected one")
 }
 
-/// Runs such a sync up to the close of its range.
+/// Runs the sync up to the close of its range.
 fn interrupt<L: Ledger + Send + Sync, C: Ledger + Send + Sync, R: Threads + Wait + Sync>(
     rt: &R,
     alloc: Global,

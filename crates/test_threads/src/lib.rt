@@ -1,5 +1,5 @@
 //! Tests of passes, of ranges behind a lock, and of the values that a node's threads share: offers, links, sync workers
-//! and storms.
+//! and storms. Also of scripts whose devices fail; `tests/check` runs the worked scripts.
 #![tactic(auto)]
 
 #[cfg(test)]
@@ -13,6 +13,8 @@ mod channels;
 #[cfg(test)]
 mod deliveries;
 #[cfg(test)]
+mod devices;
+#[cfg(test)]
 mod hints;
 #[cfg(test)]
 mod interruptions;
@@ -22,6 +24,8 @@ mod lies;
 mod loads;
 #[cfg(test)]
 mod locked;
+#[cfg(test)]
+mod memory;
 #[cfg(test)]
 mod moments;
 #[cfg(test)]
@@ -42,6 +46,8 @@ mod rehashes;
 mod renewals;
 #[cfg(test)]
 mod runs;
+#[cfg(test)]
+mod scripts;
 #[cfg(test)]
 mod slots;
 #[cfg(test)]

@@ -47,7 +47,7 @@ impl<'a> NodeTest for Scripted<'a> {
     }
 }
 
-/// Syncs a range without rows with a partner that has these rows, over such a link.
+/// Syncs a range without rows with a partner that has these rows, over a link that does the deeds.
 fn sync_by<R: Threads + Wait + Sync>(
     rt: &R,
     alloc: Global,
@@ -102,7 +102,7 @@ fn the_node_of_the_answer_is_taken(rt: HostRuntime) -> Result<(), Fail> {
     sync_by(&rt, rt.alloc(), &rows, &deeds, 5, outcome)
 }
 
-/// Runs four syncs, in which the deed is done in the first to the fourth call. Expects this refusal, this number of
+/// Runs four syncs, whose links do the deed in the first to the fourth call. Expects this refusal, this number of
 /// failures of the link, no entry, and a cancelled session unless the call is the first.
 fn end_each<R: Threads + Wait + Sync>(
     rt: &R,
@@ -163,7 +163,7 @@ impl Forger {
         )
     }
 
-    /// Returns the message that answers an ask.
+    /// Returns the message of the answer to an ask.
     fn answered(&self, message: &[u8]) -> Result<Vec<u8>, Refusal> {
         let read = decode(self.alloc, message)?;
         let Message::Ask(ask) = &read else {

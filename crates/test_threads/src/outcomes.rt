@@ -24,7 +24,7 @@ pub fn report(state: SessionState, asked: u64, accepted: u64, bad: u64) -> SyncR
     }
 }
 
-/// Returns the report of the first session of a range, if it knew no version and met no lie.
+/// Returns the report of the first session of a range, if it knew no version and received no bad answer.
 pub fn finished(asked: u64, accepted: u64) -> SyncReport {
     report(SessionState::Finished, asked, accepted, 0)
 }

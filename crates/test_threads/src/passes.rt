@@ -54,7 +54,7 @@ fn put<L: Ledger>(
     Ok(receipt.number)
 }
 
-/// Returns the number of versions of `a`, for no pass.
+/// Returns the number of versions of `a`, without a pass.
 fn count_held<L: Ledger>(range: &LockedRange<L>) -> usize {
     range.store().versions(b"a").len()
 }
@@ -123,7 +123,7 @@ fn tell<L: Ledger>(alloc: Global, locked: &mut Locked<L>) -> Result<(), Fail> {
     copy(alloc, range, zero)
 }
 
-/// Expects that a range isn't closed with its pass of seat 1 alone, and returns it with both passes.
+/// Expects that a range isn't closed with only its pass of seat 1, and returns it with both passes.
 fn close_with_one<L: Ledger>(alloc: Global, locked: Locked<L>) -> Result<Locked<L>, Fail> {
     let (range, one, zero) = locked.into_parts();
     let mut passes = Vec::new(alloc);

@@ -54,7 +54,7 @@ fn patch_of<R: Wait>(rt: &R, alloc: Global, pool: &OfferPool, ask: Ask) -> Resul
     pool.patch(rt, alloc, ask, &marks)
 }
 
-/// Expects that a pool answers an outline by the patch for the first leaf of its first offer, which has no rows, and
+/// Expects that a pool returns the patch for an outline of the first leaf of its first offer, which has no rows, and
 /// refuses other outlines.
 fn expect_patches<R: Wait>(rt: &R, alloc: Global, pool: &OfferPool) -> Result<(), Fail> {
     let leaf = NodeAt::new(2, 0).ok_or("no such node")?;

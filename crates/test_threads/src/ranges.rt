@@ -88,7 +88,8 @@ fn write_and_copy<L: Ledger, R: Wait>(
         counts.entries == 2 && counts.limit == 10 && counts.dirty == 273 && counts.sessions == 0,
         "two entries of ten, and no node is clean",
     )?;
-    // (a version with one pair and the value `x` has 16 bytes in a row's text, and 11 in the journal, in addition to the key)
+    // (in addition to the key, a version with one pair and the value `x` has 16 bytes in a row's text and 11 in the
+    // journal)
     let bytes = bytes(rt, range);
     expect(
         bytes.rows == 37 && bytes.journal == 24 && bytes.sessions == 0,

@@ -1,4 +1,4 @@
-//! Rehash workers, and puts that pass them.
+//! Rehash workers, and puts alongside them.
 ghost use Rattle.std.specs.Prelude.{◌≡◌};
 
 use crate::barrier::Barrier;
@@ -87,7 +87,7 @@ fn rehash_twice<
     rehash_held(rt, alloc, one, two, slots, step)
 }
 
-/// Puts beside a rehash that is held at a step, up to the close of both ranges.
+/// Puts while a rehash is held at a step, up to the close of both ranges.
 fn put_at_a_gate<
     L: Ledger + Send + Sync,
     M: Ledger + Send + Sync,

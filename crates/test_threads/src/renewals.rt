@@ -131,8 +131,8 @@ fn expect_read<L: Ledger, R: Wait>(
     expect(held.as_str() == version, "the version is held")
 }
 
-/// Expects a range of two entries, with the limit 5 and the dirty nodes of before, that holds the last versions of `a`
-/// and `b`.
+/// Expects a range of two entries, with the limit 5 and the same dirty nodes, that holds the last versions of `a` and
+/// `b`.
 fn expect_renewed<L: Ledger, R: Wait>(
     rt: &R,
     alloc: Global,
@@ -198,8 +198,8 @@ fn renew_with_both<L: Ledger>(alloc: Global, locked: Locked<L>) -> Result<(), Fa
     )
 }
 
-/// Opens a range, puts a value at its seat 1, and renews it. The proof of a test names its ledger only if the call takes
-/// the runtime.
+/// Opens a range, puts a value at its seat 1, and renews it. The proof of a test names its ledger only if the call
+/// takes the runtime.
 fn renew_locked<L: Ledger>(_rt: &impl Abort, alloc: Global, blank: Blank) -> Result<(), Fail>
     requires name { blank.name ≡ L.name }
     requires parts { (blank.parts ≡ L.parts) × (L.parts ≡ 2) }

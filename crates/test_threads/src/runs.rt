@@ -1,5 +1,5 @@
-//! Runs of tests on nodes. A run opens a node, hands it to a test, closes its range, and hands the test the state. So a
-//! test neither opens nor closes a range, and the passes of each range are compared with its journal.
+//! Runs of tests on nodes. A run opens a node, passes it to a test, closes its range, and passes the state to the test.
+//! A test neither opens nor closes a range, and the passes of each range are compared with its journal.
 //!
 //! A test whose threads share a node has a function for that, since a trait's method can't send values of a type
 //! parameter to a thread.

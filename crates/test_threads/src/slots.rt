@@ -26,14 +26,14 @@ fn borrow_one<C: Ledger, R: Wait>(
     Ok(())
 }
 
-/// Gives back the slot that was borrowed last.
+/// Returns the last borrowed slot to the controller.
 fn give_one<C: Ledger, R: Wait>(rt: &R, slots: &SharedController<C>, lent: &mut Vec<Slot<C>>) {
     if let Some(slot) = lent.pop() {
         slots.give_back(rt, slot);
     }
 }
 
-/// Gives all slots back.
+/// Returns all slots to the controller.
 fn give_all<C: Ledger, R: Wait>(rt: &R, slots: &SharedController<C>, lent: Vec<Slot<C>>) {
     let mut lent = lent;
     while let Some(slot) = lent.pop() {
@@ -57,7 +57,7 @@ fn expect_counts<C: Ledger, R: Wait>(
     expect(slots.counts(rt) == counts, "each slot is lent or free")
 }
 
-/// Expects that eight slots are lent and a ninth isn't, and that one which was given back is lent again.
+/// Expects that eight slots are lent and a ninth isn't, and that a returned slot is lent again.
 fn expect_eight<C: Ledger, R: Wait>(
     rt: &R,
     slots: &SharedController<C>,
@@ -84,7 +84,7 @@ fn expect_eight<C: Ledger, R: Wait>(
     expect_counts(rt, slots, 8, 0)
 }
 
-/// Loans of more slots than there are.
+/// Nine loans from a controller of eight slots.
 struct NineLoans;
 
 impl NodeTest for NineLoans {

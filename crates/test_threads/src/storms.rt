@@ -11,7 +11,7 @@ use std::thread::Threads;
 use storm::{PUTS_MAX, Tallies, run_storm};
 use test_values::checks::expect;
 
-/// The maximum number of times that a thread checks if it may go on.
+/// The maximum number of times that a thread checks if it may continue.
 const LOOKS_MAX: u64 = 10_000_000;
 
 /// The minimum number of puts of each writer before it is held.
@@ -95,13 +95,12 @@ fn a_storm_overlaps(rt: HostRuntime) -> Result<(), Fail> {
     )
 }
 
-/// A gate that makes each rehash worker meet a late digest, and each sync worker finish a session, while both writers
-/// have more to write.
+/// A gate with which each rehash worker makes a late digest, and each sync worker finishes a session, while both
+/// writers have more to write.
 ///
-/// Each rehash worker is held with its first job, which is of the first leaf, until both writers have reached the point
-/// where they are held, after 1,000 puts each. Each writer is held there until both nodes have finished a session. Each
-/// sync worker is held before its first round until both rehash workers have done all of theirs, and so until both
-/// trees are clean.
+/// Each rehash worker is held with its first job, for the first leaf, until both writers are held, after 1,000 puts
+/// each. Each writer is held until both nodes have finished a session. Each sync worker is held before its first round
+/// until both rehash workers have done all of theirs, so that both trees are clean.
 #[derive(Drop)]
 struct Meeting<'a> {
     tallies: &'a Tallies,

@@ -1,4 +1,4 @@
-//! Sync workers whose partners answer with true texts.
+//! Sync workers whose partners send true texts.
 
 use crate::calls::publish;
 use crate::nodes::{Node, TURNS};
@@ -16,7 +16,7 @@ use std::thread::Threads;
 use sync_session::SessionState;
 use vclock::Refusal;
 
-/// A sync with a partner that answers with true texts.
+/// A sync with a partner that sends true texts.
 #[derive(Clone, Copy)]
 struct Truthful<'a> {
     /// The rows that the node has before.
@@ -91,7 +91,7 @@ fn two_values_with_equal_clocks_are_held(rt: HostRuntime) -> Result<(), Fail> {
     sync_rows(&rt, rt.alloc(), &[valued(b"p")], &[valued(b"q")], outcome)
 }
 
-/// A link whose partner publishes 16 more snapshots before it answers the second ask.
+/// A link whose partner publishes 16 more snapshots before its answer to the second ask.
 #[derive(Drop)]
 struct Dropping<'a, K: Link> {
     link: K,

@@ -17,7 +17,7 @@ pub fn offer_version(set: &mut VersionSet, version: Version) -> Result<Offered, 
     set.offer(version)
 }
 
-/// Reads a row, and returns it with what follows.
+/// Reads a row, and returns it with the rest of the text.
 pub fn read(alloc: Global, format: Format, text: &[u8]) -> Result<(Row, &[u8]), Refusal> {
     read_row(alloc, format, text)
 }

@@ -51,7 +51,7 @@ fn a_hint_waits_for_its_owner(rt: HostRuntime) -> Result<(), Fail> {
     expect_found(alloc, &mut HintStore::new(alloc))
 }
 
-/// Asserts that a hint is confirmed by its own version alone, and once.
+/// Asserts that only a hint's own version confirms it, and once.
 fn expect_confirmed(alloc: Global, store: &mut HintStore) -> Result<(), Fail> {
     keep(alloc, store, 2, 1)?;
     let other = confirm(alloc, store, 1, 2, 2);
@@ -115,12 +115,12 @@ fn expect_counts(store: &HintStore, pending: u32, delivered: u32) -> Result<(), 
     expect(store.counts() == counts, "a store counts its hints")
 }
 
-/// Returns the store that has the pending hints alone.
+/// Returns a store that has only the pending hints.
 fn renew(alloc: Global, store: &HintStore) -> Result<HintStore, Refusal> {
     store.renewed(alloc)
 }
 
-/// Asserts that a renewed store has the pending hints alone, numbered from 1.
+/// Asserts that a renewed store has only the pending hints, numbered from 1.
 fn expect_renewed(alloc: Global, store: &mut HintStore) -> Result<(), Fail> {
     for owner in 4..7u16 {
         keep(alloc, store, owner, 1)?;

@@ -15,7 +15,7 @@ fn append(alloc: Global, journal: &mut Journal, count: u64) -> Result<u64, Refus
     journal.append(0, Source::Client, key, put)
 }
 
-/// Appends a version of `a` from a partner, for which there is room.
+/// Appends a version of `a` from a partner to a journal that isn't full.
 fn append_reserved(alloc: Global, journal: &mut Journal, count: u64) -> Result<u64, Fail> {
     let key = Bytes::copy_of(alloc, b"a")?;
     let copy = version(alloc, (2, count), Kind::Live, b"x")?;
@@ -25,7 +25,7 @@ fn append_reserved(alloc: Global, journal: &mut Journal, count: u64) -> Result<u
     Ok(journal.append_reserved(7, Source::Partner, key, copy))
 }
 
-/// Asserts that a journal takes two entries and no more, and what the second one has.
+/// Asserts that a journal takes two entries and no more, and the contents of the second.
 fn expect_two(alloc: Global, journal: &mut Journal) -> Result<(), Fail> {
     expect(append(alloc, journal, 1)? == 0, "the first entry is 0")?;
     journal.reserve(1)?;

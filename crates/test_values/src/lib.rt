@@ -1,4 +1,4 @@
-//! Tests of the calls of the libraries below a range: worked examples and vectors. And what all tests use.
+//! Tests of the libraries below a range: worked examples and vectors. Also the helpers that all tests use.
 #![tactic(auto)]
 
 pub mod calls;

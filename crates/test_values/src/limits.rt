@@ -25,7 +25,7 @@ fn longest_text(alloc: Global, format: Format, value: u32) -> Result<Vec<u8>, Re
     Ok(text)
 }
 
-/// Appends 32 pairs: the nodes 1 to 31, and then a node that differs for each version, each counted once.
+/// Appends 32 pairs: nodes 1 to 31 and a node that differs for each version, each counted once.
 fn put_pairs(text: &mut Vec<u8>, version: u16) -> Result<(), Refusal> {
     for node in 1..32u16 {
         put_pair(text, node)?;
@@ -40,7 +40,7 @@ fn put_pair(text: &mut Vec<u8>, node: u16) -> Result<(), Refusal> {
     Ok(())
 }
 
-/// Asserts that a text has this length and is that of a row of 64 versions, which is cloned and written back as it.
+/// Asserts that a text has this length and is a row of 64 versions, which is cloned and written back unchanged.
 fn expect_row(alloc: Global, format: Format, text: &[u8], length: usize) -> Result<(), Fail> {
     let (row, written) = read_and_write(alloc, format, text)?;
     expect(

@@ -11,7 +11,7 @@ use walk_messages::{Answer, Ask, Message, Offer, decode, encode};
 /// The bytes of an ask for leaf 12 of a tree of format 1.
 const ASK: &[u8] = b"\x02\x00\x00\x00\x01\x02\x00\x0c";
 
-/// The bytes of an answer with the text of leaf 0 without rows.
+/// The bytes of an answer: the text of leaf 0, which has no rows.
 const ANSWER: &[u8] = b"\x03\x00\x00\x00\x01\x02\x00\x00\x00\x00\x00\x00\x00\x00\x00\x01\x00";
 
 /// Reads a message.
@@ -31,7 +31,7 @@ fn expect_bytes(alloc: Global, message: &Message, bytes: &[u8]) -> Result<(), Fa
     expect(has_bytes(alloc, &read, bytes)?, "it is read from its bytes")
 }
 
-/// Asserts that these bytes are not a message's.
+/// Asserts that these bytes aren't a message.
 fn expect_none(alloc: Global, bytes: &[u8]) -> Result<(), Fail> {
     expect_refused(
         read(alloc, bytes),
@@ -103,7 +103,7 @@ fn a_message_names_the_last_node_of_format_2(rt: HostRuntime) -> Result<(), Fail
     )
 }
 
-/// Asserts that the bytes are not a message's if some at their end are missing, or if a byte is added.
+/// Asserts that the bytes aren't a message if some at their end are missing, or if a byte is added.
 fn expect_whole(alloc: Global, bytes: &[u8]) -> Result<(), Fail> {
     for length in 0..bytes.len() {
         expect_none(alloc, &bytes[..length])?;

@@ -29,7 +29,7 @@ fn keys_lie_where_their_digests_say(_rt: HostRuntime) -> Result<(), Fail> {
     expect_place(Format::One, 4, b"message digest", 15, 150)
 }
 
-/// Returns the places of a key in both formats, which hashes it once.
+/// Returns the places of a key in both formats, from one hash.
 fn places(bits: u8, key: &[u8]) -> (KeyPlace, KeyPlace)
     requires { bits ≤ 8 }
 {
@@ -81,7 +81,7 @@ fn expect_list(ring: &Ring, range: u16, list: [u16; 4]) -> Result<(), Fail>
     Ok(())
 }
 
-/// Asserts what the ring of the nodes 10, 20, 30 and 40 shows.
+/// Asserts the properties of the ring of nodes 10, 20, 30 and 40.
 fn expect_ring(ring: &Ring) -> Result<(), Fail> {
     expect(
         ring.bits() == 4 && ring.ranges() == 16 && ring.copies() == 2,

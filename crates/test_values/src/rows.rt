@@ -21,8 +21,8 @@ const EQUAL_CLOCKS: &[u8] =
 const TOMBSTONE: &[u8] =
     b"\x00\x01a\x00\x02\x00\x01\x00\x02\x00\x00\x00\x00\x00\x00\x00\x01\x00\x00\x00\x01p\x01\x01\x00\x02\x00\x00\x00\x00\x00\x00\x00\x01\x00\x00\x00\x00";
 
-/// Asserts that a text is that of one row with this number of versions, with nothing after it, and that the row is
-/// written back as this text.
+/// Asserts that a text is one row with this number of versions, with nothing after it, and that the row is written back
+/// as the same text.
 fn expect_row(alloc: Global, format: Format, text: &[u8], versions: usize) -> Result<(), Fail> {
     let (row, written) = read_and_write(alloc, format, text)?;
     expect(row.versions.len() == versions, "a row has its versions")?;
@@ -31,7 +31,7 @@ fn expect_row(alloc: Global, format: Format, text: &[u8], versions: usize) -> Re
     expect(rows.len() == 1, "a row's text is one row")
 }
 
-/// Asserts the offset where a text is broken.
+/// Asserts the offset at which a text is broken.
 fn expect_broken(alloc: Global, format: Format, text: &[u8], offset: u64) -> Result<(), Fail> {
     match read(alloc, format, text) {
         Err(Refusal::RowBroken(at)) => expect(at == offset, "a text is broken at its offset"),

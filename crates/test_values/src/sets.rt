@@ -8,8 +8,8 @@ use std::test::Fail;
 use vclock::{Format, Refusal};
 use version_set::{Kind, Offered, VersionSet};
 
-/// Offers a version that node 1 has counted this number of times. Asserts whether it is added, and the members then of
-/// the set and of its clone.
+/// Offers a version that node 1 has counted this number of times. Asserts whether it is added, and the members of the
+/// set and of its clone afterwards.
 fn expect_offered(
     alloc: Global,
     set: &mut VersionSet,
@@ -25,7 +25,7 @@ fn expect_offered(
     expect(clone.as_str() == text, "a clone has the same members")
 }
 
-/// Asserts that later versions take the place of earlier ones, and that versions with equal clocks are both kept.
+/// Asserts that later versions replace earlier ones, and that versions with equal clocks are both kept.
 fn expect_latest(alloc: Global, set: &mut VersionSet) -> Result<(), Fail> {
     expect(set.is_empty(), "a new set is empty")?;
     let (first, later) = ("[(1, 1)] Live [120]\n", "[(1, 2)] Live [121]\n");
@@ -65,7 +65,7 @@ fn a_tombstone_stands_beside_a_value_of_its_clock(rt: HostRuntime) -> Result<(),
     expect_both(alloc, &mut VersionSet::empty(alloc))
 }
 
-/// Asserts that a set takes 64 members and no more, and a version that takes the place of one.
+/// Asserts that a set takes 64 members and no more, and a version that replaces one.
 fn expect_64(alloc: Global, set: &mut VersionSet) -> Result<(), Fail> {
     for node in 100..164 {
         offer_version(set, version(alloc, (node, 1), Kind::Live, b"x")?)?;

@@ -26,7 +26,7 @@ fn expect_slots<L: Ledger>(
     )
 }
 
-/// Lends a slot and gives it back. Returns the numbers of lent and free slots in between.
+/// Lends a slot and returns it to the controller. Returns the numbers of lent and free slots in between.
 fn counts_of_one<L: Ledger>(controller: &mut Controller<L>) -> Result<(u32, u32), Refusal> {
     let slot = controller.lend()?;
     let counts = (controller.lent(), controller.free());
@@ -34,14 +34,14 @@ fn counts_of_one<L: Ledger>(controller: &mut Controller<L>) -> Result<(u32, u32)
     Ok(counts)
 }
 
-/// Asserts that a controller counts a slot that is lent.
+/// Asserts that a controller counts a lent slot.
 fn expect_one_lent<L: Ledger>(controller: &mut Controller<L>) -> Result<(), Fail> {
     let (lent, free) = counts_of_one(controller)?;
     expect(lent == 1 && free == 7, "one slot is lent")?;
     expect_slots(controller, 8, 0, 8)
 }
 
-/// Asserts that a new controller has all slots free, and again after its target was lowered and it was reset.
+/// Asserts that all slots of a new controller are free, and again once its target was lowered and it was reset.
 fn expect_reset<L: Ledger>(blank: Blank, alloc: Global) -> Result<(), Fail>
     requires ledger { (blank.name ≡ L.name) × (blank.parts ≡ L.parts) × (blank.parts ≡ 1024) }
 {

@@ -63,8 +63,6 @@ fn a_table_finds_its_rows(rt: HostRuntime) -> Result<(), Fail> {
     let mut table = RowTable::new(alloc, seed);
     put_both(alloc, &mut table)?;
     put(&mut table, row_of(alloc, b"a", 2)?)?;
-    expect_both(alloc, &table)?;
-    let copy = table.try_clone(alloc)?;
-    expect(copy.seed() == seed, "a copy has the seed")?;
-    expect_both(alloc, &copy)
+    expect(table.seed() == seed, "a table has its seed")?;
+    expect_both(alloc, &table)
 }

@@ -25,12 +25,33 @@ IsShort part = length part < 2 ^ 32
 
 -- a version has 32 pairs and a value of 65,536 bytes at most
 version_short : (format : Format) (v : Version) → IsVersion format v → length (version_text format v) ≤ 65862
-version_short One v is = omega (arith, pairs_len v.clock, is.clock.short, value_short One v.kind v.value is.value, length-append (flat_map pair_text v.clock) (to_be_bytes w32 (length v.value) ++ v.value))
-version_short Two v is = omega (arith, pairs_len v.clock, is.clock.short, value_short Two v.kind v.value is.value, length-append (flat_map pair_text v.clock) (to_be_bytes w32 (length v.value) ++ v.value))
+version_short One v is =
+    omega (
+      arith,
+      pairs_len v.clock,
+      is.clock.short,
+      value_short One v.kind v.value is.value,
+      length-append (flat_map pair_text v.clock) (to_be_bytes w32 (length v.value) ++ v.value),
+    )
+version_short Two v is =
+    omega (
+      arith,
+      pairs_len v.clock,
+      is.clock.short,
+      value_short Two v.kind v.value is.value,
+      length-append (flat_map pair_text v.clock) (to_be_bytes w32 (length v.value) ++ v.value),
+    )
 
-versions_short : (format : Format) (vs : List Version) → AllByRecursion (IsVersion format) vs → length (flat_map (version_text format) vs) ≤ 65862 * length vs
+versions_short : (format : Format) (vs : List Version) → AllByRecursion (IsVersion format) vs
+    → length (flat_map (version_text format) vs) ≤ 65862 * length vs
 versions_short format [] all = omega arith
-versions_short format (v ∷ vs) all = omega (arith, version_short format v all.0, versions_short format vs all.1, length-append (version_text format v) (flat_map (version_text format) vs))
+versions_short format (v ∷ vs) all =
+    omega (
+      arith,
+      version_short format v all.0,
+      versions_short format vs all.1,
+      length-append (version_text format v) (flat_map (version_text format) vs),
+    )
 
 row_short : (format : Format) (r : Row) → IsRow format r → IsShort (row_text format r)
 row_short format r is = omega (arith, row_text_len format r, key_short r.key is.key, is.few, versions_short format r.versions is.each)

@@ -20,7 +20,8 @@ abbrev pub child_digest : RowMap → Node → ℕ → List ℕ
 child_digest m n j = digest_at m (suc n.depth) (16 * n.index + j)
 
 -- the parts of a leaf
-pub leaf_parts : (m : RowMap) (n : Node) → n.depth ≡ tree_depth m.format → parts_at m n ≡ map (row_text m.format) (rows_in_leaf (leaf_in m) n.index m.rows)
+pub leaf_parts : (m : RowMap) (n : Node) → n.depth ≡ tree_depth m.format
+    → parts_at m n ≡ map (row_text m.format) (rows_in_leaf (leaf_in m) n.index m.rows)
 leaf_parts m n deep =
     let low : tree_depth m.format - n.depth ≡ 0 = omega arith in
     ap (λ (h : ℕ). parts_over m.format (leaf_in m) m.rows h n.index) low

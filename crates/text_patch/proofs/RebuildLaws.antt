@@ -8,7 +8,9 @@ use Rattle.text_patch.specs.Parts.{parts_at}
 use Rattle.text_patch.specs.Patches.{Makes, Rebuilds}
 use Rattle.text_patch.specs.Steps.{Make}
 
-pub no_text : {T : Type 0} (P : List ℕ → T → Type 0) (own : RowMap) (n : Node) (parts : List (List ℕ)) (steps : List ℕ) (e : Refusal) → parts ≡ parts_at own n → Makes parts steps P (Err e) → Rebuilds own n steps (Err e)
-no_text P own n parts steps refusals.BadMessage is none = λ text m. none m.body (subst (λ (ps : List (List ℕ)). Make ps 0 steps m.body) (sym is) m.makes)
+pub no_text : {T : Type 0} (P : List ℕ → T → Type 0) (own : RowMap) (n : Node) (parts : List (List ℕ)) (steps : List ℕ) (e : Refusal)
+    → parts ≡ parts_at own n → Makes parts steps P (Err e) → Rebuilds own n steps (Err e)
+no_text P own n parts steps refusals.BadMessage is none =
+    λ text m. none m.body (subst (λ (ps : List (List ℕ)). Make ps 0 steps m.body) (sym is) m.makes)
 no_text P own n parts steps refusals.NoMemory is none = tt
 no_text P own n parts steps e is none = none

@@ -1,5 +1,6 @@
 -- Copies of consecutive parts, as they are written.
-use Rattle.std.proofs.Common.{◌≡◌, ℕ, zero, suc, ◌+◌, ◌<◌, Bool, true, false, cond, eqb, List, [], ◌∷◌, ◌++◌, length, take, drop, get_or, Some, None, refl, sym, ap, ◌∙◌, add-one, arith}
+use Rattle.std.proofs.Common.{◌≡◌, ℕ, zero, suc, ◌+◌, ◌<◌, Bool, true, false, cond, eqb, List, [], ◌∷◌, ◌++◌, length, take, drop, get_or, Some, None}
+use Rattle.std.proofs.Common.{refl, sym, ap, ◌∙◌, add-one, arith}
 use Rattle.std.proofs.lemmas.Bool.{eq-eqb, ne_eqb}
 use Rattle.std.proofs.lemmas.List.{append-nil, drop_more}
 use Rattle.sha2.specs.Sha256.{sha256}
@@ -33,13 +34,17 @@ run_is first zero at [] e not = refl
 run_is first zero at (New bytes ∷ steps) e not = refl
 run_is first zero at (Copy next count ∷ steps) e not = rw (ne_eqb next (first + 1) (λ h. not (omega arith))) refl
 run_is first (suc k) at steps e not =
-    let joined : with_copy first (Copy (first + 1) (suc k) ∷ steps) ≡ Copy first (suc k + 1) ∷ steps = rw (eq-eqb (first + 1) (first + 1) refl) refl in
-    ap (λ (ss : List Step). with_copy first ss) (run_is (first + 1) k at steps (omega arith) not) ∙ joined ∙ ap (λ (n : ℕ). Copy first n ∷ steps) (add-one (suc k))
+    let joined : with_copy first (Copy (first + 1) (suc k) ∷ steps) ≡ Copy first (suc k + 1) ∷ steps = rw
+    (eq-eqb (first + 1) (first + 1) refl) refl in
+    ap (λ (ss : List Step). with_copy first ss) (run_is (first + 1) k at steps (omega arith) not) ∙ joined
+    ∙ ap (λ (n : ℕ). Copy first n ∷ steps) (add-one (suc k))
 
 -- and its text
-run_spelled : (first count at : ℕ) (steps : List Step) → at ≡ first + count → NotFrom at steps → steps_text (with_run first count steps) ≡ run_text first count ++ steps_text steps
+run_spelled : (first count at : ℕ) (steps : List Step) → at ≡ first + count → NotFrom at steps
+    → steps_text (with_run first count steps) ≡ run_text first count ++ steps_text steps
 run_spelled first zero at steps e not = refl
-run_spelled first (suc k) at steps e not = ap (λ (ss : List Step). steps_text ss) (run_is first k at steps e not) ∙ sym (rw (ne_eqb (suc k) 0 (λ h. omega arith)) refl)
+run_spelled first (suc k) at steps e not = ap (λ (ss : List Step). steps_text ss) (run_is first k at steps e not)
+    ∙ sym (rw (ne_eqb (suc k) 0 (λ h. omega arith)) refl)
 
 -- a copy from another place begins there
 copy_elsewhere : (place at : ℕ) (steps : List Step) → (place ≡ at → ⊥) → NotFrom at (with_copy place steps)
@@ -58,28 +63,33 @@ abbrev pub left_text : List ℕ → MarkList → ℕ → ℕ → List (List ℕ)
 left_text salt m first count parts = steps_text (with_run first count (patch_for salt m (first + count) parts))
 
 -- the next part, which has this digest with the salt, is copied from where the run ends
-pub run_goes_on : (salt : List ℕ) (m : MarkList) (first count place : ℕ) (part digest : List ℕ) (parts : List (List ℕ)) → digest ≡ sha256 (salt ++ part) → Some place ≡ place_of m (take m.width digest) (first + count) → place ≡ first + count
+pub run_goes_on : (salt : List ℕ) (m : MarkList) (first count place : ℕ) (part digest : List ℕ) (parts : List (List ℕ))
+    → digest ≡ sha256 (salt ++ part) → Some place ≡ place_of m (take m.width digest) (first + count) → place ≡ first + count
     → left_text salt m first count (part ∷ parts) ≡ left_text salt m first (count + 1) parts
 run_goes_on salt m first count place part digest parts d p here =
     let next : (first + count) + 1 ≡ first + (count + 1) = omega arith in
     let found : place_of m (mark_of salt m.width part) (first + count) ≡ Some (first + count) = rw (← d) (sym p ∙ ap Some here) in
-    let one : patch_for salt m (first + count) (part ∷ parts) ≡ with_copy (first + count) (patch_for salt m ((first + count) + 1) parts) = rw found refl in
+    let one : patch_for salt m (first + count) (part ∷ parts) ≡ with_copy (first + count)
+    (patch_for salt m ((first + count) + 1) parts) = rw found refl in
     ap (λ (ss : List Step). steps_text (with_run first count ss)) one
     ∙ ap (λ (ss : List Step). steps_text ss) (run_more first count (first + count) (patch_for salt m ((first + count) + 1) parts) refl)
     ∙ ap (λ (n : ℕ). steps_text (with_run first (suc count) (patch_for salt m n parts))) next
     ∙ ap (λ (n : ℕ). steps_text (with_run first n (patch_for salt m (first + (count + 1)) parts))) (sym (add-one count))
 
 -- it is copied from another place
-pub run_jumps : (salt : List ℕ) (m : MarkList) (first count place : ℕ) (part digest : List ℕ) (parts : List (List ℕ)) → digest ≡ sha256 (salt ++ part) → Some place ≡ place_of m (take m.width digest) (first + count) → (place ≡ first + count → ⊥)
+pub run_jumps : (salt : List ℕ) (m : MarkList) (first count place : ℕ) (part digest : List ℕ) (parts : List (List ℕ)) → digest ≡ sha256 (salt ++ part)
+    → Some place ≡ place_of m (take m.width digest) (first + count) → (place ≡ first + count → ⊥)
     → left_text salt m first count (part ∷ parts) ≡ run_text first count ++ left_text salt m place 1 parts
 run_jumps salt m first count place part digest parts d p ne =
     let found : place_of m (mark_of salt m.width part) (first + count) ≡ Some place = rw (← d) (sym p) in
     let one : patch_for salt m (first + count) (part ∷ parts) ≡ with_copy place (patch_for salt m (place + 1) parts) = rw found refl in
     ap (λ (ss : List Step). steps_text (with_run first count ss)) one
-    ∙ run_spelled first count (first + count) (with_copy place (patch_for salt m (place + 1) parts)) refl (copy_elsewhere place (first + count) (patch_for salt m (place + 1) parts) ne)
+    ∙ run_spelled first count (first + count) (with_copy place (patch_for salt m (place + 1) parts)) refl
+    (copy_elsewhere place (first + count) (patch_for salt m (place + 1) parts) ne)
 
 -- it is new
-pub run_stops : (salt : List ℕ) (m : MarkList) (first count : ℕ) (part digest : List ℕ) (parts : List (List ℕ)) → digest ≡ sha256 (salt ++ part) → None ≡ place_of m (take m.width digest) (first + count)
+pub run_stops : (salt : List ℕ) (m : MarkList) (first count : ℕ) (part digest : List ℕ) (parts : List (List ℕ)) → digest ≡ sha256 (salt ++ part)
+    → None ≡ place_of m (take m.width digest) (first + count)
     → left_text salt m first count (part ∷ parts) ≡ run_text first count ++ (step_text (New part) ++ left_text salt m (first + count) 0 parts)
 run_stops salt m first count part digest parts d p =
     let same : first + count ≡ (first + count) + 0 = omega arith in
@@ -94,5 +104,6 @@ pub run_ends : (salt : List ℕ) (m : MarkList) (first count : ℕ) → left_tex
 run_ends salt m first count = run_spelled first count (first + count) [] refl tt ∙ append-nil (run_text first count)
 
 -- the next part, and those after it
-pub next_part : (parts : List (List ℕ)) (i : ℕ) (part : List ℕ) → i < length parts → part ≡ get_or parts i part → drop i parts ≡ part ∷ drop (i + 1) parts
+pub next_part : (parts : List (List ℕ)) (i : ℕ) (part : List ℕ) → i < length parts → part ≡ get_or parts i part
+    → drop i parts ≡ part ∷ drop (i + 1) parts
 next_part parts i part lt is = drop_more parts i part lt ∙ ap (λ (p : List ℕ). p ∷ drop (i + 1) parts) (sym is)

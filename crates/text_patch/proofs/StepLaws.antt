@@ -17,7 +17,8 @@ some_text (Copy first count) = omega arith
 some_text (New bytes) = omega arith
 
 -- bytes begin with one step at most
-pub one_step : (from parts after all : ℕ) (s t : Step) (x y : List ℕ) → MayCome from parts s → MayCome after all t → step_text s ++ x ≡ step_text t ++ y → (s ≡ t) × (x ≡ y)
+pub one_step : (from parts after all : ℕ) (s t : Step) (x y : List ℕ) → MayCome from parts s → MayCome after all t
+    → step_text s ++ x ≡ step_text t ++ y → (s ≡ t) × (x ≡ y)
 one_step from parts after all (Copy f c) (Copy g d) x y m n e =
     let first = one_number f g m.1 n.1 (ap (λ (t : List ℕ). take 4 (drop 1 t)) e) in
     let count = one_number c d m.2 n.2 (ap (λ (t : List ℕ). take 4 (drop 5 t)) e) in
@@ -33,7 +34,8 @@ one_step from parts after all (New a) (New b) x y m n e =
     (ap New same, rest)
 
 -- a step and others make what it makes, and then what they make
-pub made_more : (parts : List (List ℕ)) (from : ℕ) (bytes rest text : List ℕ) (s : Step) → BeginsWith from (length parts) bytes s rest → Make parts (after_step from s) rest text → Make parts from bytes (made_by parts s ++ text)
+pub made_more : (parts : List (List ℕ)) (from : ℕ) (bytes rest text : List ℕ) (s : Step) → BeginsWith from (length parts) bytes s rest
+    → Make parts (after_step from s) rest text → Make parts from bytes (made_by parts s ++ text)
 made_more parts from bytes rest text s b m = record {
   steps = s ∷ m.steps;
   spelled = ap (λ (t : List ℕ). step_text s ++ t) m.spelled ∙ sym b.spelled;
@@ -48,30 +50,41 @@ pub record MakeMore (parts : List (List ℕ)) (from : ℕ) (s : Step) (rest text
   pub text_is : text ≡ made_by parts s ++ more
 
 -- where bytes make a text, those after a step at their front make the rest of it
-pub made_less : (parts : List (List ℕ)) (from : ℕ) (bytes rest text : List ℕ) (s : Step) → BeginsWith from (length parts) bytes s rest → Make parts from bytes text → MakeMore parts from s rest text
+pub made_less : (parts : List (List ℕ)) (from : ℕ) (bytes rest text : List ℕ) (s : Step) → BeginsWith from (length parts) bytes s rest
+    → Make parts from bytes text → MakeMore parts from s rest text
 made_less parts from bytes rest text s b m = after m.steps (m.spelled ∙ b.spelled) m.forwards m.made_is
   where
-    after : (steps : List Step) → steps_text steps ≡ step_text s ++ rest → GoForwards from (length parts) steps → made parts steps ≡ text → MakeMore parts from s rest text
+    after : (steps : List Step) → steps_text steps ≡ step_text s ++ rest → GoForwards from (length parts) steps → made parts steps ≡ text
+        → MakeMore parts from s rest text
     after [] e g is = absurd (omega (arith, some_text s, length-append (step_text s) rest, ap (λ (t : List ℕ). length t) e))
     after (t ∷ ts) e g is =
         let same = one_step from (length parts) from (length parts) t s (steps_text ts) rest g.0 b.may_come e in
         let first : t ≡ s = same.0 in
         record {
           more = made parts ts;
-          makes = record { steps = ts; spelled = same.1; forwards = subst (λ (u : Step). GoForwards (after_step from u) (length parts) ts) first g.1; made_is = refl };
+          makes = record {
+            steps = ts;
+            spelled = same.1;
+            forwards = subst (λ (u : Step). GoForwards (after_step from u) (length parts) ts) first g.1;
+            made_is = refl;
+          };
           text_is = sym is ∙ ap (λ (u : Step). made_by parts u ++ made parts ts) first;
         }
 
 -- ---- steps make one text at most
 
-pub one_made : (parts : List (List ℕ)) (from : ℕ) (xs ys : List Step) → GoForwards from (length parts) xs → GoForwards from (length parts) ys → steps_text xs ≡ steps_text ys → made parts xs ≡ made parts ys
+pub one_made : (parts : List (List ℕ)) (from : ℕ) (xs ys : List Step) → GoForwards from (length parts) xs → GoForwards from (length parts) ys
+    → steps_text xs ≡ steps_text ys → made parts xs ≡ made parts ys
 one_made parts from [] [] f g e = refl
-one_made parts from [] (y ∷ ys) f g e = absurd (omega (arith, some_text y, length-append (step_text y) (steps_text ys), ap (λ (t : List ℕ). length t) e))
-one_made parts from (x ∷ xs) [] f g e = absurd (omega (arith, some_text x, length-append (step_text x) (steps_text xs), ap (λ (t : List ℕ). length t) e))
+one_made parts from [] (y ∷ ys) f g e =
+    absurd (omega (arith, some_text y, length-append (step_text y) (steps_text ys), ap (λ (t : List ℕ). length t) e))
+one_made parts from (x ∷ xs) [] f g e =
+    absurd (omega (arith, some_text x, length-append (step_text x) (steps_text xs), ap (λ (t : List ℕ). length t) e))
 one_made parts from (x ∷ xs) (y ∷ ys) f g e =
     let same = one_step from (length parts) from (length parts) x y (steps_text xs) (steps_text ys) f.0 g.0 e in
     let first : y ≡ x = sym same.0 in
-    let rest : made parts xs ≡ made parts ys = one_made parts (after_step from x) xs ys f.1 (subst (λ (u : Step). GoForwards (after_step from u) (length parts) ys) first g.1) same.1 in
+    let rest : made parts xs ≡ made parts ys = one_made parts (after_step from x) xs ys f.1
+    (subst (λ (u : Step). GoForwards (after_step from u) (length parts) ys) first g.1) same.1 in
     ap (λ (u : Step). made_by parts u ++ made parts xs) same.0 ∙ ap (λ (t : List ℕ). made_by parts y ++ t) rest
 
 -- ---- what steps make is no longer than the parts and the steps together
@@ -91,7 +104,8 @@ from_later parts i j le =
     omega (arith, split_len (j - i) (drop i parts), ap (λ (ps : List (List ℕ)). length (joined ps)) e)
 
 -- by the parts from a place on
-pub made_bounded : (parts : List (List ℕ)) (from : ℕ) (steps : List Step) → GoForwards from (length parts) steps → length (made parts steps) ≤ length (joined (drop from parts)) + length (steps_text steps)
+pub made_bounded : (parts : List (List ℕ)) (from : ℕ) (steps : List Step) → GoForwards from (length parts) steps
+    → length (made parts steps) ≤ length (joined (drop from parts)) + length (steps_text steps)
 made_bounded parts from [] g = omega arith
 made_bounded parts from (Copy first count ∷ steps) g =
     let split = split_len count (drop first parts) in
@@ -107,4 +121,10 @@ made_bounded parts from (Copy first count ∷ steps) g =
     )
 made_bounded parts from (New bytes ∷ steps) g =
     let all : length (step_text (New bytes)) ≡ 5 + length bytes = omega arith in
-    omega (arith, all, made_bounded parts from steps g.1, length-append bytes (made parts steps), length-append (step_text (New bytes)) (steps_text steps))
+    omega (
+      arith,
+      all,
+      made_bounded parts from steps g.1,
+      length-append bytes (made parts steps),
+      length-append (step_text (New bytes)) (steps_text steps),
+    )

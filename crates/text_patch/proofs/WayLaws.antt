@@ -17,7 +17,8 @@ pub way_none : (parts : List (List ℕ)) (steps : List ℕ) → IsOnTheWay parts
 way_none parts steps = record { within = omega arith; forth = λ text m. m; back = λ whole m. (whole, m) }
 
 -- one more was read
-pub way_more : (parts : List (List ℕ)) (from : ℕ) (bytes steps done : List ℕ) (first end : ℕ) (new rest : List ℕ) → IsOnTheWay parts from bytes steps done → IsStepRead from (length parts) bytes first end new rest
+pub way_more : (parts : List (List ℕ)) (from : ℕ) (bytes steps done : List ℕ) (first end : ℕ) (new rest : List ℕ)
+    → IsOnTheWay parts from bytes steps done → IsStepRead from (length parts) bytes first end new rest
     → IsOnTheWay parts end rest steps ((done ++ joined (take (end - first) (drop first parts))) ++ new)
 way_more parts from bytes steps done first end new rest way b =
     let s = b.step in
@@ -26,7 +27,8 @@ way_more parts from bytes steps done first end new rest way b =
       within = b.within;
       forth = λ text m.
           let after : Make parts (after_step from s) rest text = subst (λ (n : ℕ). Make parts n rest text) b.end_is m in
-          let all : Make parts 0 steps (done ++ (made_by parts s ++ text)) = way.forth (made_by parts s ++ text) (made_more parts from bytes rest text s b.begins after) in
+          let all : Make parts 0 steps (done ++ (made_by parts s ++ text)) = way.forth (made_by parts s ++ text)
+          (made_more parts from bytes rest text s b.begins after) in
           let copied = joined (take (end - first) (drop first parts)) in
           let is : done ++ (made_by parts s ++ text) ≡ ((done ++ copied) ++ new) ++ text = rw (b.makes parts) (simp append_assoc) in
           subst (λ (t : List ℕ). Make parts 0 steps t) is all;
@@ -37,13 +39,15 @@ way_more parts from bytes steps done first end new rest way b =
     }
 
 -- all were read
-pub way_done : (parts : List (List ℕ)) (from : ℕ) (rest steps done : List ℕ) → IsOnTheWay parts from rest steps done → rest ≡ [] → Make parts 0 steps done
+pub way_done : (parts : List (List ℕ)) (from : ℕ) (rest steps done : List ℕ) → IsOnTheWay parts from rest steps done → rest ≡ []
+    → Make parts 0 steps done
 way_done parts from rest steps done way none =
     let end : Make parts from rest [] = record { steps = []; spelled = sym none; forwards = tt; made_is = refl } in
     subst (λ (t : List ℕ). Make parts 0 steps t) (append-nil done) (way.forth [] end)
 
 -- no step begins what is left
-pub way_ends : (parts : List (List ℕ)) (from : ℕ) (bytes steps done : List ℕ) → IsOnTheWay parts from bytes steps done → 1 ≤ length bytes → ((s : Step) (rest : List ℕ) → BeginsWith from (length parts) bytes s rest → ⊥)
+pub way_ends : (parts : List (List ℕ)) (from : ℕ) (bytes steps done : List ℕ) → IsOnTheWay parts from bytes steps done → 1 ≤ length bytes
+    → ((s : Step) (rest : List ℕ) → BeginsWith from (length parts) bytes s rest → ⊥)
     → (whole : List ℕ) → Make parts 0 steps whole → ⊥
 way_ends parts from bytes steps done way some none whole m = let left = way.back whole m in first left.1.steps left.1.spelled left.1.forwards
   where
@@ -52,5 +56,7 @@ way_ends parts from bytes steps done way some none whole m = let left = way.back
     first (s ∷ ss) e g = none s (steps_text ss) (record { may_come = g.0; spelled = sym e })
 
 -- what is after a step is shorter
-pub rest_shorter : (from parts : ℕ) (bytes : List ℕ) (first end : ℕ) (new rest : List ℕ) → IsStepRead from parts bytes first end new rest → length rest < length bytes
-rest_shorter from parts bytes first end new rest b = omega (arith, some_text b.step, length-append (step_text b.step) rest, ap (λ (t : List ℕ). length t) b.begins.spelled)
+pub rest_shorter : (from parts : ℕ) (bytes : List ℕ) (first end : ℕ) (new rest : List ℕ) → IsStepRead from parts bytes first end new rest
+    → length rest < length bytes
+rest_shorter from parts bytes first end new rest b =
+    omega (arith, some_text b.step, length-append (step_text b.step) rest, ap (λ (t : List ℕ). length t) b.begins.spelled)

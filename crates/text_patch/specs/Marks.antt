@@ -1,11 +1,11 @@
--- The marks of parts: the first bytes of digests (FIPS 180-4), by which two replicas find the parts that both have.
+-- The marks of parts: the first bytes of digests (FIPS 180-4). Two replicas find the parts that both have by them.
 use Rattle.std.specs.Prelude.{◌≡◌, ℕ, zero, suc, ◌+◌, ◌*◌, ◌-◌, ◌<◌, ◌≤◌, ◌^◌, nat_le, ◌&&◌, min, bytes_eq, List, ◌++◌, length, take, drop, Option, Some, None, if◌then◌else◌}
 use Rattle.std.specs.List.{flat_map}
 use Rattle.sha2.specs.Sha256.{sha256}
 use Rattle.vclock.specs.declared.refusal.Refusal.{Refusal}
 use Rattle.vclock.specs.declared.refusal.Refusal.TheVariants.{BadMessage}
 
--- so many marks of a width, in order
+-- some marks of one width, in order: their number, and their bytes
 pub record MarkList : Type 0 where
   pub width : ℕ
   pub count : ℕ

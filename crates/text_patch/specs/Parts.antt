@@ -1,4 +1,4 @@
--- The parts of a node's text: of a leaf the texts of its rows, of an inner node the digests of its 16 children.
+-- The parts of a node's text: a leaf's are the texts of its rows, an inner node's are the digests of its 16 children.
 use Rattle.std.specs.Prelude.{ℕ, zero, suc, ◌+◌, ◌*◌, ◌-◌, List, map, nat_lt, if◌then◌else◌}
 use Rattle.sha2.specs.Sha256.{sha256}
 use Rattle.vclock.specs.declared.format.Format.{Format}
@@ -9,7 +9,7 @@ use Rattle.hash_tree.specs.Leaves.{rows_in_leaf}
 use Rattle.hash_tree.specs.Texts.{leaf_byte, inner_byte, per_child, node_text}
 use Rattle.snapshot.specs.RowMaps.{RowMap, leaf_in}
 
--- by the height of a node above the leaves, and its index at that height
+-- the parts of the node with this height above the leaves and this index at that height
 abbrev pub parts_over : Format → (List ℕ → ℕ) → List Row → ℕ → ℕ → List (List ℕ)
 parts_over format leaf rows zero index = map (row_text format) (rows_in_leaf leaf index rows)
 parts_over format leaf rows (suc height) index = per_child (λ j. sha256 (node_text format leaf rows height (16 * index + j)))

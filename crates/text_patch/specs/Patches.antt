@@ -11,7 +11,7 @@ use Rattle.text_patch.specs.Steps.{Step, Copy, New, Make}
 
 -- ---- writing
 
--- a copy of one part before other steps: one that goes on with the next part is joined with it
+-- a copy of one part before other steps: joined with the first step if that copies the next part
 abbrev pub with_copy : ℕ → List Step → List Step
 with_copy i [] = Copy i 1 ∷ []
 with_copy i (New bytes ∷ steps) = Copy i 1 ∷ New bytes ∷ steps
@@ -22,26 +22,26 @@ abbrev pub with_part : Option ℕ → List ℕ → List Step → List Step
 with_part (Some i) part steps = with_copy i steps
 with_part None part steps = New part ∷ steps
 
--- the place from which the next part can be copied
+-- the first place that the next part can be copied from
 abbrev pub after_place : ℕ → Option ℕ → ℕ
 after_place from (Some i) = i + 1
 after_place from None = from
 
--- the steps for parts, of which each is copied from the next place with its mark, or is new
+-- the steps for parts: each part is copied from the next place with its mark, or is new
 abbrev pub patch_for : List ℕ → MarkList → ℕ → List (List ℕ) → List Step
 patch_for salt m from [] = []
 patch_for salt m from (part ∷ parts) = with_part (place_of m (mark_of salt m.width part) from) part (patch_for salt m (after_place from (place_of m (mark_of salt m.width part) from)) parts)
 
 -- ---- reading
 
--- a tree has the node, and steps make the text of its parts
+-- a tree has the node, and steps make the text from its parts
 pub record MakesText (own : RowMap) (n : Node) (steps text : List ℕ) : Type 0 where
   pub shallow : n.depth ≤ tree_depth own.format
   pub body : List ℕ
   pub makes : Make (parts_at own n) 0 steps body
   pub text_is : text ≡ first_at own n ∷ body
 
--- a result that is read from steps: Ok if P holds for the text that they make and it, BadMessage if they make none
+-- a result read from steps: Ok if P holds for the text that they make and the result, BadMessage if they make no text
 abbrev pub Makes : {T : Type 0} → List (List ℕ) → List ℕ → (List ℕ → T → Type 0) → Result T Refusal → Type 0
 Makes parts steps P (Ok x) = (text : List ℕ) × Make parts 0 steps text × P text x
 Makes parts steps P (Err refusals.BadMessage) = (text : List ℕ) → Make parts 0 steps text → ⊥

@@ -4,7 +4,7 @@ use Rattle.std.specs.List.{flat_map}
 use Rattle.std.specs.Int.{w32, to_be_bytes}
 use Rattle.tree_nodes.specs.Blocks.{joined}
 
--- so many parts from a first one on, or new bytes
+-- a number of parts from a first one on, or new bytes
 pub data Step : Type 0 where
   Copy : ℕ → ℕ → Step
   New : List ℕ → Step
@@ -17,7 +17,7 @@ step_text (New bytes) = 1 ∷ to_be_bytes w32 (length bytes) ++ bytes
 abbrev pub steps_text : List Step → List ℕ
 steps_text steps = flat_map step_text steps
 
--- the bytes that a step makes of parts
+-- the bytes that a step makes from parts
 abbrev pub made_by : List (List ℕ) → Step → List ℕ
 made_by parts (Copy first count) = joined (take count (drop first parts))
 made_by parts (New bytes) = bytes
@@ -25,7 +25,7 @@ made_by parts (New bytes) = bytes
 abbrev pub made : List (List ℕ) → List Step → List ℕ
 made parts steps = flat_map (made_by parts) steps
 
--- a step may come at a place: its numbers fit their fields, and a copy is of parts that are there, from the place on
+-- a step is allowed at a place: its numbers fit their fields, and a copy has only existing parts, from the place on
 abbrev pub MayCome : ℕ → ℕ → Step → Type 0
 MayCome from parts (Copy first count) = (from ≤ first) × (first < 2 ^ 32) × (count < 2 ^ 32) × (first + count ≤ parts)
 MayCome from parts (New bytes) = length bytes < 2 ^ 32
@@ -35,17 +35,17 @@ abbrev pub after_step : ℕ → Step → ℕ
 after_step from (Copy first count) = first + count
 after_step from (New bytes) = from
 
--- each copy is of parts that are there, from a place on and after the copy before it
+-- each copy has only existing parts, from a place on and after the previous copy
 abbrev pub GoForwards : ℕ → ℕ → List Step → Type 0
 GoForwards from parts [] = Unit {0}
 GoForwards from parts (s ∷ steps) = MayCome from parts s × GoForwards (after_step from s) parts steps
 
--- some bytes begin with a step that may come at a place
+-- some bytes begin with a step that is allowed at a place
 pub record BeginsWith (from parts : ℕ) (bytes : List ℕ) (s : Step) (rest : List ℕ) : Type 0 where
   pub may_come : MayCome from parts s
   pub spelled : bytes ≡ step_text s ++ rest
 
--- as it was read, such a step: it makes the parts from first to end, and then new bytes
+-- such a step, read: it makes the parts from first to end, then new bytes
 pub record IsStepRead (from parts : ℕ) (bytes : List ℕ) (first end : ℕ) (new rest : List ℕ) : Type 0 where
   pub step : Step
   pub begins : BeginsWith from parts bytes step rest
@@ -54,7 +54,7 @@ pub record IsStepRead (from parts : ℕ) (bytes : List ℕ) (first end : ℕ) (n
   pub within : end ≤ parts
   pub makes : (texts : List (List ℕ)) → made_by texts step ≡ joined (take (end - first) (drop first texts)) ++ new
 
--- from a place on, some bytes are the steps that make a text of parts
+-- from a place on, some bytes are the steps that make a text from parts
 pub record Make (parts : List (List ℕ)) (from : ℕ) (bytes text : List ℕ) : Type 0 where
   pub steps : List Step
   pub spelled : steps_text steps ≡ bytes

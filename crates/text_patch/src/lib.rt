@@ -1,11 +1,10 @@
-//! Outlines and patches: a sync that sends only what differs (the paper of 2007, section 4.7). An outline tells a
-//! partner which parts of a node's text the asker has, by marks of a few bytes, and a patch is the partner's text as
-//! copies of these parts and new bytes. Nothing in it is trusted: the text that a patch makes is hashed and judged as any
-//! other.
+//! Outlines and patches: a sync that sends only what differs (the Dynamo paper, section 4.7). An outline lists the
+//! parts of a node's text that the asker has, by marks of a few bytes, and a patch is the partner's text as copies of
+//! these parts and new bytes. A patch isn't trusted: the text that it makes is hashed and judged like any other.
 //!
 //! - [`parts`]: the parts of a node's text.
 //! - [`marks`]: the marks of parts, and where they are in an outline.
-//! - [`writer`], [`reader`]: writing the steps of a patch for an outline, and making a text of them.
+//! - [`writer`], [`reader`]: writing the steps of a patch for an outline, and making a text from them.
 //! - [`messages`]: outlines and patches as bytes.
 //! - [`laws`]: laws proved from the definitions: a true patch makes the partner's text.
 //!

@@ -14,8 +14,8 @@ use vclock::Refusal;
 /// The maximum number of places that are searched for a mark.
 const PLACES_MAX: u32 = 1_024;
 
-/// The marks of an asker's parts, in order. A mark is the first bytes of the digest of a salt, which is the digest that
-/// is expected at the node, and the part.
+/// The marks of an asker's parts, in order. A mark is the first bytes of the digest of a salt and the part; the salt is
+/// the digest that is expected at the node.
 ///
 /// ```
 /// let patch = patch(alloc, &partner, read, &marks)?;
@@ -38,7 +38,7 @@ impl<'a> Model for Marks<'a> {
 }
 
 impl<'a> Marks<'a> {
-    /// Returns the marks in some bytes, or `None` if the width isn't 1 to 8, or the bytes aren't so many marks.
+    /// Returns the marks in some bytes, or `None` if the width isn't 1 to 8, or the bytes aren't `count` marks.
     pub fn new(width: u8, count: u32, bytes: &'a [u8]) -> Option<Marks<'a>>
         ensures marks { MatchOption result
             (AreMarks (record { width = width; count = count; bytes = bytes.now }) → ⊥)
@@ -56,8 +56,7 @@ impl<'a> Marks<'a> {
         })
     }
 
-    /// Returns the first of the next 1,024 places, from a place on, that has the mark of a part with this digest, if
-    /// any.
+    /// Returns the first of the 1,024 places from `from` on that has the mark of a part with this digest, if any.
     pub(crate) fn place_of(&self, digest: &Digest, from: u32) -> Option<u32>
         ensures place { result ≡ place_of self.now (take self.now.width digest.now) from }
         ensures within { MatchOption result ⊤ (λ place. (from ≤ place) × (place < self.now.count)) }

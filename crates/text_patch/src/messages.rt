@@ -1,4 +1,4 @@
-//! Outlines and patches as bytes, which this project's profile defines.
+//! Outlines and patches as bytes, in this project's format.
 ghost use Rattle.std.specs.Prelude.{◌≡◌, ◌++◌, ◌∷◌, ◌<◌, ◌≤◌, ℕ, List, length, None, MatchOption};
 ghost use Rattle.std.specs.Int.{w32, w64, to_be_bytes};
 ghost use Rattle.vclock.specs.Answer.{Answers};
@@ -18,7 +18,7 @@ use tree_nodes::{Digest, Text};
 use vclock::Refusal;
 use walk_messages::{Ask, Message, decode, encode};
 
-/// Returns the bytes of an outline: an ask, with marks of so many bytes for these parts.
+/// Returns the bytes of an outline: an ask, with a mark of `width` bytes for each of these parts.
 ///
 /// Refused, in order: BadMessage (the width isn't 1 to 8), NoMemory.
 #[tactic(auto, unfolding(crate::specs::Messages::outline_text))]
@@ -58,7 +58,7 @@ pub fn patch(alloc: Global, own: &Snapshot, ask: Ask, marks: &Marks<'_>) -> Resu
     Ok(bytes)
 }
 
-/// Returns the bytes of an ask with another first byte. Refused: NoMemory.
+/// Returns the bytes of an ask with `kind` as its first byte. Refused: NoMemory.
 #[tactic(auto, unfolding(walk_messages::specs::Messages::message_text))]
 fn put_head(alloc: Global, kind: u8, ask: Ask) -> Result<Vec<u8>, Refusal>
     ensures { Answers result None (λ bytes. bytes.items ≡ kind ∷ to_be_bytes w32 ask.offer ++ node_bytes ask.node) }
@@ -135,7 +135,7 @@ fn steps_len_at(bytes: &[u8]) -> Option<(u64, &[u8])>
     Some((u64::from_be_bytes(*len), rest))
 }
 
-/// Returns the ask that begins some bytes after its first one, and the bytes after it, or `None` if no ask does.
+/// Returns the ask whose fields begin these bytes, and the bytes after it, or `None` if they aren't an ask's.
 #[tactic(auto, unfolding(walk_messages::specs::Messages::message_text))]
 fn head_at(alloc: Global, fields: &[u8]) -> Option<(Ask, &[u8])>
     ensures { MatchOption result
@@ -147,7 +147,7 @@ fn head_at(alloc: Global, fields: &[u8]) -> Option<(Ask, &[u8])>
     Some((ask_in(&decode(alloc, &ask))?, rest))
 }
 
-/// Returns the ask that was decoded, if one was.
+/// Returns the decoded ask, if the message is one.
 fn ask_in(decoded: &Result<Message, Refusal>) -> Option<Ask>
     ensures { MatchOption result ((a : Ask) → decoded.now ≡ Ok (messages.Ask a) → ⊥)
         (λ a. decoded.now ≡ Ok (messages.Ask a)) }

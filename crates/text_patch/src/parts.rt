@@ -1,4 +1,4 @@
-//! The parts of a node's text: of a leaf the texts of its rows, of an inner node the digests of its children.
+//! The parts of a node's text: a leaf's are the texts of its rows, an inner node's are the digests of its children.
 ghost use Rattle.std.specs.Prelude.{◌≡◌, ◌++◌, ◌<◌, None, map};
 ghost use Rattle.std.specs.List.{AllByRecursion};
 ghost use Rattle.vclock.specs.Answer.{Answers};
@@ -14,7 +14,7 @@ use std::alloc::Global;
 use tree_nodes::{NodeAt, Text, tree_depth};
 use vclock::{Format, Refusal};
 
-/// Returns the parts of a node's text, in order: without the first byte, the text is these one after another.
+/// Returns the parts of a node's text, in order: joined, they are the text without its first byte.
 ///
 /// Refused, in order: BadMessage (the tree has no such node), NoMemory.
 pub fn parts_of(alloc: Global, own: &Snapshot, node: NodeAt) -> Result<Vec<Text>, Refusal>
@@ -45,7 +45,7 @@ fn rows_of(alloc: Global, own: &Snapshot, node: NodeAt) -> Result<Vec<Text>, Ref
     Ok(parts)
 }
 
-/// Appends the texts of rows. Refused: NoMemory, and then some may be appended.
+/// Appends the texts of rows. Refused: NoMemory. On error some may have been appended.
 fn put_texts(
     parts: &mut Vec<Text>,
     alloc: Global,

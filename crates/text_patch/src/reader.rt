@@ -1,4 +1,4 @@
-//! Making a text of the steps of a patch.
+//! Making a text from the steps of a patch.
 ghost use Rattle.std.specs.Prelude.{◌≡◌, ◌++◌, ◌+◌, ◌^◌, ◌<◌, ◌≤◌, ◌∷◌, ℕ, List, ⊤, length, MatchOption, OnOk};
 ghost use Rattle.std.specs.Int.{w32, to_be_bytes};
 ghost use Rattle.tree_nodes.specs.Blocks.{joined};
@@ -11,7 +11,7 @@ use std::alloc::{AllocError, Global};
 use tree_nodes::{NodeAt, Text};
 use vclock::Refusal;
 
-/// A step: some parts, then some new bytes, either of which may be empty; and the bytes after the step.
+/// A step, and the bytes after it. A step makes some parts, then some new bytes; each may be empty.
 #[derive(Drop)]
 struct StepRead<'a> {
     first: usize,
@@ -20,11 +20,11 @@ struct StepRead<'a> {
     rest: &'a [u8],
 }
 
-/// Returns the text that steps make of the parts of a node over local rows. It is at most as long as the text of the node
-/// and the steps together, and isn't trusted: its digest may be any.
+/// Returns the text that steps make from the parts of a node over local rows. It is at most as long as the text of the
+/// node and the steps together. It isn't trusted: its digest can be any.
 ///
-/// Refused: BadMessage (the tree has no such node; or the steps aren't well formed, copy a part that isn't there, or go
-/// back), NoMemory, which may replace BadMessage.
+/// Refused: BadMessage (the tree has no such node; or the steps aren't well formed, copy a part that doesn't exist, or
+/// go back), NoMemory, which may replace BadMessage.
 pub fn rebuild(alloc: Global, own: &Snapshot, node: NodeAt, steps: &[u8]) -> Result<Text, Refusal>
     ensures { Rebuilds own.now node steps.now result }
 {
@@ -36,8 +36,8 @@ pub fn rebuild(alloc: Global, own: &Snapshot, node: NodeAt, steps: &[u8]) -> Res
     Ok(Text::from(text))
 }
 
-/// Returns the length of the text of these steps with one byte before it. Refused: BadMessage, NoMemory (the length
-/// doesn't fit a usize).
+/// Returns the length of the text that these steps make, plus one byte before it. Refused: BadMessage, NoMemory (the
+/// length doesn't fit a usize).
 fn measure(parts: &[Text], steps: &[u8]) -> Result<usize, Refusal>
     ensures { Makes parts.now steps.now (λ text len. len ≡ 1 + length text) result }
 {
@@ -61,7 +61,7 @@ fn measure(parts: &[Text], steps: &[u8]) -> Result<usize, Refusal>
     Ok(len)
 }
 
-/// Returns the sum of a length and those of parts, or `None` if it doesn't fit a usize.
+/// Returns the sum of a length and the lengths of parts, or `None` if it doesn't fit a usize.
 fn len_with(len: usize, parts: &[Text]) -> Option<usize>
     ensures { MatchOption result ⊤ (λ sum. sum ≡ len + length (joined parts.now)) }
 {
@@ -72,7 +72,7 @@ fn len_with(len: usize, parts: &[Text]) -> Option<usize>
     Some(sum)
 }
 
-/// Appends the text of steps. Refused: BadMessage, NoMemory.
+/// Appends the text that steps make. Refused: BadMessage, NoMemory.
 fn put_made(out: &mut Vec<u8>, parts: &[Text], steps: &[u8]) -> Result<(), Refusal>
     ensures { Makes parts.now steps.now (λ text done. out.new.items ≡ out.old.items ++ text) result }
 {
@@ -100,8 +100,8 @@ fn put_all(out: &mut Vec<u8>, parts: &[Text]) -> Result<(), AllocError>
     Ok(())
 }
 
-/// Returns the step that begins some bytes, or `None` if none does, or it copies a part that isn't there or is before a
-/// place.
+/// Returns the step at the front of some bytes, or `None` if there is no whole step, or it copies a part that doesn't
+/// exist or is before `from`.
 fn step_at<'a>(from: usize, parts: usize, bytes: &'a [u8]) -> Option<StepRead<'a>>
     requires { from ≤ parts }
     ensures { MatchOption result ((s : Step) (rest : List ℕ) → BeginsWith from parts bytes.now s rest → ⊥)
@@ -122,7 +122,7 @@ fn step_at<'a>(from: usize, parts: usize, bytes: &'a [u8]) -> Option<StepRead<'a
     }
 }
 
-/// Returns the copy with these fields, or `None` as `step_at` does.
+/// Returns the copy with these fields, or `None` in the cases of `step_at`.
 fn copy_at<'a>(from: usize, parts: usize, fields: &'a [u8]) -> Option<StepRead<'a>>
     ensures { MatchOption result ((s : Step) (rest : List ℕ) → BeginsWith from parts (0 ∷ fields.now) s rest → ⊥)
         (λ x. IsStepRead from parts (0 ∷ fields.now) x.first x.end x.new.now x.rest.now) }

@@ -9,15 +9,15 @@ use std::alloc::{AllocError, Global};
 use tree_nodes::{Digest, Text};
 use vclock::Refusal;
 
-/// A copy that may go on: so many parts of the asker, from a first one on.
+/// A copy that the next part may extend: `count` parts of the asker, from `first` on.
 #[derive(Clone, Copy)]
 struct Run {
     first: u32,
     count: u32,
 }
 
-/// Returns the steps that make these parts for an asker with these marks: a part whose mark is ahead is copied from
-/// there, and any other is new. Refused: NoMemory.
+/// Returns the steps that make these parts for an asker with these marks: a part whose mark is ahead is a copy, and any
+/// other is new bytes. Refused: NoMemory.
 pub(crate) fn write_steps(
     alloc: Global,
     salt: &Digest,
@@ -53,7 +53,7 @@ pub(crate) fn write_steps(
     Ok(out)
 }
 
-/// Appends a copy, unless it is of no part.
+/// Appends a copy, unless it has no part.
 fn put_copy(out: &mut Vec<u8>, run: Run) -> Result<(), AllocError>
     ensures { OnOk result (out.new.items ≡ out.old.items ++ (if nat_eq run.count 0 then [] else step_text (Copy run.first run.count))) }
 {

@@ -1,5 +1,6 @@
 -- The number of dirty nodes, and what is dirty with a node.
-use Rattle.std.proofs.Common.{◌≡◌, ℕ, zero, suc, ◌+◌, ◌*◌, ◌/◌, ◌%◌, ◌^◌, ◌<◌, ◌≤◌, Bool, true, false, not, is_some, Option, Some, None, List, [], ◌∷◌, length, replicate, set, refl, sym, ap, subst, ◌∙◌, arith}
+use Rattle.std.proofs.Common.{◌≡◌, ℕ, zero, suc, ◌+◌, ◌*◌, ◌/◌, ◌%◌, ◌^◌, ◌<◌, ◌≤◌, Bool, true, false, not, is_some, Option, Some, None, List, []}
+use Rattle.std.proofs.Common.{◌∷◌, length, replicate, set, refl, sym, ap, subst, ◌∙◌, arith}
 use mir.Val.{bool_byte}
 use Rattle.std.proofs.Math.Nat.{pow-succ'}
 use Rattle.std.proofs.lemmas.List.{set-get_or}
@@ -19,10 +20,12 @@ count_first None digests = omega arith
 count_first (Some d) digests = omega arith
 
 -- A node's change is that of the number.
-pub count_set : (digests : Digests) (place : ℕ) (o : Option (List ℕ)) → place < length digests → dirty_count (set digests place o) + dirty_in (kept_digest digests place) ≡ dirty_count digests + dirty_in o
+pub count_set : (digests : Digests) (place : ℕ) (o : Option (List ℕ)) → place < length digests
+    → dirty_count (set digests place o) + dirty_in (kept_digest digests place) ≡ dirty_count digests + dirty_in o
 count_set [] place o within = absurd (omega arith)
 count_set (x ∷ digests) zero o within = omega (arith, count_first o digests, count_first x digests)
-count_set (x ∷ digests) (suc place) o within = omega (arith, count_first x (set digests place o), count_first x digests, count_set digests place o (omega arith))
+count_set (x ∷ digests) (suc place) o within =
+    omega (arith, count_first x (set digests place o), count_first x digests, count_set digests place o (omega arith))
 
 -- What a node adds is 1 or 0, as it is dirty or not.
 pub dirty_byte : (o : Option (List ℕ)) (b : Bool) → is_some o ≡ not b → bool_byte b ≡ dirty_in o
@@ -49,7 +52,8 @@ same_dirty : (digests : Digests) (place : ℕ) → kept_digest digests place ≡
 same_dirty digests place dirty = subst (λ (o : Option (List ℕ)). set digests place o ≡ digests) dirty (set-get_or digests place None)
 
 -- The nodes above a dirty node are dirty: nothing is left of its path.
-pub cleared_dirty : (depth index : ℕ) (digests : Digests) → AreCleanBelow digests → index < 16 ^ depth → place_at depth index < length digests → kept_digest digests (place_at depth index) ≡ None → cleared (path_of depth index) digests ≡ digests
+pub cleared_dirty : (depth index : ℕ) (digests : Digests) → AreCleanBelow digests → index < 16 ^ depth → place_at depth index < length digests
+    → kept_digest digests (place_at depth index) ≡ None → cleared (path_of depth index) digests ≡ digests
 unfolding AreCleanBelow
 cleared_dirty zero index digests below within inside dirty =
     let root : place_at zero index ≡ 0 = omega arith in
@@ -58,7 +62,8 @@ cleared_dirty zero index digests below within inside dirty =
 cleared_dirty (suc depth) index digests below within inside dirty =
     let place = place_at (suc depth) index in
     let is : place ≡ 16 * place_at depth (index / 16) + 1 + index % 16 = omega arith in
-    let above = below (place_at depth (index / 16)) (index % 16) (omega arith) (omega arith) (subst (λ (p : ℕ). kept_digest digests p ≡ None) is dirty) in
+    let above = below (place_at depth (index / 16)) (index % 16) (omega arith) (omega arith)
+    (subst (λ (p : ℕ). kept_digest digests p ≡ None) is dirty) in
     sym (cleared_first place (path_of depth (index / 16)) digests)
     ∙ ap (cleared (path_of depth (index / 16))) (same_dirty digests place dirty)
     ∙ cleared_dirty depth (index / 16) digests below (omega (arith, pow-succ' 16 depth)) (omega arith) above

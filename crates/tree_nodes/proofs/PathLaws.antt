@@ -1,5 +1,6 @@
 -- Making the places of a path dirty, one after another.
-use Rattle.std.proofs.Common.{◌≡◌, ℕ, zero, suc, ◌+◌, ◌-◌, ◌/◌, ◌^◌, ◌<◌, cond, eqb, ◌||◌, Option, Some, None, List, [], ◌∷◌, length, set, refl, sym, ap, ◌∙◌, arith, inl, inr}
+use Rattle.std.proofs.Common.{◌≡◌, ℕ, zero, suc, ◌+◌, ◌-◌, ◌/◌, ◌^◌, ◌<◌, cond, eqb, ◌||◌, Option, Some, None, List, [], ◌∷◌, length, set, refl, sym}
+use Rattle.std.proofs.Common.{ap, ◌∙◌, arith, inl, inr}
 use Rattle.std.proofs.Math.Nat.{pow-succ'}
 use Rattle.std.specs.Prelude.{map}
 use Rattle.std.specs.List.{list_any, range_with_len}
@@ -31,18 +32,24 @@ cleared_first place places digests =
     let new = set digests place None in
     let f = λ (k : ℕ). cond (list_any (eqb k) places) None (kept_digest new k) in
     let g = λ (k : ℕ). cond (list_any (eqb k) (place ∷ places)) None (kept_digest digests k) in
-    fill_by_all g (map f (range_with_len 0 (length new))) (length digests) None (length-map-range_with_len f 0 (length new) ∙ length-set digests place None)
-    (λ k less. get_or-map-range_with_len f 0 (length new) k k None (omega (arith, length-set digests place (no_digest))) (omega arith) ∙ at digests place places k less)
+    fill_by_all g (map f (range_with_len 0 (length new))) (length digests) None
+    (length-map-range_with_len f 0 (length new) ∙ length-set digests place None)
+    (λ k less. get_or-map-range_with_len f 0 (length new) k k None (omega (arith, length-set digests place (no_digest))) (omega arith)
+    ∙ at digests place places k less)
   where
     no_digest : Option (List ℕ)
     no_digest = None
 
-    at : (digests : Digests) (place : ℕ) (places : List ℕ) (k : ℕ) → k < length digests → cond (list_any (eqb k) places) None (kept_digest (set digests place None) k) ≡ cond (eqb k place || list_any (eqb k) places) None (kept_digest digests k)
+    at : (digests : Digests) (place : ℕ) (places : List ℕ) (k : ℕ) → k < length digests
+        → cond (list_any (eqb k) places) None (kept_digest (set digests place None) k) ≡ cond (eqb k place || list_any (eqb k) places) None
+        (kept_digest digests k)
     at digests place places k less = elim (cases_eq k place) [
       | inl same ↦
           let here : kept_digest (set digests place None) k ≡ None = rw same (get_or-set_same digests place no_digest None (omega (arith, same))) in
-          cond_both (list_any (eqb k) places) no_digest (kept_digest (set digests place None) k) (λ (o : Option (List ℕ)). o ≡ None) (λ on. refl) (λ off. here)
-          ∙ sym (cond-true (eqb k place || list_any (eqb k) places) no_digest (kept_digest digests k) (or_left (eqb k place) (list_any (eqb k) places) (eq-eqb k place same)))
+          cond_both (list_any (eqb k) places) no_digest (kept_digest (set digests place None) k) (λ (o : Option (List ℕ)). o ≡ None) (λ on. refl)
+          (λ off. here)
+          ∙ sym (cond-true (eqb k place || list_any (eqb k) places) no_digest (kept_digest digests k)
+          (or_left (eqb k place) (list_any (eqb k) places) (eq-eqb k place same)))
       | inr other ↦ rw (ne_eqb k place other, get_or-set_other digests place k no_digest None other) refl
     ]
 

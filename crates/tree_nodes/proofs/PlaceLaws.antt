@@ -1,5 +1,6 @@
 -- Where the nodes of a tree have their places, and the paths to them.
-use Rattle.std.proofs.Common.{◌≡◌, ℕ, zero, suc, ◌+◌, ◌*◌, ◌/◌, ◌^◌, ◌<◌, ◌≤◌, Bool, true, false, eqb, Option, List, refl, sym, ap, subst, arith, inl, inr}
+use Rattle.std.proofs.Common.{◌≡◌, ℕ, zero, suc, ◌+◌, ◌*◌, ◌/◌, ◌^◌, ◌<◌, ◌≤◌, Bool, true, false, eqb, Option, List, refl, sym, ap, subst, arith}
+use Rattle.std.proofs.Common.{inl, inr}
 use Rattle.std.proofs.Math.Nat.{pow-succ'}
 use Rattle.std.specs.List.{list_any}
 use Rattle.std.proofs.lemmas.Bool.{cases_eq, cases_lt, cases_order, eqb-true, eq-eqb, or_cases, or_left, or_right, false≢true}
@@ -27,7 +28,8 @@ above_below depth (suc other) less = elim (cases_eq depth other) [
 ]
 
 -- Two nodes have two places.
-pub same_place : (depth index other at : ℕ) → index < 16 ^ depth → at < 16 ^ other → place_at depth index ≡ place_at other at → (depth ≡ other) × (index ≡ at)
+pub same_place : (depth index other at : ℕ) → index < 16 ^ depth → at < 16 ^ other → place_at depth index ≡ place_at other at
+    → (depth ≡ other) × (index ≡ at)
 same_place depth index other at within here e = elim (cases_order depth other) [
   | inl same ↦ (same, omega (arith, ap (λ (d : ℕ). nodes_above d) same))
   | inr apart ↦ elim apart [
@@ -74,10 +76,13 @@ on_path place depth index = list_any (eqb place) (path_of depth index)
 -- A node is on its own path.
 pub own_path : (depth index : ℕ) → index < 16 ^ depth → on_path (place_at depth index) depth index ≡ true
 own_path zero index within = or_left (eqb (place_at zero index) 0) false (eq-eqb (place_at zero index) 0 (omega arith))
-own_path (suc depth) index within = or_left (eqb (place_at (suc depth) index) (place_at (suc depth) index)) (on_path (place_at (suc depth) index) depth (index / 16)) (eq-eqb (place_at (suc depth) index) (place_at (suc depth) index) refl)
+own_path (suc depth) index within =
+    or_left (eqb (place_at (suc depth) index) (place_at (suc depth) index)) (on_path (place_at (suc depth) index) depth (index / 16))
+    (eq-eqb (place_at (suc depth) index) (place_at (suc depth) index) refl)
 
 -- With a child its parent is on a path.
-pub on_path_up : (depth index place j : ℕ) → index < 16 ^ depth → j < 16 → on_path (16 * place + 1 + j) depth index ≡ true → on_path place depth index ≡ true
+pub on_path_up : (depth index place j : ℕ) → index < 16 ^ depth → j < 16 → on_path (16 * place + 1 + j) depth index ≡ true
+    → on_path place depth index ≡ true
 on_path_up zero index place j within less on = elim (or_cases (eqb (16 * place + 1 + j) 0) false on) [
   | inl here ↦ absurd (omega (arith, eqb-true (16 * place + 1 + j) 0 here))
   | inr never ↦ absurd (false≢true never)
@@ -97,7 +102,8 @@ ancestor_first zero leaf = refl
 ancestor_first (suc height) leaf = ap (λ (i : ℕ). i / 16) (ancestor_first height leaf)
 
 -- What lies above a leaf is on the leaf's path.
-pub ancestor_on_path : (height depth deep leaf : ℕ) → depth + height ≡ deep → leaf < 16 ^ deep → on_path (place_at depth (ancestor_of height leaf)) deep leaf ≡ true
+pub ancestor_on_path : (height depth deep leaf : ℕ) → depth + height ≡ deep → leaf < 16 ^ deep
+    → on_path (place_at depth (ancestor_of height leaf)) deep leaf ≡ true
 ancestor_on_path zero depth deep leaf sum within =
     let same : deep ≡ depth = omega arith in
     subst (λ (d : ℕ). on_path (place_at d leaf) deep leaf ≡ true) same (own_path deep leaf within)
@@ -105,4 +111,5 @@ ancestor_on_path (suc height) depth zero leaf sum within = absurd (omega arith)
 ancestor_on_path (suc height) depth (suc deep) leaf sum within =
     let place = place_at depth (ancestor_of (suc height) leaf) in
     let rest = ancestor_on_path height depth deep (leaf / 16) (omega arith) (omega (arith, pow-succ' 16 deep)) in
-    or_right (eqb place (place_at (suc deep) leaf)) (on_path place deep (leaf / 16)) (subst (λ (i : ℕ). on_path (place_at depth i) deep (leaf / 16) ≡ true) (ancestor_first height leaf) rest)
+    or_right (eqb place (place_at (suc deep) leaf)) (on_path place deep (leaf / 16))
+    (subst (λ (i : ℕ). on_path (place_at depth i) deep (leaf / 16) ≡ true) (ancestor_first height leaf) rest)

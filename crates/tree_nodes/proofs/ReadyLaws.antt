@@ -1,5 +1,6 @@
 -- Which nodes can be hashed, and what the digests of a clean tree are.
-use Rattle.std.proofs.Common.{◌≡◌, ℕ, zero, suc, ◌+◌, ◌*◌, ◌-◌, ◌/◌, ◌%◌, ◌<◌, ◌≤◌, Bool, ◌&&◌, true, false, cond, is_some, is_none, Option, Some, None, List, [], ◌∷◌, length, drop, refl, sym, ap, subst, ◌∙◌, arith, inl, inr}
+use Rattle.std.proofs.Common.{◌≡◌, ℕ, zero, suc, ◌+◌, ◌*◌, ◌-◌, ◌/◌, ◌%◌, ◌<◌, ◌≤◌, Bool, ◌&&◌, true, false, cond, is_some, is_none, Option, Some}
+use Rattle.std.proofs.Common.{None, List, [], ◌∷◌, length, drop, refl, sym, ap, subst, ◌∙◌, arith, inl, inr}
 use Rattle.std.specs.List.{filter, range_with_len}
 use Rattle.std.proofs.lemmas.Bool.{both_ways, cases_eq, cases_lt, cases_Bool, cond-true, cond-false, and_from, and_parts}
 use Rattle.std.proofs.lemmas.List.{get_or_default, length-take, length-drop}
@@ -57,14 +58,17 @@ pub ready_few : (digests : Digests) → length (ready_from digests 0) ≤ length
 ready_few digests = omega (arith, few_pass (is_ready digests) (length digests - 0) 0)
 
 -- The first place of those from a place on, and the others.
-pub ready_step : (digests : Digests) (place : ℕ) → place < length digests → ready_from digests place ≡ cond (is_ready digests place) (place ∷ ready_from digests (place + 1)) (ready_from digests (place + 1))
+pub ready_step : (digests : Digests) (place : ℕ) → place < length digests
+    → ready_from digests place ≡ cond (is_ready digests place) (place ∷ ready_from digests (place + 1)) (ready_from digests (place + 1))
 ready_step digests place within =
     let more : length digests - place ≡ suc (length digests - (place + 1)) = omega arith in
     ap (λ (n : ℕ). filter (is_ready digests) (range_with_len place n)) more
 
 -- The first place is that of a node that can be hashed.
-pub ready_here : (digests : Digests) (place : ℕ) → place < length digests → is_ready digests place ≡ true → ready_from digests place ≡ place ∷ ready_from digests (place + 1)
-ready_here digests place within ready = ready_step digests place within ∙ cond-true (is_ready digests place) (place ∷ ready_from digests (place + 1)) (ready_from digests (place + 1)) ready
+pub ready_here : (digests : Digests) (place : ℕ) → place < length digests → is_ready digests place ≡ true
+    → ready_from digests place ≡ place ∷ ready_from digests (place + 1)
+ready_here digests place within ready = ready_step digests place within
+    ∙ cond-true (is_ready digests place) (place ∷ ready_from digests (place + 1)) (ready_from digests (place + 1)) ready
 
 -- Nothing is left past the end.
 pub ready_past : (digests : Digests) (from : ℕ) → length digests ≤ from → ready_from digests from ≡ []
@@ -73,8 +77,10 @@ ready_past digests from past =
     ap (λ (n : ℕ). filter (is_ready digests) (range_with_len from n)) none
 
 -- A node that can't be hashed is passed.
-pub ready_pass : (digests : Digests) (place : ℕ) → place < length digests → is_ready digests place ≡ false → ready_from digests place ≡ ready_from digests (place + 1)
-ready_pass digests place within not = ready_step digests place within ∙ cond-false (is_ready digests place) (place ∷ ready_from digests (place + 1)) (ready_from digests (place + 1)) not
+pub ready_pass : (digests : Digests) (place : ℕ) → place < length digests → is_ready digests place ≡ false
+    → ready_from digests place ≡ ready_from digests (place + 1)
+ready_pass digests place within not = ready_step digests place within
+    ∙ cond-false (is_ready digests place) (place ∷ ready_from digests (place + 1)) (ready_from digests (place + 1)) not
 
 -- a clean node can't be hashed
 clean_not_ready : (o : Option (List ℕ)) (b : Bool) → is_some o ≡ true → (is_none o && b) ≡ false
@@ -82,8 +88,10 @@ clean_not_ready None b clean = absurd (cc)
 clean_not_ready (Some d) b clean = refl
 
 -- A dirty node with clean children can be hashed.
-pub can_be_hashed : (digests : Digests) (place : ℕ) → is_some (kept_digest digests place) ≡ false → are_clean (children_of digests place) ≡ true → is_ready digests place ≡ true
-can_be_hashed digests place dirty clean = and_from (is_none (kept_digest digests place)) (are_clean (children_of digests place)) (none (kept_digest digests place) dirty) clean
+pub can_be_hashed : (digests : Digests) (place : ℕ) → is_some (kept_digest digests place) ≡ false → are_clean (children_of digests place) ≡ true
+    → is_ready digests place ≡ true
+can_be_hashed digests place dirty clean =
+    and_from (is_none (kept_digest digests place)) (are_clean (children_of digests place)) (none (kept_digest digests place) dirty) clean
   where
     none : (o : Option (List ℕ)) → is_some o ≡ false → is_none o ≡ true
     none None e = refl
@@ -103,43 +111,53 @@ ready_at digests None = []
 ready_at digests (Some place) = place ∷ ready_from digests (place + 1)
 
 -- Clean nodes are passed.
-pub ready_skip : (digests : Digests) (n place : ℕ) → ((k : ℕ) → place ≤ k → k < place + n → k < length digests → is_some (kept_digest digests k) ≡ true) → ready_from digests place ≡ ready_from digests (place + n)
+pub ready_skip : (digests : Digests) (n place : ℕ)
+    → ((k : ℕ) → place ≤ k → k < place + n → k < length digests → is_some (kept_digest digests k) ≡ true)
+    → ready_from digests place ≡ ready_from digests (place + n)
 ready_skip digests zero place clean =
     let same : place ≡ place + 0 = omega arith in
     ap (ready_from digests) same
 ready_skip digests (suc n) place clean = elim (cases_lt place (length digests)) [
   | inr past ↦ ready_past digests place past ∙ sym (ready_past digests (place + suc n) (omega arith))
   | inl within ↦
-      let not = clean_not_ready (kept_digest digests place) (are_clean (children_of digests place)) (clean place (omega arith) (omega arith) within) in
+      let not = clean_not_ready (kept_digest digests place) (are_clean (children_of digests place))
+      (clean place (omega arith) (omega arith) within) in
       let same : place + 1 + n ≡ place + suc n = omega arith in
-      ready_pass digests place within not ∙ ready_skip digests n (place + 1) (λ k least most inside. clean k (omega arith) (omega arith) inside) ∙ ap (ready_from digests) same
+      ready_pass digests place within not ∙ ready_skip digests n (place + 1) (λ k least most inside. clean k (omega arith) (omega arith) inside)
+      ∙ ap (ready_from digests) same
 ]
 
 -- The child of a clean node is clean.
-pub child_clean : (digests : Digests) (place j : ℕ) → AreCleanBelow digests → j < 16 → 16 * place + 1 + j < length digests → is_some (kept_digest digests place) ≡ true → is_some (kept_digest digests (16 * place + 1 + j)) ≡ true
+pub child_clean : (digests : Digests) (place j : ℕ) → AreCleanBelow digests → j < 16 → 16 * place + 1 + j < length digests
+    → is_some (kept_digest digests place) ≡ true → is_some (kept_digest digests (16 * place + 1 + j)) ≡ true
 unfolding AreCleanBelow
-child_clean digests place j below less within clean = some (kept_digest digests (16 * place + 1 + j)) (λ dirty. none_some (kept_digest digests place) (below place j less within dirty) clean)
+child_clean digests place j below less within clean =
+    some (kept_digest digests (16 * place + 1 + j)) (λ dirty. none_some (kept_digest digests place) (below place j less within dirty) clean)
   where
     some : (o : Option (List ℕ)) → (o ≡ None → ⊥) → is_some o ≡ true
     some None h = absurd (h refl)
     some (Some d) h = refl
 
 -- The children of clean nodes in a row are clean nodes in a row.
-pub children_clean : (digests : Digests) (first past : ℕ) → AreCleanBelow digests → ((k : ℕ) → first ≤ k → k < past → k < length digests → is_some (kept_digest digests k) ≡ true)
+pub children_clean : (digests : Digests) (first past : ℕ) → AreCleanBelow digests
+    → ((k : ℕ) → first ≤ k → k < past → k < length digests → is_some (kept_digest digests k) ≡ true)
     → (k : ℕ) → 16 * first + 1 ≤ k → k < 16 * past + 1 → k < length digests → is_some (kept_digest digests k) ≡ true
 children_clean digests first past below clean zero least most within = absurd (omega arith)
 children_clean digests first past below clean (suc k) least most within =
     let is : 16 * (k / 16) + 1 + k % 16 ≡ suc k = omega arith in
-    subst (λ (i : ℕ). is_some (kept_digest digests i) ≡ true) is (child_clean digests (k / 16) (k % 16) below (omega arith) (omega arith) (clean (k / 16) (omega arith) (omega arith) (omega arith)))
+    subst (λ (i : ℕ). is_some (kept_digest digests i) ≡ true) is
+    (child_clean digests (k / 16) (k % 16) below (omega arith) (omega arith) (clean (k / 16) (omega arith) (omega arith) (omega arith)))
 
 -- The first of the nodes that can be hashed can be hashed.
-pub ready_is : (digests : Digests) (from place : ℕ) (rest : List ℕ) → ready_from digests from ≡ place ∷ rest → (is_ready digests place ≡ true) × (from ≤ place) × (place < length digests)
+pub ready_is : (digests : Digests) (from place : ℕ) (rest : List ℕ) → ready_from digests from ≡ place ∷ rest
+    → (is_ready digests place ≡ true) × (from ≤ place) × (place < length digests)
 ready_is digests from place rest e =
     let first = first_passes (is_ready digests) (length digests - from) from place rest e in
     (first.0, first.1, omega arith)
 
 -- A node that can be hashed is dirty, and its children are clean.
-pub ready_parts : (digests : Digests) (place : ℕ) → is_ready digests place ≡ true → (kept_digest digests place ≡ None) × (are_clean (children_of digests place) ≡ true)
+pub ready_parts : (digests : Digests) (place : ℕ) → is_ready digests place ≡ true
+    → (kept_digest digests place ≡ None) × (are_clean (children_of digests place) ≡ true)
 ready_parts digests place ready =
     let parts = and_parts (is_none (kept_digest digests place)) (are_clean (children_of digests place)) ready in
     (none (kept_digest digests place) parts.0, parts.1)
@@ -149,7 +167,8 @@ ready_parts digests place ready =
     none (Some d) e = absurd (cc)
 
 -- where no node can be hashed, those from a place on are clean, since children stand behind their parents
-clean_from : (digests : Digests) → ((k : ℕ) → k < length digests → is_ready digests k ≡ false) → (n from : ℕ) → from + n ≡ length digests → (k : ℕ) → from ≤ k → k < length digests → is_some (kept_digest digests k) ≡ true
+clean_from : (digests : Digests) → ((k : ℕ) → k < length digests → is_ready digests k ≡ false) → (n from : ℕ) → from + n ≡ length digests → (k : ℕ)
+    → from ≤ k → k < length digests → is_some (kept_digest digests k) ≡ true
 clean_from digests none zero from all k least most = absurd (omega arith)
 clean_from digests none (suc n) from all k least most =
     let behind = clean_from digests none n (from + 1) (omega arith) in
@@ -158,9 +177,15 @@ clean_from digests none (suc n) from all k least most =
       | inl same ↦
           let children : are_clean (children_of digests from) ≡ true = list_all-from_AllPass is_some (children_of digests from) (λ j d less.
           let sixteen : j < 16 = omega (arith, length-take 16 (drop (16 * from + 1) digests)) in
-          let inside : 16 * from + 1 + j < length digests = omega (arith, length-take 16 (drop (16 * from + 1) digests), length-drop (16 * from + 1) digests) in
-          subst (λ (o : Option (List ℕ)). is_some o ≡ true) (sym (child_at digests from j sixteen) ∙ get_or_default (children_of digests from) j None d less) (behind (16 * from + 1 + j) (omega arith) inside)) in
-          some (kept_digest digests k) (λ dirty. both_ways (is_ready digests k) (none k most) (and_from (is_none (kept_digest digests k)) (are_clean (children_of digests k)) dirty (subst (λ (q : ℕ). are_clean (children_of digests q) ≡ true) (sym same) children)))
+          let inside : 16 * from + 1 + j < length digests = omega
+          (arith, length-take 16 (drop (16 * from + 1) digests), length-drop (16 * from + 1) digests) in
+          subst (λ (o : Option (List ℕ)). is_some o ≡ true)
+          (sym (child_at digests from j sixteen) ∙ get_or_default (children_of digests from) j None d less)
+          (behind (16 * from + 1 + j) (omega arith) inside)) in
+          some (kept_digest digests k)
+          (λ dirty. both_ways (is_ready digests k) (none k most)
+          (and_from (is_none (kept_digest digests k)) (are_clean (children_of digests k)) dirty
+          (subst (λ (q : ℕ). are_clean (children_of digests q) ≡ true) (sym same) children)))
     ]
   where
     some : (o : Option (List ℕ)) → (is_none o ≡ true → ⊥) → is_some o ≡ true
@@ -170,5 +195,8 @@ clean_from digests none (suc n) from all k least most =
 -- Where no node can be hashed, all are clean.
 pub none_ready : (digests : Digests) → ready_from digests 0 ≡ [] → are_clean digests ≡ true
 none_ready digests e =
-    let none : (k : ℕ) → k < length digests → is_ready digests k ≡ false = λ k less. none_passes (is_ready digests) (length digests - 0) 0 e k (omega arith) (omega arith) in
-    list_all-from_AllPass is_some digests (λ k d less. subst (λ (o : Option (List ℕ)). is_some o ≡ true) (get_or_default digests k None d less) (clean_from digests none (length digests) 0 (omega arith) k (omega arith) less))
+    let none : (k : ℕ) → k < length digests
+    → is_ready digests k ≡ false = λ k less. none_passes (is_ready digests) (length digests - 0) 0 e k (omega arith) (omega arith) in
+    list_all-from_AllPass is_some digests
+    (λ k d less. subst (λ (o : Option (List ℕ)). is_some o ≡ true) (get_or_default digests k None d less)
+    (clean_from digests none (length digests) 0 (omega arith) k (omega arith) less))

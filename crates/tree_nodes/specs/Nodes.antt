@@ -1,4 +1,4 @@
--- The nodes of a range's tree: the paper of 2007, section 4.7. The fan is 16, and the place of a node counts the nodes
+-- The nodes of a range's tree: section 4.7 of the Dynamo paper. The fan is 16, and the place of a node counts the nodes
 -- before it, depth by depth: the root is at 0, and child j of the node at p is at 16 p + 1 + j.
 use Rattle.std.specs.Prelude.{◌≡◌, ℕ, zero, suc, ◌+◌, ◌*◌, ◌/◌, ◌-◌, ◌^◌, ◌<◌, ◌≤◌, Bool, ◌&&◌, is_some, is_none, Option, Some, None, List, [], ◌∷◌, length, map, filter, take, drop, slice_index_or, nat_eq, if◌then◌else◌}
 use Rattle.std.specs.List.{list_any, list_all, range_with_len}
@@ -27,7 +27,7 @@ top = record { depth = 0; index = 0 }
 abbrev pub child : Node → ℕ → Node
 child n j = record { depth = suc n.depth; index = 16 * n.index + j }
 
--- the node above, if there is one
+-- the node above, if any
 abbrev pub parent_at : ℕ → ℕ → Option Node
 parent_at zero i = None
 parent_at (suc depth) i = Some (record { depth = depth; index = i / 16 })
@@ -39,7 +39,7 @@ parent_of n = parent_at n.depth n.index
 abbrev pub is_same_node : Node → Node → Bool
 is_same_node m n = nat_eq m.depth n.depth && nat_eq m.index n.index
 
--- a list has the node
+-- a list contains the node
 abbrev pub contains_node : Node → List Node → Bool
 contains_node n nodes = list_any (is_same_node n) nodes
 
@@ -108,7 +108,7 @@ abbrev pub ancestor_of : ℕ → ℕ → ℕ
 ancestor_of zero leaf = leaf
 ancestor_of (suc height) leaf = ancestor_of height leaf / 16
 
--- a place is that of a leaf or of a node above it
+-- a place belongs to a leaf or a node above it
 abbrev pub is_on_path : Format → ℕ → ℕ → Bool
 is_on_path format leaf place = list_any (nat_eq place) (path_of (tree_depth format) leaf)
 

@@ -1,5 +1,5 @@
-//! The nodes of a range's tree (the paper of 2007, section 4.7): their numbers, texts and digests. Use it to name nodes,
-//! to hash texts, and to record which nodes are clean.
+//! The nodes of a range's tree (section 4.7 of the Dynamo paper): their numbers, texts and digests. Use it to name
+//! nodes, to hash texts, and to record which nodes are clean.
 //!
 //! - [`node`]: nodes by depth and index.
 //! - [`text`], [`digest`]: texts, and texts with their digests.

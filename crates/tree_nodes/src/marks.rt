@@ -16,8 +16,8 @@ use vclock::{Format, Refusal};
 
 /// The digests of the clean nodes of a tree. The other nodes are dirty and have no digest. A new version makes its leaf
 /// and all nodes above it dirty, and a rehash makes them clean from the leaves up, so the children of a clean node are
-/// clean. It counts them. Beside the digests it has copies of some of them, in blocks, which `keep_digests` makes and a
-/// change drops.
+/// clean. Marks count the clean nodes. They also keep copies of some digests, in blocks: `keep_digests` makes the
+/// copies, and a change drops them.
 pub struct Marks {
     format: Format,
     digests: Vec<Option<Digest>>,
@@ -140,8 +140,8 @@ impl Marks {
         }
     }
 
-    /// Returns the digests of all nodes as `digests` does, and keeps copies of all blocks, so that the next call shares
-    /// those that don't change until then. Refused, in order: Dirty, NoMemory.
+    /// Returns the digests of all nodes like `digests`, and keeps copies of all blocks, so that the next call shares
+    /// the blocks that don't change in between. Refused, in order: Dirty, NoMemory.
     pub fn keep_digests(&mut self, alloc: Global) -> Result<SharedDigests, Refusal>
         ensures digests { Answers result (if are_clean self.old.digests then None else Some Refusal.Dirty)
             (λ digests. map Some digests ≡ self.old.digests) }

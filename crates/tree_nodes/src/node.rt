@@ -1,4 +1,4 @@
-//! The nodes of a range's tree (the paper of 2007, section 4.7), by depth and index.
+//! The nodes of a range's tree (section 4.7 of the Dynamo paper), by depth and index.
 ghost use Rattle.std.specs.Prelude.{◌≡◌, ◌+◌, ◌<◌, ◌≤◌, ◌^◌, ◌↔◌, IsSome, IfSome};
 ghost use Rattle.tree_nodes.specs.Nodes.{IsNode, top, child, parent_of, nodes_above, place_of, tree_depth};
 

@@ -26,7 +26,8 @@ pub(crate) fn first_ready(digests: &[Option<Digest>], from: usize) -> Option<usi
     None
 }
 
-/// Returns a place behind a clean node: it is the first behind it that has no clean node above it, if its depth has one.
+/// Returns a place behind a clean node: it is the first behind it that has no clean node above it, if its depth has
+/// one.
 fn past_clean(digests: &[Option<Digest>], place: usize) -> usize
     requires has { place < length digests.now }
     requires few { length digests.now ≤ nodes_above 4 }

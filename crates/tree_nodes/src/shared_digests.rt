@@ -12,8 +12,8 @@ use std::marker::Model;
 use std::sync::Arc;
 use vclock::{Format, Refusal};
 
-/// The digests of all nodes of a tree, by place, with any number of owners. Those of sixteen siblings stand in a block.
-/// The digests that marks hand out share the blocks that haven't changed in between.
+/// The digests of all nodes of a tree, by place, with any number of owners. The digests of sixteen siblings are in one
+/// block. The digests that marks return share the blocks that haven't changed in between.
 #[derive(Debug)]
 pub struct SharedDigests {
     root: Digest,
@@ -117,7 +117,7 @@ pub(crate) fn block_count(format: Format) -> usize
     }
 }
 
-/// Returns the digests of the children of the node at a place, among those of all nodes.
+/// Returns the digests of the children of the node at a place, from the digests of all nodes.
 fn children_in(digests: &[Digest], place: usize) -> [Digest; 16]
     requires { 16 * place + 17 ≤ length digests.now }
     ensures { result ≡ take 16 (drop (16 * place + 1) digests.now) }

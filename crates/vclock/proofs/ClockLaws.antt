@@ -1,11 +1,14 @@
 -- Lemmas on clocks.
-use Rattle.std.proofs.Common.{true≢false, ◌≡◌, ◌≢◌, ℕ, suc, zero, ◌+◌, ◌<◌, ◌≤◌, ◌^◌, Bool, true, false, ◌&&◌, cond, [], ◌∷◌, ◌++◌, length, get_or, take, drop, set, eqb, leb, refl, ap, sym, subst, ◌∙◌, arith, drop-cons, add-one, ◌↔◌, inl, inr}
-use Rattle.std.proofs.lemmas.Bool.{or_cases, or_left, or_right, ltb-false, lt-ltb, le-ltb, le-leb, lt-leb, leb-true, eq-eqb, ne_eqb, eqb-false, eqb-true, and_left, and_parts, and_from, and_cases, or_parts, leb-false, cases_order, cases_Bool}
+use Rattle.std.proofs.Common.{true≢false, ◌≡◌, ◌≢◌, ℕ, suc, zero, ◌+◌, ◌<◌, ◌≤◌, ◌^◌, Bool, true, false, ◌&&◌, cond, [], ◌∷◌, ◌++◌, length, get_or}
+use Rattle.std.proofs.Common.{take, drop, set, eqb, leb, refl, ap, sym, subst, ◌∙◌, arith, drop-cons, add-one, ◌↔◌, inl, inr}
+use Rattle.std.proofs.lemmas.Bool.{or_cases, or_left, or_right, ltb-false, lt-ltb, le-ltb, le-leb, lt-leb, leb-true, eq-eqb, ne_eqb, eqb-false}
+use Rattle.std.proofs.lemmas.Bool.{eqb-true, and_left, and_parts, and_from, and_cases, or_parts, leb-false, cases_order, cases_Bool}
 use Rattle.std.proofs.lemmas.Bool.Decides.{nat_tests}
 use Rattle.std.proofs.Math.ListN.{drop_of_length-le}
 use Rattle.std.proofs.lemmas.List.{length-drop}
 use Rattle.vclock.proofs.BoolLaws.{or-false}
-use Rattle.vclock.specs.Clock.{Pairs, counter, IsAtMost, at_most, Rises, IsClock, with_counter, raised, raise_fault, has_node, has_repeat, is_bad_pair, clock_of, merged, merge_fault}
+use Rattle.vclock.specs.Clock.{Pairs, counter, IsAtMost, at_most, Rises, IsClock, with_counter, raised, raise_fault, has_node, has_repeat}
+use Rattle.vclock.specs.Clock.{is_bad_pair, clock_of, merged, merge_fault}
 use Rattle.std.proofs.Common.{None, Some, ◌||◌}
 use Rattle.vclock.specs.declared.refusal.Refusal.TheVariants.{ClockFull}
 use Rattle.std.specs.List.{list_any, filter}
@@ -31,7 +34,8 @@ counter_below low ((m, c) ∷ ps) n h r = rw (ne_eqb m n (omega arith)) (counter
 -- a pair below all of a's nodes does not count
 pub at_most-skip : (a : Pairs) (n d : ℕ) (b : Pairs) → Rises n a → at_most a ((n, d) ∷ b) ≡ at_most a b
 at_most-skip [] n d b r = refl
-at_most-skip ((m, c) ∷ a) n d b r = rw (ne_eqb n m (omega arith)) (ap (λ t. leb c (counter b m) && t) (at_most-skip a n d b (Rises-lower n m a (omega arith) r.4)))
+at_most-skip ((m, c) ∷ a) n d b r =
+    rw (ne_eqb n m (omega arith)) (ap (λ t. leb c (counter b m) && t) (at_most-skip a n d b (Rises-lower n m a (omega arith) r.4)))
 
 -- the walk, at two first pairs
 head_below : (m c : ℕ) (a : Pairs) (n d : ℕ) (b : Pairs) → Rises 0 ((m, c) ∷ a) → Rises 0 ((n, d) ∷ b) → m < n
@@ -121,7 +125,8 @@ pub at_most_itself : (a : Pairs) → Rises 0 a → at_most a a ≡ true
 at_most_itself a r = at_most_from 0 a a r (λ n. omega arith)
 
 -- a write at the node's place
-pub with_counter_set : (ps : Pairs) (i n d : ℕ) (e : ℕ × ℕ) → i < length ps → (get_or ps i e).0 ≡ n → take i ps ++ with_counter (drop i ps) n d ≡ set ps i (n, d)
+pub with_counter_set : (ps : Pairs) (i n d : ℕ) (e : ℕ × ℕ) → i < length ps → (get_or ps i e).0 ≡ n
+    → take i ps ++ with_counter (drop i ps) n d ≡ set ps i (n, d)
 with_counter_set [] i n d e h same = absurd (omega arith)
 with_counter_set ((m, c) ∷ ps) zero n d e h same = rw (le-ltb m n (omega arith), eq-eqb m n same) refl
 with_counter_set ((m, c) ∷ ps) (suc i) n d e h same = ap (λ t. (m, c) ∷ t) (with_counter_set ps i n d e (omega arith) same)
@@ -130,7 +135,9 @@ pub counter-with_counter : (ps : Pairs) (n d k : ℕ) → counter (with_counter 
 counter-with_counter [] n d k = refl
 counter-with_counter ((m, c) ∷ ps) n d k =
     elim (cases_order m n) [
-      | inl e ↦ rw (le-ltb m n (omega arith), eq-eqb m n e) (subst (λ t. cond (eqb n k) d (counter ps k) ≡ cond (eqb n k) d (cond (eqb t k) c (counter ps k))) (sym e) (shadowed (eqb n k) d c (counter ps k)))
+      | inl e ↦ rw (le-ltb m n (omega arith), eq-eqb m n e)
+          (subst (λ t. cond (eqb n k) d (counter ps k) ≡ cond (eqb n k) d (cond (eqb t k) c (counter ps k))) (sym e)
+          (shadowed (eqb n k) d c (counter ps k)))
       | inr (inl less) ↦ rw (lt-ltb m n less) (ap (cond (eqb m k) c) (counter-with_counter ps n d k) ∙ apart m n k c d (counter ps k) (omega arith))
       | inr (inr more) ↦ rw (le-ltb m n (omega arith), ne_eqb m n (omega arith)) refl
     ]
@@ -172,12 +179,15 @@ length_present low ((m, c) ∷ ps) n d r h =
 
 pub raised_clock : (ps : Pairs) (n : ℕ) → IsClock ps → 0 < n → n < 2 ^ 16 → raise_fault ps n ≡ None → counter ps n < 2 ^ 64 → IsClock (raised ps n)
 raised_clock ps n r a b none small =
-    let full : (eqb (counter ps n) 0 && leb 32 (length ps)) ≡ false = elim (cases_Bool (eqb (counter ps n) 0 && leb 32 (length ps))) [ inl t ↦ cc (none, t) | inr f ↦ f ] in
-    let top : eqb (counter ps n) 18446744073709551615 ≡ false = elim (cases_Bool (eqb (counter ps n) 18446744073709551615)) [ inl t ↦ cc (none, t, full) | inr f ↦ f ] in
+    let full : (eqb (counter ps n) 0 && leb 32 (length ps)) ≡ false = elim
+    (cases_Bool (eqb (counter ps n) 0 && leb 32 (length ps))) [ inl t ↦ cc (none, t) | inr f ↦ f ] in
+    let top : eqb (counter ps n) 18446744073709551615 ≡ false = elim
+    (cases_Bool (eqb (counter ps n) 18446744073709551615)) [ inl t ↦ cc (none, t, full) | inr f ↦ f ] in
     let low : counter ps n ≢ 18446744073709551615 = eqb-false (counter ps n) 18446744073709551615 top in
     let rising = Rises-with_counter 0 ps n (counter ps n + 1) r.rising a b (omega arith) (omega arith) in
     let short : length (with_counter ps n (counter ps n + 1)) ≤ 32 = elim (and_cases _ _ full) [
-      | inl absent ↦ let there : counter ps n ≢ 0 = eqb-false (counter ps n) 0 absent in omega (arith, length_present 0 ps n (counter ps n + 1) r.rising (omega arith), r.short)
+      | inl absent ↦ let there : counter ps n ≢ 0 = eqb-false (counter ps n) 0 absent in
+          omega (arith, length_present 0 ps n (counter ps n + 1) r.rising (omega arith), r.short)
       | inr room ↦ omega (arith, leb-false 32 (length ps) room, length-with_counter ps n (counter ps n + 1))
     ] in
     record { rising = rising; short = short }
@@ -201,7 +211,8 @@ good_pair p e =
     let not_none : p.1 ≢ 0 = eqb-false p.1 0 abc.1 in
     record { above = omega arith; below = omega (arith, ltb-false 65535 p.0 ab.1); some = omega arith }
 
-pub clock_of-drop : (ps : Pairs) (i : ℕ) (d : ℕ × ℕ) → i < length ps → clock_of (drop i ps) ≡ with_counter (clock_of (drop (i + 1) ps)) (get_or ps i d).0 (get_or ps i d).1
+pub clock_of-drop : (ps : Pairs) (i : ℕ) (d : ℕ × ℕ) → i < length ps
+    → clock_of (drop i ps) ≡ with_counter (clock_of (drop (i + 1) ps)) (get_or ps i d).0 (get_or ps i d).1
 clock_of-drop ps i d h = rw (add-one i, drop-cons ps i d h) refl
 
 pub counter-clock_of : (ps : Pairs) (n : ℕ) → counter (clock_of ps) n ≡ counter ps n
@@ -238,21 +249,25 @@ has_repeat-front (p ∷ ps) qs e = elim (or_cases (has_node ps p.0) (has_repeat 
 ]
 
 -- the pairs up to i, and the pair there
-pub has_repeat_more : (ps : Pairs) (i : ℕ) (d : ℕ × ℕ) → i < length ps → has_repeat (take (i + 1) ps) ≡ (has_repeat (take i ps) || has_node (take i ps) (get_or ps i d).0)
+pub has_repeat_more : (ps : Pairs) (i : ℕ) (d : ℕ × ℕ) → i < length ps
+    → has_repeat (take (i + 1) ps) ≡ (has_repeat (take i ps) || has_node (take i ps) (get_or ps i d).0)
 has_repeat_more ps i d h = ap has_repeat (take_more ps i d h) ∙ has_repeat-push (take i ps) (get_or ps i d)
 
-pub has_node_more : (ps : Pairs) (i n : ℕ) (d : ℕ × ℕ) → i < length ps → has_node (take (i + 1) ps) n ≡ (has_node (take i ps) n || eqb (get_or ps i d).0 n)
+pub has_node_more : (ps : Pairs) (i n : ℕ) (d : ℕ × ℕ) → i < length ps
+    → has_node (take (i + 1) ps) n ≡ (has_node (take i ps) n || eqb (get_or ps i d).0 n)
 has_node_more ps i n d h = ap (λ t. has_node t n) (take_more ps i d h) ∙ has_node-push (take i ps) (get_or ps i d) n
 
 pub has_repeat_found : (ps : Pairs) (i : ℕ) (d : ℕ × ℕ) → i < length ps → has_node (take i ps) (get_or ps i d).0 ≡ true → has_repeat ps ≡ true
-has_repeat_found ps i d h e = ap has_repeat (sym (take-append-drop (i + 1) ps)) ∙ has_repeat-front (take (i + 1) ps) (drop (i + 1) ps) (has_repeat_more ps i d h ∙ or_right (has_repeat (take i ps)) _ e)
+has_repeat_found ps i d h e = ap has_repeat (sym (take-append-drop (i + 1) ps))
+    ∙ has_repeat-front (take (i + 1) ps) (drop (i + 1) ps) (has_repeat_more ps i d h ∙ or_right (has_repeat (take i ps)) _ e)
 
 -- ---- the greater counter of each node
 
 pub counter-merged : (a b : Pairs) (n : ℕ) → counter (merged a b) n ≡ max (counter b n) (counter a n)
 counter-merged a [] n = omega arith
 counter-merged a ((m, c) ∷ b) n =
-    counter-with_counter (merged a b) m (max c (counter a m)) n ∙ elim (eqb m n) as (λ t. eqb m n ≡ t → cond t (max c (counter a m)) (counter (merged a b) n) ≡ max (cond t c (counter b n)) (counter a n)) [
+    counter-with_counter (merged a b) m (max c (counter a m)) n
+    ∙ elim (eqb m n) as (λ t. eqb m n ≡ t → cond t (max c (counter a m)) (counter (merged a b) n) ≡ max (cond t c (counter b n)) (counter a n)) [
       | true ↦ λ t. ap (λ k. max c (counter a k)) (eqb-true m n t)
       | false ↦ λ t. counter-merged a b n
     ] refl
@@ -265,16 +280,21 @@ pub Rises-merged : (low : ℕ) (a b : Pairs) → Rises 0 a → Rises low b → R
 Rises-merged low a [] ra rb = ra
 Rises-merged low a ((m, c) ∷ b) ra rb =
     let small = counter_small 0 a m ra in
-    Rises-with_counter 0 (merged a b) m (max c (counter a m)) (Rises-merged m a b ra rb.4) (omega arith) rb.1 (omega (arith, rb.2, le-max_left c (counter a m))) (max_below c (counter a m) (2 ^ 64) rb.3 small)
+    Rises-with_counter 0 (merged a b) m (max c (counter a m)) (Rises-merged m a b ra rb.4) (omega arith) rb.1
+    (omega (arith, rb.2, le-max_left c (counter a m))) (max_below c (counter a m) (2 ^ 64) rb.3 small)
   where
     max_below : (x y k : ℕ) → x < k → y < k → max x y < k
     max_below x y k p q = grind (arith, nat_tests)
 
-pub length-merged : (low : ℕ) (a b : Pairs) → Rises 0 a → Rises low b → length (merged a b) ≤ length a + length (filter (λ p. eqb (counter a p.0) 0) b)
+pub length-merged : (low : ℕ) (a b : Pairs) → Rises 0 a → Rises low b
+    → length (merged a b) ≤ length a + length (filter (λ p. eqb (counter a p.0) 0) b)
 length-merged low a [] ra rb = omega arith
 length-merged low a ((m, c) ∷ b) ra rb =
     let rest = length-merged m a b ra rb.4 in
-    elim (eqb (counter a m) 0) as (λ t. eqb (counter a m) 0 ≡ t → length (with_counter (merged a b) m (max c (counter a m))) ≤ length a + length (cond t ((m, c) ∷ filter (λ p. eqb (counter a p.0) 0) b) (filter (λ p. eqb (counter a p.0) 0) b))) [
+    elim (eqb (counter a m) 0) as
+    (λ t. eqb (counter a m) 0 ≡ t
+    → length (with_counter (merged a b) m (max c (counter a m))) ≤ length a + length
+    (cond t ((m, c) ∷ filter (λ p. eqb (counter a p.0) 0) b) (filter (λ p. eqb (counter a p.0) 0) b))) [
       | true ↦ λ t. omega (arith, rest, length-with_counter (merged a b) m (max c (counter a m)))
       | false ↦ λ t.
           let some : counter a m ≢ 0 = eqb-false (counter a m) 0 t in
@@ -282,11 +302,13 @@ length-merged low a ((m, c) ∷ b) ra rb =
           omega (arith, rest, length_present 0 (merged a b) m (max c (counter a m)) (Rises-merged m a b ra rb.4) there)
     ] refl
 
-pub merged-drop : (a b : Pairs) (i : ℕ) (d : ℕ × ℕ) → i < length b → merged a (drop i b) ≡ with_counter (merged a (drop (i + 1) b)) (get_or b i d).0 (max (get_or b i d).1 (counter a (get_or b i d).0))
+pub merged-drop : (a b : Pairs) (i : ℕ) (d : ℕ × ℕ) → i < length b
+    → merged a (drop i b) ≡ with_counter (merged a (drop (i + 1) b)) (get_or b i d).0 (max (get_or b i d).1 (counter a (get_or b i d).0))
 merged-drop a b i d h = rw (add-one i, drop-cons b i d h) refl
 
 pub merged_clock : (a b : Pairs) → IsClock a → IsClock b → length a + length (filter (λ p. eqb (counter a p.0) 0) b) ≤ 32 → IsClock (merged a b)
-merged_clock a b ca cb few = record { rising = Rises-merged 0 a b ca.rising cb.rising; short = omega (arith, few, length-merged 0 a b ca.rising cb.rising) }
+merged_clock a b ca cb few =
+    record { rising = Rises-merged 0 a b ca.rising cb.rising; short = omega (arith, few, length-merged 0 a b ca.rising cb.rising) }
 
 pub merge_fault_over : (a b : Pairs) → 32 < length a + length (filter (λ p. eqb (counter a p.0) 0) b) → merge_fault a b ≡ Some ClockFull
 merge_fault_over a b h = rw (lt-ltb 32 (length a + length (filter (λ p. eqb (counter a p.0) 0) b)) h) refl

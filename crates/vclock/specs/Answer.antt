@@ -3,13 +3,13 @@ use Rattle.std.specs.Prelude.{◌≡◌, ◌⊎◌, Option, Some, None, Result, 
 use Rattle.vclock.specs.declared.refusal.Refusal.{Refusal}
 use Rattle.vclock.specs.declared.refusal.Refusal.TheVariants.{NoMemory}
 
--- A call that allocates: Ok, with P, only if there is no cause; otherwise the first cause. NoMemory only if there is no
--- cause.
+-- A call that allocates: Ok, with P, only if the cause is None; otherwise the first cause. NoMemory only if the cause
+-- is None.
 abbrev pub Answers : {T : Type 0} → Result T Refusal → Option Refusal → (T → Type 0) → Type 0
 Answers (Ok x) cause P = (cause ≡ None) × P x
 Answers (Err e) cause P = ((cause ≡ None) × (e ≡ NoMemory)) ⊎ (cause ≡ Some e)
 
--- A call that does not allocate: Ok, with P, only if there is no cause; otherwise the first cause.
+-- A call that does not allocate: Ok, with P, only if the cause is None; otherwise the first cause.
 abbrev pub AnswersAtOnce : {T : Type 0} → Result T Refusal → Option Refusal → (T → Type 0) → Type 0
 AnswersAtOnce (Ok x) cause P = (cause ≡ None) × P x
 AnswersAtOnce (Err e) cause P = cause ≡ Some e

@@ -1,4 +1,4 @@
--- Clocks as finite maps from node to counter: the vector clocks of the paper of 2007, section 4.4.
+-- Clocks as finite maps from node to counter: the vector clocks of section 4.4 of the Dynamo paper.
 use Rattle.std.specs.Prelude.{ℕ, ◌+◌, ◌<◌, ◌≤◌, ◌^◌, Bool, true, false, ◌&&◌, ◌||◌, List, [], ◌∷◌, length, if◌then◌else◌, ◌==◌, nat_le, nat_lt, Option, Some, None, max}
 use Rattle.std.specs.List.{list_any, filter}
 use Rattle.vclock.specs.declared.clock.ClockOrder.{ClockOrder}

@@ -30,7 +30,7 @@ abbrev pub through : {T R S : Type 0} → (R → S) → Outcome T R → Outcome 
 through whole (gives x s) = gives x (whole s)
 through whole (refuses e) = refuses e
 
--- A call that allocates has the outcome o. It is refused for o's cause or, if o has none, for lack of memory. A refused
+-- A call that allocates has the outcome o. It is refused for o's cause, or as NoMemory if o is not a refusal. A refused
 -- call changes nothing.
 abbrev pub Does : {T S : Type 0} → Result T Refusal → S → S → Outcome T S → Type 0
 Does (Ok x) old new o = o ≡ gives x new

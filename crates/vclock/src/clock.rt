@@ -30,7 +30,7 @@ pub enum ClockOrder {
     Apart,
 }
 
-/// A vector clock (the paper of 2007, section 4.4): a finite map from nodes, 1 to 65,535, to counters, 1 to 2^64 - 1.
+/// A vector clock (section 4.4 of the Dynamo paper): a finite map from nodes, 1 to 65,535, to counters, 1 to 2^64 - 1.
 /// An absent node has counter 0. There are at most 32 pairs. A version has the clock under which it was put; the
 /// context of a put is the clocks that its client has read.
 ///
@@ -227,7 +227,7 @@ fn walk(a: &[(u16, u64)], b: &[(u16, u64)]) -> (bool, bool)
     (le & (i == a.len()), ge & (j == b.len()))
 }
 
-/// Copies the pairs into a list with room for `len` pairs in all.
+/// Copies the pairs into a list with capacity for `len` pairs in all.
 fn copy_with_room(alloc: Global, pairs: &[(u16, u64)], len: usize) -> Result<ClockPairs, AllocError>
     ensures { IfOk result (λ copy. copy.items ≡ pairs.now) }
 {

@@ -1,5 +1,5 @@
-//! Vector clocks (the paper of 2007, section 4.4) and the basic types that all other crates share: keys and values, the
-//! two formats and the one error type. Use it to make, raise, merge and compare clocks, and to read why a call was
+//! Vector clocks (section 4.4 of the Dynamo paper) and the basic types that all other crates share: keys and values,
+//! the two formats and the one error type. Use it to make, raise, merge and compare clocks, and to read why a call was
 //! refused.
 //!
 //! - [`clock`]: clocks and their order.

@@ -103,7 +103,7 @@ pub enum Refusal {
     NotAsked,
     /// The text's digest isn't the expected one.
     WrongDigest,
-    /// The digest is right, but the text isn't a text of that node.
+    /// The digest matches, but the text isn't a text of that node.
     NotCanonical,
     /// The offer's format differs from the range's.
     OtherFormat,
@@ -150,7 +150,7 @@ pub enum Refusal {
     BadLine,
     /// The text of a row is broken. Contains the offset of the first byte of the wrong field.
     RowBroken(u64),
-    /// The bytes aren't a message, the message is of the wrong kind, or the tree has no such node.
+    /// The bytes aren't a message, the message has the wrong kind, or the tree has no such node.
     BadMessage,
     /// A request for memory was refused.
     NoMemory,

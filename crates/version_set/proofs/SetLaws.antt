@@ -1,6 +1,8 @@
 -- Laws of versions and of sets of them, for any clocks.
-use Rattle.std.proofs.Common.{◌≡◌, ℕ, suc, zero, ◌+◌, ◌<◌, ◌≤◌, Bool, true, false, not, ◌&&◌, ◌||◌, cond, List, [], ◌∷◌, length, filter, leb, refl, ap, sym, subst, ◌∙◌, arith, inl, inr, ◌⊎◌, ◌↔◌, get_or}
-use Rattle.std.proofs.lemmas.Bool.{and_parts, and_from, or_parts, or_cases, or_left, or_right, or_from, leb-true, le-leb, cases_Bool, not-true, not_from_false, both_ways}
+use Rattle.std.proofs.Common.{◌≡◌, ℕ, suc, zero, ◌+◌, ◌<◌, ◌≤◌, Bool, true, false, not, ◌&&◌, ◌||◌, cond, List, [], ◌∷◌, length, filter, leb, refl}
+use Rattle.std.proofs.Common.{ap, sym, subst, ◌∙◌, arith, inl, inr, ◌⊎◌, ◌↔◌, get_or}
+use Rattle.std.proofs.lemmas.Bool.{and_parts, and_from, or_parts, or_cases, or_left, or_right, or_from, leb-true, le-leb, cases_Bool, not-true}
+use Rattle.std.proofs.lemmas.Bool.{not_from_false, both_ways}
 use Rattle.std.specs.List.{list_any, AllByRecursion}
 use Rattle.std.specs.declared.cmp.Ordering.{Ordering}
 use Rattle.std.specs.declared.cmp.Ordering.TheVariants.{Less, Equal, Greater}
@@ -17,12 +19,16 @@ use Rattle.version_set.specs.declared.kind.Kind.{Kind}
 use Rattle.version_set.specs.declared.kind.Kind.TheVariants.{Live, Tombstone}
 use Rattle.version_set.specs.declared.version.Version.{Version}
 use Rattle.version_set.specs.Order.{place_by}
-use Rattle.version_set.specs.Version.{NoneIsBelow, is_below, covered, maximal, with_version, IsBelow, IsCovered, is_same, version_cmp, pair_cmp, Ascends, offered, IsVersionSet, set_from}
+use Rattle.version_set.specs.Version.{NoneIsBelow, is_below, covered, maximal, with_version, IsBelow, IsCovered, is_same, version_cmp, pair_cmp}
+use Rattle.version_set.specs.Version.{Ascends, offered, IsVersionSet, set_from}
 use Rattle.version_set.proofs.ListLaws.{all-filter, all-inserted, less_all, Pairwise-filter, ascends-inserted}
 
 -- the order of texts is total
 pub version_total : IsTotalOrder version_cmp
-version_total = then_total (then_total (then_total (then_total (on_total (λ v. kind_byte v.kind) nat_cmp_total) (on_total (λ v. length v.clock) nat_cmp_total)) (on_total (λ v. v.clock) (lists_total (then_total (on_total (λ p. p.0) nat_cmp_total) (on_total (λ p. p.1) nat_cmp_total))))) (on_total (λ v. length v.value) nat_cmp_total)) (on_total (λ v. v.value) nat_list_cmp_total)
+version_total = then_total
+    (then_total (then_total (then_total (on_total (λ v. kind_byte v.kind) nat_cmp_total) (on_total (λ v. length v.clock) nat_cmp_total))
+    (on_total (λ v. v.clock) (lists_total (then_total (on_total (λ p. p.0) nat_cmp_total) (on_total (λ p. p.1) nat_cmp_total)))))
+    (on_total (λ v. length v.value) nat_cmp_total)) (on_total (λ v. v.value) nat_list_cmp_total)
 
 at_most-trans : (a b c : Pairs) → at_most a b ≡ true → at_most b c ≡ true → at_most a c ≡ true
 at_most-trans [] b c p q = refl
@@ -88,7 +94,8 @@ from_filter p (y ∷ ys) x i =
 filter_alike : {X : Type 0} (p q : X → Bool) (xs : List X) → ((x : X) → IsIn x xs → p x ≡ q x) → filter p xs ≡ filter q xs
 unfolding IsIn
 filter_alike p q [] h = refl
-filter_alike p q (y ∷ ys) h = λ i. cond (h y (inl refl) i) (y ∷ filter_alike p q ys (λ x j. h x (inr j)) i) (filter_alike p q ys (λ x j. h x (inr j)) i)
+filter_alike p q (y ∷ ys) h =
+    λ i. cond (h y (inl refl) i) (y ∷ filter_alike p q ys (λ x j. h x (inr j)) i) (filter_alike p q ys (λ x j. h x (inr j)) i)
 
 filter_all : {X : Type 0} (p : X → Bool) (xs : List X) → ((x : X) → IsIn x xs → p x ≡ true) → filter p xs ≡ xs
 unfolding IsIn
@@ -104,10 +111,12 @@ count_le p q h [] = omega arith
 count_le p q h (x ∷ xs) =
     elim (p x) as (λ b. p x ≡ b → cond b (suc (count p xs)) (count p xs) ≤ cond (q x) (suc (count q xs)) (count q xs)) [
       | true ↦ λ t. rw (h x t) (omega (arith, count_le p q h xs))
-      | false ↦ λ t. elim (q x) as (λ b. count p xs ≤ cond b (suc (count q xs)) (count q xs)) [ true ↦ omega (arith, count_le p q h xs) | false ↦ count_le p q h xs ]
+      | false ↦ λ t. elim (q x) as
+          (λ b. count p xs ≤ cond b (suc (count q xs)) (count q xs)) [ true ↦ omega (arith, count_le p q h xs) | false ↦ count_le p q h xs ]
     ] refl
 
-count_lt : {X : Type 0} (p q : X → Bool) → ((x : X) → p x ≡ true → q x ≡ true) → (xs : List X) (w : X) → IsIn w xs → q w ≡ true → p w ≡ false → count p xs < count q xs
+count_lt : {X : Type 0} (p q : X → Bool) → ((x : X) → p x ≡ true → q x ≡ true) → (xs : List X) (w : X) → IsIn w xs → q w ≡ true → p w ≡ false
+    → count p xs < count q xs
 unfolding IsIn
 count_lt p q h [] w i t f = absurd i
 count_lt p q h (x ∷ xs) w i t f = elim i [
@@ -115,19 +124,26 @@ count_lt p q h (x ∷ xs) w i t f = elim i [
   | inr j ↦
       elim (p x) as (λ b. p x ≡ b → cond b (suc (count p xs)) (count p xs) < cond (q x) (suc (count q xs)) (count q xs)) [
         | true ↦ λ a. rw (h x a) (omega (arith, count_lt p q h xs w j t f))
-        | false ↦ λ a. elim (q x) as (λ b. count p xs < cond b (suc (count q xs)) (count q xs)) [ true ↦ omega (arith, count_lt p q h xs w j t f) | false ↦ count_lt p q h xs w j t f ]
+        | false ↦ λ a. elim (q x) as
+            (λ b. count p xs < cond b (suc (count q xs)) (count q xs)) [
+              | true ↦ omega
+                  (arith, count_lt p q h xs w j t f)
+              | false ↦ count_lt p q h xs w j t f
+            ]
       ] refl
 ]
 
 -- a version below a member is below a maximal member
-below_maximal : (n : ℕ) (S : List Version) (v : Version) → count (is_below v) S < n → list_any (is_below v) S ≡ true → list_any (is_below v) (maximal S) ≡ true
+below_maximal : (n : ℕ) (S : List Version) (v : Version) → count (is_below v) S < n → list_any (is_below v) S ≡ true
+    → list_any (is_below v) (maximal S) ≡ true
 below_maximal zero S v h e = absurd (omega arith)
 below_maximal (suc n) S v h e =
     let w = found (is_below v) S e in
     elim (cases_Bool (list_any (is_below w.0) S)) [
       | inr f ↦ any_at (is_below v) (maximal S) w.0 (in_filter (λ x. not (list_any (is_below x) S)) S w.0 w.1 (not_from_false _ f)) w.2
       | inl t ↦
-          let fewer : count (is_below w.0) S < count (is_below v) S = count_lt (is_below w.0) (is_below v) (λ x. is_below-trans v w.0 x w.2) S w.0 w.1 w.2 (is_below-itself w.0) in
+          let fewer : count (is_below w.0) S < count (is_below v) S = count_lt (is_below w.0) (is_below v)
+          (λ x. is_below-trans v w.0 x w.2) S w.0 w.1 w.2 (is_below-itself w.0) in
           let m = found (is_below w.0) (maximal S) (below_maximal n S w.0 (omega arith) t) in
           any_at (is_below v) (maximal S) m.0 m.1 (is_below-trans v w.0 m.0 w.2 m.2)
     ]
@@ -153,10 +169,12 @@ pub none_below : (S : List Version) → maximal S ≡ S → (v : Version) → Is
 none_below S own v i = not-true _ (from_filter (λ x. not (list_any (is_below x) S)) S v (subst (λ T. IsIn v T) (sym own) i)).1
 
 -- what a test finds in the set with one more version
-pub any-with_version : (p : Version → Bool) (v : Version) (S : List Version) → list_any (is_same v) S ≡ false → list_any p (with_version v S) ≡ (p v || list_any p S)
+pub any-with_version : (p : Version → Bool) (v : Version) (S : List Version) → list_any (is_same v) S ≡ false
+    → list_any p (with_version v S) ≡ (p v || list_any p S)
 any-with_version p v [] h = refl
 any-with_version p v (w ∷ S) h =
-    elim (version_cmp v w) as (λ o. version_cmp v w ≡ o → list_any p (place_by o (v ∷ w ∷ S) (w ∷ S) (w ∷ with_version v S)) ≡ (p v || (p w || list_any p S))) [
+    elim (version_cmp v w) as
+    (λ o. version_cmp v w ≡ o → list_any p (place_by o (v ∷ w ∷ S) (w ∷ S) (w ∷ with_version v S)) ≡ (p v || (p w || list_any p S))) [
       | Less ↦ λ o. refl
       | Equal ↦ λ o. absurd (both_ways (is_same v w) (or_parts _ _ h).0 (ap is_eq o))
       | Greater ↦ λ o. ap (λ b. p w || b) (any-with_version p v S (or_parts _ _ h).1) ∙ or_swap (p w) (p v) (list_any p S)
@@ -172,32 +190,45 @@ with_version-first : (v : Version) (S : List Version) → AllByRecursion (λ w. 
 with_version-first v [] h = refl
 with_version-first v (w ∷ S) h = rw h.0 refl
 
-pub filter-with_version : (p : Version → Bool) (v : Version) (S : List Version) → Ascends S → list_any (is_same v) S ≡ false → filter p (with_version v S) ≡ cond (p v) (with_version v (filter p S)) (filter p S)
+pub filter-with_version : (p : Version → Bool) (v : Version) (S : List Version) → Ascends S → list_any (is_same v) S ≡ false
+    → filter p (with_version v S) ≡ cond (p v) (with_version v (filter p S)) (filter p S)
 filter-with_version p v [] a h = refl
 filter-with_version p v (w ∷ S) a h =
-    elim (version_cmp v w) as (λ o. version_cmp v w ≡ o → filter p (place_by o (v ∷ w ∷ S) (w ∷ S) (w ∷ with_version v S)) ≡ cond (p v) (with_version v (filter p (w ∷ S))) (filter p (w ∷ S))) [
-      | Less ↦ λ o. ap (λ t. cond (p v) t (filter p (w ∷ S))) (sym (with_version-first v (filter p (w ∷ S)) (all-filter _ p (w ∷ S) (o, less_all version_cmp version_total v w S o a.0))))
+    elim (version_cmp v w) as
+    (λ o. version_cmp v w ≡ o → filter p (place_by o (v ∷ w ∷ S) (w ∷ S) (w ∷ with_version v S)) ≡ cond (p v) (with_version v (filter p (w ∷ S)))
+    (filter p (w ∷ S))) [
+      | Less ↦ λ o. ap (λ t. cond (p v) t (filter p (w ∷ S)))
+          (sym (with_version-first v (filter p (w ∷ S)) (all-filter _ p (w ∷ S) (o, less_all version_cmp version_total v w S o a.0))))
       | Equal ↦ λ o. absurd (both_ways (is_same v w) (or_parts _ _ h).0 (ap is_eq o))
       | Greater ↦ λ o.
           let rest = filter-with_version p v S a.1 (or_parts _ _ h).1 in
-          elim (p w) as (λ b. cond b (w ∷ filter p (with_version v S)) (filter p (with_version v S)) ≡ cond (p v) (with_version v (cond b (w ∷ filter p S) (filter p S))) (cond b (w ∷ filter p S) (filter p S))) [
-            | true ↦ ap (λ t. w ∷ t) rest ∙ elim (p v) as (λ c. w ∷ cond c (with_version v (filter p S)) (filter p S) ≡ cond c (with_version v (w ∷ filter p S)) (w ∷ filter p S)) [ true ↦ rw o refl | false ↦ refl ]
+          elim (p w) as (λ b. cond b (w ∷ filter p (with_version v S)) (filter p (with_version v S)) ≡ cond (p v)
+          (with_version v (cond b (w ∷ filter p S) (filter p S))) (cond b (w ∷ filter p S) (filter p S))) [
+            | true ↦ ap (λ t. w ∷ t) rest
+                ∙ elim (p v) as (λ c. w ∷ cond c (with_version v (filter p S)) (filter p S) ≡ cond c (with_version v (w ∷ filter p S))
+                (w ∷ filter p S)) [ true ↦ rw o refl | false ↦ refl ]
             | false ↦ rest
           ]
     ] refl
 
 pub length-with_version : (v : Version) (S : List Version) → length (with_version v S) ≤ length S + 1
 length-with_version v [] = omega arith
-length-with_version v (w ∷ S) = elim (version_cmp v w) as (λ o. length (place_by o (v ∷ w ∷ S) (w ∷ S) (w ∷ with_version v S)) ≤ length (w ∷ S) + 1) [ Less ↦ omega arith | Equal ↦ omega arith | Greater ↦ omega (arith, length-with_version v S) ]
+length-with_version v (w ∷ S) =
+    elim (version_cmp v w) as
+    (λ o. length (place_by o (v ∷ w ∷ S) (w ∷ S) (w ∷ with_version v S)) ≤ length (w ∷ S) + 1)
+    [ Less ↦ omega arith | Equal ↦ omega arith | Greater ↦ omega (arith, length-with_version v S) ]
 
 -- a version that is not covered: those that are not below it, and it
-pub maximal-with_version : (v : Version) (S : List Version) → Ascends S → maximal S ≡ S → covered v S ≡ false → maximal (with_version v S) ≡ with_version v (filter (λ w. not (is_below w v)) S)
+pub maximal-with_version : (v : Version) (S : List Version) → Ascends S → maximal S ≡ S → covered v S ≡ false
+    → maximal (with_version v S) ≡ with_version v (filter (λ w. not (is_below w v)) S)
 maximal-with_version v S a own h =
     let new : list_any (is_same v) S ≡ false = no_part (is_same v) (is_below v) S h in
     let free : list_any (is_below v) S ≡ false = no_part_2 (is_same v) (is_below v) S h in
-    let stays : not (list_any (is_below v) (with_version v S)) ≡ true = ap not (any-with_version (is_below v) v S new ∙ or_from _ _ (is_below-itself v) free) in
+    let stays : not (list_any (is_below v) (with_version v S)) ≡ true = ap not
+    (any-with_version (is_below v) v S new ∙ or_from _ _ (is_below-itself v) free) in
     filter-with_version (λ x. not (list_any (is_below x) (with_version v S))) v S a new
-    ∙ ap (λ b. cond b (with_version v (filter (λ x. not (list_any (is_below x) (with_version v S))) S)) (filter (λ x. not (list_any (is_below x) (with_version v S))) S)) stays
+    ∙ ap (λ b. cond b (with_version v (filter (λ x. not (list_any (is_below x) (with_version v S))) S))
+    (filter (λ x. not (list_any (is_below x) (with_version v S))) S)) stays
     ∙ ap (with_version v) (filter_alike (λ x. not (list_any (is_below x) (with_version v S))) (λ w. not (is_below w v)) S (λ x i.
     ap not (any-with_version (is_below x) v S new ∙ ap (λ b. is_below x v || b) (none_below S own x i) ∙ or-false (is_below x v))))
   where
@@ -233,10 +264,12 @@ version_exact v w e =
     kind_exact Tombstone Tombstone e = refl
 
     pair_exact : (p q : ℕ × ℕ) → pair_cmp p q ≡ Equal → p ≡ q
-    pair_exact p q e = let r = both_equal (nat_cmp p.0 q.0) (nat_cmp p.1 q.1) e in λ i. (nat_cmp-IsAntisymmetric p.0 q.0 r.0 i, nat_cmp-IsAntisymmetric p.1 q.1 r.1 i)
+    pair_exact p q e = let r = both_equal (nat_cmp p.0 q.0) (nat_cmp p.1 q.1) e in
+        λ i. (nat_cmp-IsAntisymmetric p.0 q.0 r.0 i, nat_cmp-IsAntisymmetric p.1 q.1 r.1 i)
 
 pub is_same-exact : (v w : Version) → is_same v w ≡ true → v ≡ w
-is_same-exact v w e = version_exact v w (elim (version_cmp v w) as (λ o. is_eq o ≡ true → o ≡ Equal) [ Less ↦ λ t. cc | Equal ↦ λ t. refl | Greater ↦ λ t. cc ] e)
+is_same-exact v w e = version_exact v w
+    (elim (version_cmp v w) as (λ o. is_eq o ≡ true → o ≡ Equal) [ Less ↦ λ t. cc | Equal ↦ λ t. refl | Greater ↦ λ t. cc ] e)
 
 -- a version of the set leaves it as it is
 with_version-member : (v : Version) (S : List Version) → Ascends S → list_any (is_same v) S ≡ true → with_version v S ≡ S
@@ -255,10 +288,12 @@ with_version-member v (w ∷ S) a e =
 -- what covers a version in a set covers it in the set's maximum
 pub covered-maximal : (v : Version) (S : List Version) → covered v (maximal S) ≡ covered v S
 covered-maximal v S = same_truth _ _
-    (λ e. let m = found (λ w. is_same v w || is_below v w) (maximal S) e in any_at (λ w. is_same v w || is_below v w) S m.0 (from_filter (λ x. not (list_any (is_below x) S)) S m.0 m.1).0 m.2)
+    (λ e. let m = found (λ w. is_same v w || is_below v w) (maximal S) e in
+    any_at (λ w. is_same v w || is_below v w) S m.0 (from_filter (λ x. not (list_any (is_below x) S)) S m.0 m.1).0 m.2)
     (λ e. let w = found (λ w. is_same v w || is_below v w) S e in
     elim (cases_Bool (list_any (is_below w.0) S)) [
-      | inr f ↦ any_at (λ w. is_same v w || is_below v w) (maximal S) w.0 (in_filter (λ x. not (list_any (is_below x) S)) S w.0 w.1 (not_from_false _ f)) w.2
+      | inr f ↦ any_at (λ w. is_same v w || is_below v w) (maximal S) w.0
+          (in_filter (λ x. not (list_any (is_below x) S)) S w.0 w.1 (not_from_false _ f)) w.2
       | inl t ↦
           let m = found (is_below w.0) (maximal S) (below-maximal S w.0 ∙ t) in
           let up : is_below v m.0 ≡ true = elim (or_cases (is_same v w.0) (is_below v w.0) w.2) [
@@ -269,11 +304,14 @@ covered-maximal v S = same_truth _ _
     ])
 
 -- a version below a member adds nothing
-below_adds_nothing : (v : Version) (S : List Version) → Ascends S → list_any (is_same v) S ≡ false → list_any (is_below v) S ≡ true → maximal (with_version v S) ≡ maximal S
+below_adds_nothing : (v : Version) (S : List Version) → Ascends S → list_any (is_same v) S ≡ false → list_any (is_below v) S ≡ true
+    → maximal (with_version v S) ≡ maximal S
 below_adds_nothing v S a new e =
     let w = found (is_below v) S e in
     filter-with_version (λ x. not (list_any (is_below x) (with_version v S))) v S a new
-    ∙ ap (λ b. cond b (with_version v (filter (λ x. not (list_any (is_below x) (with_version v S))) S)) (filter (λ x. not (list_any (is_below x) (with_version v S))) S)) (ap not (any-with_version (is_below v) v S new ∙ or_right (is_below v v) _ e))
+    ∙ ap (λ b. cond b (with_version v (filter (λ x. not (list_any (is_below x) (with_version v S))) S))
+    (filter (λ x. not (list_any (is_below x) (with_version v S))) S))
+    (ap not (any-with_version (is_below v) v S new ∙ or_right (is_below v v) _ e))
     ∙ filter_alike (λ x. not (list_any (is_below x) (with_version v S))) (λ x. not (list_any (is_below x) S)) S (λ x i.
     ap not (any-with_version (is_below x) v S new ∙ same_truth _ _
     (λ t. elim (or_cases (is_below x v) _ t) [ inl b ↦ any_at (is_below x) S w.0 w.1 (is_below-trans x v w.0 b w.2) | inr r ↦ r ])
@@ -281,10 +319,12 @@ below_adds_nothing v S a new e =
 
 filter_twice : {X : Type 0} (p q : X → Bool) (xs : List X) → filter p (filter q xs) ≡ filter (λ x. q x && p x) xs
 filter_twice p q [] = refl
-filter_twice p q (x ∷ xs) = elim (q x) as (λ b. filter p (cond b (x ∷ filter q xs) (filter q xs)) ≡ cond (b && p x) (x ∷ filter (λ x. q x && p x) xs) (filter (λ x. q x && p x) xs)) [
-  | true ↦ ap (λ t. cond (p x) (x ∷ t) t) (filter_twice p q xs)
-  | false ↦ filter_twice p q xs
-]
+filter_twice p q (x ∷ xs) =
+    elim (q x) as (λ b. filter p (cond b (x ∷ filter q xs) (filter q xs)) ≡ cond (b && p x) (x ∷ filter (λ x. q x && p x) xs)
+    (filter (λ x. q x && p x) xs)) [
+      | true ↦ ap (λ t. cond (p x) (x ∷ t) t) (filter_twice p q xs)
+      | false ↦ filter_twice p q xs
+    ]
 
 not_or : (a b : Bool) → not (a || b) ≡ (not b && not a)
 not_or true true = refl
@@ -305,7 +345,11 @@ offered-maximal v S a =
   where
     below_of : (v : Version) (S : List Version) → covered v S ≡ true → list_any (is_same v) S ≡ false → list_any (is_below v) S ≡ true
     below_of v S t n = let w = found (λ w. is_same v w || is_below v w) S t in
-        elim (or_cases (is_same v w.0) (is_below v w.0) w.2) [ inl s ↦ absurd (both_ways _ n (any_at (is_same v) S w.0 w.1 s)) | inr b ↦ any_at (is_below v) S w.0 w.1 b ]
+        elim (or_cases (is_same v w.0) (is_below v w.0) w.2) [
+          | inl s ↦ absurd (both_ways _ n (any_at (is_same v) S w.0 w.1 s))
+          | inr b ↦ any_at
+              (is_below v) S w.0 w.1 b
+        ]
 
     no_part : {X : Type 0} (p q : X → Bool) (xs : List X) → list_any (λ x. p x || q x) xs ≡ false → (list_any p xs ≡ false) × (list_any q xs ≡ false)
     no_part p q [] e = (refl, refl)
@@ -319,22 +363,29 @@ offered-maximal v S a =
         let own = maximal-maximal S in
         let up = Pairwise-filter (λ v w. version_cmp v w ≡ Less) (λ x. not (list_any (is_below x) S)) S a in
         let parts = no_part (is_same v) (is_below v) S f in
-        let stays : not (list_any (is_below v) (with_version v S)) ≡ true = ap not (any-with_version (is_below v) v S parts.0 ∙ or_from _ _ (is_below-itself v) parts.1) in
+        let stays : not (list_any (is_below v) (with_version v S)) ≡ true = ap not
+        (any-with_version (is_below v) v S parts.0 ∙ or_from _ _ (is_below-itself v) parts.1) in
         maximal-with_version v (maximal S) up own (covered-maximal v S ∙ f)
         ∙ ap (with_version v) (filter_twice (λ w. not (is_below w v)) (λ x. not (list_any (is_below x) S)) S
-        ∙ filter_alike (λ x. not (list_any (is_below x) S) && not (is_below x v)) (λ x. not (list_any (is_below x) (with_version v S))) S (λ x i. sym (ap not (any-with_version (is_below x) v S parts.0) ∙ not_or (is_below x v) (list_any (is_below x) S))))
+        ∙ filter_alike (λ x. not (list_any (is_below x) S) && not (is_below x v)) (λ x. not (list_any (is_below x) (with_version v S))) S
+        (λ x i. sym (ap not (any-with_version (is_below x) v S parts.0) ∙ not_or (is_below x v) (list_any (is_below x) S))))
         ∙ sym (filter-with_version (λ x. not (list_any (is_below x) (with_version v S))) v S a parts.0
-        ∙ ap (λ b. cond b (with_version v (filter (λ x. not (list_any (is_below x) (with_version v S))) S)) (filter (λ x. not (list_any (is_below x) (with_version v S))) S)) stays)
+        ∙ ap (λ b. cond b (with_version v (filter (λ x. not (list_any (is_below x) (with_version v S))) S))
+        (filter (λ x. not (list_any (is_below x) (with_version v S))) S)) stays)
 
 -- the test of clocks says what their counters say
 pub is_below-is : (v w : Version) → IsClock v.clock → IsClock w.clock → (is_below v w ≡ true) ↔ IsBelow v w
 is_below-is v w cv cw = (
   (λ e. let parts = and_parts (at_most v.clock w.clock) (not (at_most w.clock v.clock)) e in
-      record { at_most = at_most-counters v.clock w.clock parts.0; differ = λ same. both_ways _ (not-true _ parts.1) (subst (λ c. at_most c v.clock ≡ true) same (at_most_itself v.clock cv.rising)) }),
-  (λ b. and_from (at_most v.clock w.clock) _ ((at_most-is v.clock w.clock cv.rising).1 b.at_most) (not_from_false _ (elim (cases_Bool (at_most w.clock v.clock)) [
-    | inl t ↦ absurd (b.differ (same_clock v.clock w.clock cv.rising cw.rising ((at_most-is v.clock w.clock cv.rising).1 b.at_most) t))
-    | inr f ↦ f
-  ]))),
+      record {
+        at_most = at_most-counters v.clock w.clock parts.0;
+        differ = λ same. both_ways _ (not-true _ parts.1) (subst (λ c. at_most c v.clock ≡ true) same (at_most_itself v.clock cv.rising));
+      }),
+  (λ b. and_from (at_most v.clock w.clock) _ ((at_most-is v.clock w.clock cv.rising).1 b.at_most)
+      (not_from_false _ (elim (cases_Bool (at_most w.clock v.clock)) [
+        | inl t ↦ absurd (b.differ (same_clock v.clock w.clock cv.rising cw.rising ((at_most-is v.clock w.clock cv.rising).1 b.at_most) t))
+        | inr f ↦ f
+      ]))),
 )
 
 -- what is covered, found by tests
@@ -346,10 +397,16 @@ covered-is v S cv valid = (
 )
   where
     one_way : (v w : Version) → IsClock v.clock → IsClock w.clock → (is_same v w || is_below v w) ≡ true → (v ≡ w) ⊎ IsBelow v w
-    one_way v w cv cw e = elim (or_cases (is_same v w) (is_below v w) e) [ inl s ↦ inl (is_same-exact v w s) | inr b ↦ inr ((is_below-is v w cv cw).0 b) ]
+    one_way v w cv cw e = elim
+        (or_cases (is_same v w) (is_below v w) e) [ inl s ↦ inl (is_same-exact v w s) | inr b ↦ inr ((is_below-is v w cv cw).0 b) ]
 
     other_way : (v w : Version) → IsClock v.clock → IsClock w.clock → (v ≡ w) ⊎ IsBelow v w → (is_same v w || is_below v w) ≡ true
-    other_way v w cv cw e = elim e [ inl s ↦ or_left (is_same v w) _ (ap is_eq (subst (λ x. version_cmp v x ≡ Equal) s (tied_itself version_total v))) | inr b ↦ or_right (is_same v w) _ ((is_below-is v w cv cw).1 b) ]
+    other_way v w cv cw e = elim e [
+      | inl s ↦ or_left (is_same v w) _
+          (ap is_eq (subst (λ x. version_cmp v x ≡ Equal) s (tied_itself version_total v)))
+      | inr b ↦ or_right (is_same v w) _
+          ((is_below-is v w cv cw).1 b)
+    ]
 
     valid_at : (S : List Version) (k : ℕ) (w : Version) → k < length S → get_or S k w ≡ w → AllByRecursion (λ x. IsClock x.clock) S → IsClock w.clock
     valid_at [] k w h e all = absurd (omega arith)
@@ -357,7 +414,8 @@ covered-is v S cv valid = (
     valid_at (x ∷ S) (suc k) w h e all = valid_at S k w (omega arith) e all.1
 
 -- what `offer` makes is a set, if not too many are left
-pub grown : (v : Version) (S : List Version) → IsClock v.clock → IsVersionSet S → covered v S ≡ false → length (filter (λ w. not (is_below w v)) S) < 64 → IsVersionSet (with_version v (filter (λ w. not (is_below w v)) S))
+pub grown : (v : Version) (S : List Version) → IsClock v.clock → IsVersionSet S → covered v S ≡ false
+    → length (filter (λ w. not (is_below w v)) S) < 64 → IsVersionSet (with_version v (filter (λ w. not (is_below w v)) S))
 grown v S clock set f room =
     let is = maximal-with_version v S set.ascending set.own_maximum f in
     record {
@@ -370,21 +428,28 @@ grown v S clock set f room =
 -- where no member is the version, the set grows by one
 pub length-new : (v : Version) (S : List Version) → list_any (is_same v) S ≡ false → length (with_version v S) ≡ length S + 1
 length-new v [] h = refl
-length-new v (w ∷ S) h = elim (version_cmp v w) as (λ o. version_cmp v w ≡ o → length (place_by o (v ∷ w ∷ S) (w ∷ S) (w ∷ with_version v S)) ≡ length (w ∷ S) + 1) [
-  | Less ↦ λ o. omega arith
-  | Equal ↦ λ o. absurd (both_ways (is_same v w) (or_parts _ _ h).0 (ap is_eq o))
-  | Greater ↦ λ o. omega (arith, length-new v S (or_parts _ _ h).1)
-] refl
+length-new v (w ∷ S) h =
+    elim (version_cmp v w) as (λ o. version_cmp v w ≡ o → length (place_by o (v ∷ w ∷ S) (w ∷ S) (w ∷ with_version v S)) ≡ length (w ∷ S) + 1) [
+      | Less ↦ λ o. omega arith
+      | Equal ↦ λ o. absurd (both_ways (is_same v w) (or_parts _ _ h).0 (ap is_eq o))
+      | Greater ↦ λ o. omega (arith, length-new v S (or_parts _ _ h).1)
+    ] refl
 
 any_filter_none : {X : Type 0} (p q : X → Bool) (xs : List X) → list_any p xs ≡ false → list_any p (filter q xs) ≡ false
 any_filter_none p q [] h = refl
-any_filter_none p q (x ∷ xs) h = elim (q x) as (λ b. list_any p (cond b (x ∷ filter q xs) (filter q xs)) ≡ false) [ true ↦ or_from _ _ (or_parts _ _ h).0 (any_filter_none p q xs (or_parts _ _ h).1) | false ↦ any_filter_none p q xs (or_parts _ _ h).1 ]
+any_filter_none p q (x ∷ xs) h =
+    elim (q x) as (λ b. list_any p (cond b (x ∷ filter q xs) (filter q xs)) ≡ false) [
+      | true ↦ or_from _ _ (or_parts _ _ h).0
+          (any_filter_none p q xs (or_parts _ _ h).1)
+      | false ↦ any_filter_none p q xs (or_parts _ _ h).1
+    ]
 
 any_first : {X : Type 0} (p q : X → Bool) (xs : List X) → list_any (λ x. p x || q x) xs ≡ false → list_any p xs ≡ false
 any_first p q [] e = refl
 any_first p q (x ∷ xs) e = or_from _ _ (or_parts _ _ (or_parts _ _ e).0).0 (any_first p q xs (or_parts _ _ e).1)
 
-pub length-grown : (v : Version) (S : List Version) → IsVersionSet S → covered v S ≡ false → length (maximal (with_version v S)) ≡ length (filter (λ w. not (is_below w v)) S) + 1
+pub length-grown : (v : Version) (S : List Version) → IsVersionSet S → covered v S ≡ false
+    → length (maximal (with_version v S)) ≡ length (filter (λ w. not (is_below w v)) S) + 1
 length-grown v S set f =
     ap length (maximal-with_version v S set.ascending set.own_maximum f)
     ∙ length-new v (filter (λ w. not (is_below w v)) S) (any_filter_none (is_same v) _ S (any_first (is_same v) (is_below v) S f))
@@ -393,7 +458,8 @@ length-grown v S set f =
 any-with_one : (p : Version → Bool) (v : Version) (S : List Version) → list_any p (with_version v S) ≡ (p v || list_any p S)
 any-with_one p v [] = refl
 any-with_one p v (w ∷ S) =
-    elim (version_cmp v w) as (λ o. version_cmp v w ≡ o → list_any p (place_by o (v ∷ w ∷ S) (w ∷ S) (w ∷ with_version v S)) ≡ (p v || (p w || list_any p S))) [
+    elim (version_cmp v w) as
+    (λ o. version_cmp v w ≡ o → list_any p (place_by o (v ∷ w ∷ S) (w ∷ S) (w ∷ with_version v S)) ≡ (p v || (p w || list_any p S))) [
       | Less ↦ λ o. refl
       | Equal ↦ λ o. subst (λ x. (p w || list_any p S) ≡ (p x || (p w || list_any p S))) (sym (version_exact v w o)) (or_same (p w) (list_any p S))
       | Greater ↦ λ o. ap (λ b. p w || b) (any-with_one p v S) ∙ or_swap (p w) (p v) (list_any p S)
@@ -410,7 +476,8 @@ any-with_one p v (w ∷ S) =
 
 pub any-set_from : (p : Version → Bool) (S vs : List Version) → list_any p (set_from S vs) ≡ (list_any p vs || list_any p S)
 any-set_from p S [] = refl
-any-set_from p S (v ∷ vs) = any-set_from p (with_version v S) vs ∙ ap (λ b. list_any p vs || b) (any-with_one p v S) ∙ or_turn (list_any p vs) (p v) (list_any p S)
+any-set_from p S (v ∷ vs) = any-set_from p (with_version v S) vs ∙ ap (λ b. list_any p vs || b) (any-with_one p v S)
+    ∙ or_turn (list_any p vs) (p v) (list_any p S)
   where
     or_turn : (a b c : Bool) → (a || (b || c)) ≡ ((b || a) || c)
     or_turn true true c = refl
@@ -421,7 +488,8 @@ any-set_from p S (v ∷ vs) = any-set_from p (with_version v S) vs ∙ ap (λ b.
 not_below : (v w : Version) → IsClock v.clock → IsClock w.clock → is_below v w ≡ false → ¬ IsBelow v w
 not_below v w cv cw f b = both_ways _ f ((is_below-is v w cv cw).1 b)
 
-none_of : (v : Version) (T : List Version) → IsClock v.clock → AllByRecursion (λ w. IsClock w.clock) T → list_any (is_below v) T ≡ false → AllByRecursion (λ w. ¬ IsBelow v w) T
+none_of : (v : Version) (T : List Version) → IsClock v.clock → AllByRecursion (λ w. IsClock w.clock) T → list_any (is_below v) T ≡ false
+    → AllByRecursion (λ w. ¬ IsBelow v w) T
 none_of v [] cv valid none = tt
 none_of v (w ∷ T) cv valid none = let parts = or_parts _ _ none in (not_below v w cv valid.0 parts.0, none_of v T cv valid.1 parts.1)
 
@@ -430,7 +498,8 @@ unfolding IsIn
 clock_in [] v i valid = absurd i
 clock_in (w ∷ T) v i valid = elim i [ inl e ↦ subst (λ x. IsClock x.clock) (sym e) valid.0 | inr j ↦ clock_in T v j valid.1 ]
 
-none_below_each : (S T : List Version) → IsVersionSet S → ((v : Version) → IsIn v T → IsIn v S) → AllByRecursion (λ v. AllByRecursion (λ w. ¬ IsBelow v w) S) T
+none_below_each : (S T : List Version) → IsVersionSet S → ((v : Version) → IsIn v T → IsIn v S)
+    → AllByRecursion (λ v. AllByRecursion (λ w. ¬ IsBelow v w) S) T
 unfolding IsIn
 none_below_each S [] set sub = tt
 none_below_each S (v ∷ T) set sub =

@@ -1,4 +1,4 @@
--- Versions, and sets of them as lists in the order of their texts: the paper of 2007, section 4.4.
+-- Versions, and sets of them as lists in the order of their texts: section 4.4 of the Dynamo paper.
 use Rattle.std.specs.Prelude.{◌≡◌, ◌≢◌, ◌⊎◌, Any, ℕ, ◌<◌, ◌^◌, ◌++◌, ◌≤◌, nat_lt, Option, Some, None, Bool, ◌&&◌, ◌||◌, not, List, [], ◌∷◌, length, filter, if◌then◌else◌}
 use Rattle.std.specs.List.{list_any, AllByRecursion, flat_map}
 use Rattle.std.specs.Int.{to_be_bytes, w16, w32, w64}

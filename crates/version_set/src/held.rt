@@ -9,7 +9,7 @@ use std::alloc::Global;
 use std::marker::Model;
 use vclock::{Clocks, Refusal};
 
-/// The versions that are held for a key: those of its set, or none if it has no set. Clauses see the list of them.
+/// The versions that are held for a key: the members of its set, or none if it has no set. Clauses see them as a list.
 ///
 /// ```
 /// receipt.key.as_slice() == key && !held.covers(&receipt.version)
@@ -29,14 +29,14 @@ impl<'a> Model for Held<'a> {
 }
 
 impl<'a> Held<'a> {
-    /// Takes a set, if there is one. Doesn't allocate.
+    /// Wraps a set, if any. Doesn't allocate.
     pub fn new(set: Option<&'a VersionSet>) -> Held<'a>
         ensures { result ≡ unwrap_or (option_map (λ s. s.now) set.entry) [] }
     {
         Held { set }
     }
 
-    /// Returns the set, if there is one. Doesn't allocate.
+    /// Returns the set, if any. Doesn't allocate.
     pub fn set(&self) -> Option<&'a VersionSet>
         ensures { unwrap_or (option_map (λ s. s.now) result) [] ≡ self.now }
     {
@@ -83,7 +83,8 @@ impl<'a> Held<'a> {
         }
     }
 
-    /// Returns true if an offer of a version is refused as Crowded: the set would have over 64 members. Doesn't allocate.
+    /// Returns true if an offer of a version is refused as Crowded: the set would have over 64 members. Doesn't
+    /// allocate.
     pub fn crowds(&self, version: &Version) -> bool
         ensures { offer_fault version.now self.now ≡ (if result then Some Refusal.Crowded else None) }
     {

@@ -1,4 +1,4 @@
-//! Versions of a key (the paper of 2007, section 4.4), and sets of versions in which no version is below another. Use
+//! Versions of a key (section 4.4 of the Dynamo paper), and sets of versions in which no version is below another. Use
 //! it to keep the concurrent versions of a key and to drop those that a later version has seen.
 //!
 //! - [`version`], [`kind`]: a version, and its kind.

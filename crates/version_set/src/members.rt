@@ -95,7 +95,7 @@ impl Members {
     }
 }
 
-/// Returns equal versions in a list that has room for `room` of them. Refused: NoMemory.
+/// Returns equal versions in a list with capacity for `room` of them. Refused: NoMemory.
 fn clone_with_room(
     alloc: Global,
     versions: &[Version],
@@ -122,7 +122,7 @@ pub(crate) fn count_kept(versions: &[Version], version: &Version) -> usize
         .count()
 }
 
-/// Reserves room for exactly one more version if all versions are kept: most sets have one version.
+/// Reserves capacity for exactly one more version if all versions are kept: most sets have one version.
 fn make_room(versions: &mut Vec<Version>, kept: usize) -> Result<(), AllocError>
     requires { kept ≤ length versions.old.items }
     ensures items { versions.new.items ≡ versions.old.items }

@@ -148,7 +148,7 @@ impl VersionSet {
     pub fn crowds(&self, version: &Version) -> bool
         ensures { offer_fault version.now self.now ≡ (if result then Some Refusal.Crowded else None) }
     {
-        // Most sets have so few members that there is room for any version.
+        // Most sets have so few members that any version fits.
         if self.as_slice().len() < VERSIONS_MAX {
             return false;
         }

@@ -81,8 +81,8 @@ impl Version {
     }
 }
 
-/// Returns the number of bytes of a key, and of a version's value and clock, at most 2^64 - 1: 10 bytes for each pair of
-/// the clock. Doesn't allocate.
+/// Returns the number of bytes of a key, and of a version's value and clock, at most 2^64 - 1: 10 bytes for each pair
+/// of the clock. Doesn't allocate.
 pub fn payload_len(key: &[u8], version: &Version) -> u64
     ensures { result ≡ min (payload_len key.now version.now) (2 ^ 64 - 1) }
 {

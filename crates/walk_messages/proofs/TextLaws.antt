@@ -9,7 +9,8 @@ use Rattle.walk_messages.specs.declared.message.Message.TheVariants as messages
 use Rattle.walk_messages.specs.Messages.{IsMessage, message_text, Decodes}
 
 -- what begins otherwise than messages do is none
-pub none_begins_so : (bytes : List ℕ) → get_or bytes 0 0 ≢ 1 → get_or bytes 0 0 ≢ 2 → get_or bytes 0 0 ≢ 3 → (m : Message) → message_text m ≡ bytes → ⊥
+pub none_begins_so : (bytes : List ℕ) → get_or bytes 0 0 ≢ 1 → get_or bytes 0 0 ≢ 2 → get_or bytes 0 0 ≢ 3 → (m : Message) → message_text m ≡ bytes
+    → ⊥
 unfolding message_text
 none_begins_so bytes one two three (messages.Offer o) e = one (sym (ap (λ (t : List ℕ). get_or t 0 0) e))
 none_begins_so bytes one two three (messages.Ask a) e = two (sym (ap (λ (t : List ℕ). get_or t 0 0) e))
@@ -27,6 +28,7 @@ abbrev none : Option Refusal
 none = None
 
 -- where an answer has these bytes, a call that takes memory fails for want of it alone
-pub wants_memory : (bytes : List ℕ) (a : Answer) (e : Refusal) → IsMessage (messages.Answer a) → message_text (messages.Answer a) ≡ bytes → ((none ≡ None) × (e ≡ NoMemory)) ⊎ (none ≡ Some e) → Decodes bytes (Err e)
+pub wants_memory : (bytes : List ℕ) (a : Answer) (e : Refusal) → IsMessage (messages.Answer a) → message_text (messages.Answer a) ≡ bytes
+    → ((none ≡ None) × (e ≡ NoMemory)) ⊎ (none ≡ Some e) → Decodes bytes (Err e)
 wants_memory bytes a e fits is (inl p) = rw p.1 (a, fits, is)
 wants_memory bytes a e fits is (inr p) = absurd (cc)

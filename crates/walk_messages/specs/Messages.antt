@@ -1,4 +1,4 @@
--- The bytes of messages: this project's profile. Numbers have their highest byte first.
+-- The bytes of messages, as docs/FORMATS.md defines them. Numbers have their highest byte first.
 use Rattle.std.specs.Prelude.{◌≡◌, ◌<◌, ◌^◌, ℕ, List, ◌∷◌, ◌++◌, length, Result, Ok, Err}
 use Rattle.std.specs.Int.{w16, w32, w64, to_be_bytes}
 use Rattle.vclock.specs.declared.refusal.Refusal.{Refusal}
@@ -33,10 +33,10 @@ Decodes bytes (Err refusals.BadMessage) = (m : Message) → IsMessage m → mess
 Decodes bytes (Err refusals.NoMemory) = (a : Answer) × IsMessage (messages.Answer a) × (message_text (messages.Answer a) ≡ bytes)
 Decodes bytes (Err e) = ⊥
 
--- the bytes are those of an answer
+-- the bytes encode an answer
 abbrev pub IsAnswerOf : List ℕ → Answer → Type 0
 IsAnswerOf bytes a = IsMessage (messages.Answer a) × (message_text (messages.Answer a) ≡ bytes)
 
--- they are those of none
+-- the bytes encode no answer
 abbrev pub IsNoAnswer : List ℕ → Type 0
 IsNoAnswer bytes = (a : Answer) → IsMessage (messages.Answer a) → message_text (messages.Answer a) ≡ bytes → ⊥

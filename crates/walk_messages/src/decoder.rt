@@ -1,4 +1,4 @@
-//! Reading messages, whose bytes this project's profile defines.
+//! Reading messages, as docs/FORMATS.md defines their bytes.
 ghost use Rattle.std.specs.Prelude.{◌∷◌, MatchOption};
 ghost use Rattle.walk_messages.specs.Messages.{Decodes, IsAnswerOf, IsNoAnswer};
 
@@ -23,8 +23,8 @@ pub fn decode(alloc: Global, bytes: &[u8]) -> Result<Message, Refusal>
     }
 }
 
-/// Returns the number of the offer and the node of the answer that has exactly these bytes, and its text, without a
-/// copy. Returns `None` if the bytes aren't an answer.
+/// Returns the offer's number, the node and the text of the answer with exactly these bytes, without a copy. Returns
+/// `None` if the bytes aren't an answer.
 #[tactic(auto, unfolding(crate::specs::Messages::message_text))]
 pub fn answer_parts(bytes: &[u8]) -> Option<(Ask, &[u8])>
     ensures { MatchOption result (IsNoAnswer bytes.now)
@@ -58,7 +58,7 @@ fn decode_ask(fields: &[u8]) -> Result<Message, Refusal>
     }
 }
 
-/// Reads the answer with these fields.
+/// Reads an answer from its fields.
 #[tactic(auto, unfolding(crate::specs::Messages::message_text))]
 fn decode_answer(alloc: Global, fields: &[u8]) -> Result<Message, Refusal>
     ensures { Decodes (3 ∷ fields.now) result }

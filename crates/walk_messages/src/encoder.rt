@@ -1,4 +1,4 @@
-//! Writing messages, whose bytes this project's profile defines.
+//! Writing messages, as docs/FORMATS.md defines their bytes.
 ghost use Rattle.std.specs.Prelude.{◌≡◌, ◌++◌, ◌≤◌, ◌^◌, ◌∷◌, length, None, OnOk, MatchOption};
 ghost use Rattle.std.specs.Int.{w32, w64, to_be_bytes};
 ghost use Rattle.vclock.specs.Answer.{Answers};

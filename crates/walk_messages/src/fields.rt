@@ -74,7 +74,7 @@ fn text_len_at(bytes: &[u8]) -> Option<(u64, &[u8])>
     Some((u64::from_be_bytes(*number), rest))
 }
 
-/// Returns the text after its length, or `None` if the length isn't that of the text.
+/// Returns the text after its length, or `None` if the length isn't the text's.
 fn text_of(bytes: &[u8]) -> Option<&[u8]>
     ensures { MatchOption result ((text : List ℕ) → bytes.now ≡ to_be_bytes w64 (length text) ++ text → ⊥) (λ text. bytes.now ≡ to_be_bytes w64 (length text.now) ++ text.now) }
 {

@@ -1,5 +1,5 @@
-//! The messages of a session of anti-entropy (the paper of 2007, section 4.7) between two replicas, as bytes. Use it to
-//! write and read offers, asks and answers.
+//! The messages of a session of anti-entropy (section 4.7 of the Dynamo paper) between two replicas, as bytes. Use it
+//! to write and read offers, asks and answers.
 //!
 //! - [`message`]: offers of a root, asks for a node's text, and answers.
 //! - [`encoder`], [`decoder`]: writing messages as bytes, and reading them.

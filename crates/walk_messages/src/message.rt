@@ -1,4 +1,4 @@
-//! Messages, whose bytes this project's profile defines.
+//! Messages, as docs/FORMATS.md defines their bytes.
 use tree_nodes::{Digest, NodeAt, Text};
 
 /// The offer of a replica's tree, by the digest of its root: the first message of a sync. A partner with another root

@@ -1,14 +1,14 @@
 //! The pace of calls.
 use std::time::Duration;
 
-/// A number of calls, and the nanoseconds that they took together.
+/// A number of calls, and their total time in nanoseconds.
 #[derive(Clone, Copy, Default)]
 pub(crate) struct Pace {
     pub(crate) calls: u64,
     nanos: u128,
 }
 
-/// The pace of each call. A call that was not made has the pace of no call.
+/// The pace of each call. A call that wasn't made has a pace of 0 calls.
 #[derive(Clone, Copy, Default)]
 pub(crate) struct Paces {
     /// Puts of new keys.
@@ -25,12 +25,12 @@ pub(crate) struct Paces {
     pub(crate) rehashes: Pace,
     /// Snapshots.
     pub(crate) snapshots: Pace,
-    /// Syncs in which another replica took one key.
+    /// Syncs by which another replica took one key.
     pub(crate) syncs: Pace,
 }
 
 impl Pace {
-    /// Returns the pace of a number of calls, and the time that they took together.
+    /// Returns the pace of a number of calls, from their total time.
     pub(crate) fn new(calls: u64, took: Duration) -> Pace {
         Pace {
             calls,

@@ -1,4 +1,4 @@
-//! Calls that are made for all keys, one after another.
+//! Calls that are made for all keys in turn.
 use crate::calls::pace::Pace;
 use crate::calls::plan::CallPlan;
 use crate::calls::round::Round;
@@ -11,7 +11,7 @@ use std::time::{Clock, Instant};
 use vclock::Refusal;
 use version_set::{Kind, Version};
 
-/// The node where keys are put.
+/// The node at which keys are put.
 const NODE: u16 = 1;
 
 /// A call that is made for all keys.

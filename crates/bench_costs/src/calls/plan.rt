@@ -17,8 +17,8 @@ pub(crate) struct CallPlan {
 }
 
 impl CallPlan {
-    /// Returns the plan of these words, or `None` if they are wrong: the number of keys, 1,000 by default, and the
-    /// words of the shape.
+    /// Returns the plan from these arguments, or `None` if they are invalid: the number of keys, 1,000 by default, and
+    /// the arguments of the shape.
     pub(crate) fn of_words(words: &[String]) -> Option<CallPlan> {
         match words {
             [] => CallPlan::new(FEW_KEYS, PLAIN),
@@ -28,7 +28,7 @@ impl CallPlan {
         }
     }
 
-    /// Returns a plan if it has a key, and a journal has room for all keys and for those of the turns.
+    /// Returns a plan if it has a key, and a journal has capacity for all keys and the keys of the turns.
     fn new(keys: u64, shape: Shape) -> Option<CallPlan> {
         if 1 <= keys && keys <= ENTRIES_MAX - TURNS {
             Some(CallPlan { keys, shape })
@@ -37,7 +37,7 @@ impl CallPlan {
         }
     }
 
-    /// Returns the round in which the keys are last written: the second, if a journal has room for two versions of
+    /// Returns the round in which the keys are last written: the second, if a journal has capacity for two versions of
     /// each.
     pub(crate) fn last_round(&self) -> Round {
         if self.keys <= (ENTRIES_MAX - TURNS) / 2 {

@@ -1,4 +1,4 @@
-//! Turns, in each of which one key goes from one replica to the other.
+//! Turns. In each turn, one key goes from one replica to the other.
 use crate::calls::pace::Paces;
 use crate::calls::phase::put;
 use crate::calls::plan::{CallPlan, TURNS};
@@ -25,7 +25,7 @@ pub(crate) fn run_turns(
 ) -> Result<(), Fault> {
     let mut latest = snapshot(alloc, first)?;
     for turn in 0..TURNS {
-        // (after the numbers of all keys, and of all values)
+        // (a number after the numbers of all keys and of all values)
         let number = plan.keys.wrapping_mul(2).wrapping_add(turn);
         offer_key(rt, alloc, first, plan.shape, number, &mut latest, paces)?;
         take_key(rt, alloc, second, plan.shape, &latest, paces)?;
@@ -57,7 +57,7 @@ fn offer_key(
     Ok(())
 }
 
-/// Takes over the one key that the range lacks and a snapshot has, and rehashes.
+/// Takes over the one key of a snapshot that is missing from the range, and rehashes.
 fn take_key(
     rt: &(impl Threads + Clock + Sync),
     alloc: Global,

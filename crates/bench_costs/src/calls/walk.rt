@@ -1,4 +1,4 @@
-//! A sync by messages, whose bytes go over memory.
+//! A sync by messages, whose bytes stay in memory.
 use range_state::{AnswerTaken, RangeState};
 use snapshot::Snapshot;
 use std::alloc::Global;
@@ -45,7 +45,7 @@ impl Walk {
     }
 }
 
-/// Has a range take over the versions that a snapshot has and it lacks. Refused as the calls of a session are.
+/// Has a range take over the versions of a snapshot that the range is missing. Refused as the calls of a session are.
 pub(crate) fn sync(
     alloc: Global,
     range: &mut RangeState,
@@ -74,7 +74,7 @@ fn start(alloc: Global, range: &mut RangeState, bytes: &[u8]) -> Result<u64, Ref
     }
 }
 
-/// Returns the bytes of the answer to those of an ask. Refused: BadMessage, NoMemory.
+/// Returns the bytes of the answer to the bytes of an ask. Refused: BadMessage, NoMemory.
 fn serve(alloc: Global, snapshot: &Snapshot, bytes: &[u8]) -> Result<Vec<u8>, Refusal> {
     let message = decode(alloc, bytes)?;
     let Message::Ask(ask) = &message else {

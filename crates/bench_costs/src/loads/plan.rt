@@ -4,24 +4,24 @@ ghost use Rattle.std.specs.Prelude.{◌≤◌};
 use crate::entries::Shape;
 use std::time::Duration;
 
-/// The maximum number of keys. A journal has room for 1,000,000 entries, so 900,000 keys leave some for the puts.
+/// The maximum number of keys. A journal takes 1,000,000 entries, so 900,000 keys leave some for the puts.
 const KEYS_MAX: u64 = 900_000;
 
 /// The maximum number of puts.
 const PUTS_MAX: u64 = 1_000_000;
 
-/// The worker beside the puts.
+/// The worker alongside the puts.
 #[derive(Clone, Copy, PartialEq, Eq)]
 pub(crate) enum Worker {
     /// It makes no snapshot.
     Nothing,
     /// It holds moments, hashes them, and makes their snapshots.
     Moments,
-    /// It hashes dirty nodes until there are none, and then makes a snapshot.
+    /// It hashes dirty nodes until all are clean, then makes a snapshot.
     Rounds,
 }
 
-/// The number of keys and their shape, the pace and the number of the puts, and the worker beside them.
+/// The number of keys and their shape, the pace and the number of the puts, and the worker alongside.
 #[derive(Clone, Copy)]
 pub(crate) struct LoadPlan {
     pub(crate) keys: u64,
@@ -34,7 +34,7 @@ pub(crate) struct LoadPlan {
 }
 
 impl Worker {
-    /// Returns the worker that a word names.
+    /// Returns the worker named by an argument.
     fn of_word(word: &str) -> Option<Worker> {
         match word {
             "nothing" => Some(Worker::Nothing),
@@ -46,8 +46,8 @@ impl Worker {
 }
 
 impl LoadPlan {
-    /// Returns the plan of these words, or `None` if they are wrong: the number of keys, that of the puts in a second,
-    /// the number of seconds, the worker, and the words of the shape.
+    /// Returns the plan from these arguments, or `None` if they are invalid: the number of keys, the number of puts in
+    /// a second, the number of seconds, the worker, and the arguments of the shape.
     pub(crate) fn of_words(words: &[String]) -> Option<LoadPlan> {
         let [keys, puts_per_s, seconds, worker, shape @ ..] = words else {
             return None;
@@ -74,7 +74,7 @@ impl LoadPlan {
         Duration::from_nanos(number.saturating_mul(1_000_000_000) / self.puts_per_s)
     }
 
-    /// Returns the number of the key that a random number draws.
+    /// Returns the number of the key for a random number.
     pub(crate) fn draw(&self, random: u64) -> u64 {
         (random >> 33) % self.keys
     }

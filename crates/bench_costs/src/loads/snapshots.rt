@@ -1,4 +1,4 @@
-//! A worker that makes snapshots beside the puts.
+//! A worker that makes snapshots alongside the puts.
 use crate::fault::Fault;
 use crate::loads::plan::{LoadPlan, Worker};
 use crate::loads::writer::wait_until;
@@ -11,7 +11,7 @@ use std::sync::{Mutex, Wait};
 use std::time::{Clock, Duration, Instant};
 use vclock::Refusal;
 
-/// The time from the begin of one snapshot to that of the next, in milliseconds.
+/// The time from the start of one snapshot to the start of the next, in milliseconds.
 const PERIOD: u64 = 500;
 
 /// The maximum number of snapshots.
@@ -23,7 +23,7 @@ const ROUNDS_MAX: u64 = 1_000_000;
 /// More turns than any worker needs.
 const TURNS: u64 = 1_000_000;
 
-/// Makes snapshots until the puts end, and returns how long each took.
+/// Makes snapshots until the puts end, and returns the time that each took.
 pub(crate) fn make_snapshots<L: Ledger, C: Ledger, R: Wait + Clock>(
     rt: &R,
     alloc: Global,
@@ -64,7 +64,7 @@ fn make<L: Ledger, C: Ledger, R: Wait>(
         Worker::Nothing => Ok(false),
         Worker::Moments => {
             let report = range.moment_worker(rt, alloc, slot, &OpenGate, TURNS)?;
-            // (its rows are freed with the snapshot, and not under the lock by the next one)
+            // (its rows are freed with the snapshot, not by the next one under the lock)
             range.drop_moment(rt);
             Ok(report.snapshot.is_some())
         }

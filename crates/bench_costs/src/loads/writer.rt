@@ -24,7 +24,7 @@ pub(crate) struct Counters {
 }
 
 impl Counters {
-    /// Returns counters of no put.
+    /// Returns counters of 0.
     pub(crate) fn new(alloc: Global, keys: u64) -> Result<Counters, Refusal> {
         let mut puts = Vec::new(alloc);
         puts.resize(keys as usize, 0)?;
@@ -59,7 +59,7 @@ pub(crate) fn fill<L: Ledger, R: Wait>(
     Ok(())
 }
 
-/// Puts keys at the pace, and returns how long each put took with its wait for the lock.
+/// Puts keys at the pace, and returns the time that each put took, with its wait for the lock.
 pub(crate) fn write_keys<L: Ledger, R: Wait + Clock>(
     rt: &R,
     alloc: Global,

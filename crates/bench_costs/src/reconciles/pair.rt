@@ -8,7 +8,7 @@ use vclock::{Format, Refusal};
 /// The depth of the leaves in format 1.
 const LEAF_DEPTH: u8 = 2;
 
-/// Two replicas of a range, at the nodes 1 and 2, and the number of the next key.
+/// Two replicas of a range, at nodes 1 and 2, and the number of the next key.
 pub(crate) struct Pair {
     a: RangeState,
     b: RangeState,
@@ -16,7 +16,7 @@ pub(crate) struct Pair {
 }
 
 impl Pair {
-    /// Returns two ranges with the same keys, of this number.
+    /// Returns two ranges with this number of keys, the same in both.
     pub(crate) fn new(alloc: Global, keys: u64) -> Result<Pair, Refusal> {
         let mut a = new_range(alloc, Format::One)?;
         let mut b = new_range(alloc, Format::One)?;
@@ -27,7 +27,7 @@ impl Pair {
         Ok(Pair { a, b, next: keys })
     }
 
-    /// Gives each a number of keys that the other lacks, and then each node its digest.
+    /// Gives each a number of keys that the other doesn't have, then each node its digest.
     pub(crate) fn part(
         &mut self,
         rt: &(impl Threads + Sync),
@@ -43,12 +43,13 @@ impl Pair {
         rehash(rt, alloc, &mut self.b)
     }
 
-    /// Reconciles the replicas, which then hold equal versions.
+    /// Reconciles the replicas, which hold equal versions afterwards.
     pub(crate) fn reconcile(&mut self, alloc: Global) -> Result<Reconciled, Refusal> {
         reconcile_both(alloc, &mut self.a, &mut self.b)
     }
 
-    /// Returns the number of leaves that differed in the last call of `reconcile`: those that the first replica asked.
+    /// Returns the number of leaves that differed in the last call of `reconcile`: the leaves that the first replica
+    /// asked.
     pub(crate) fn leaves(&self) -> u64 {
         let Some(record) = self.a.records().last() else {
             return 0;

@@ -6,9 +6,9 @@ use std::time::{Duration, Instant};
 /// A writer's noted puts.
 #[derive(Clone, Copy)]
 struct Writer {
-    /// The number of its puts that were noted.
+    /// The number of its noted puts.
     puts: u64,
-    /// The time when it went on after the last of them.
+    /// The time at which it continued after the last of them.
     since: Option<Instant>,
 }
 
@@ -38,7 +38,7 @@ impl Writer {
 }
 
 impl Latencies {
-    /// Returns latencies of no put, with memory for this number of puts.
+    /// Returns empty latencies, with capacity for this number of puts.
     pub(crate) fn new(alloc: Global, puts: usize) -> Result<Latencies, AllocError> {
         Ok(Latencies {
             one: Writer::new(),
@@ -48,8 +48,8 @@ impl Latencies {
     }
 
     /// Notes that a writer ended a put at a moment, after which both have done this number of puts. Returns true if it
-    /// was the first writer: one whose put was not noted yet. If both have such a put it may be either, because both
-    /// ended theirs at about this time.
+    /// was the first writer, which has a put that wasn't noted yet. If both have one, it may be either, since both puts
+    /// ended at about this time.
     pub(crate) fn note(&mut self, ended: Instant, puts_of_one: u64) -> bool {
         let is_one = puts_of_one > self.one.puts;
         let writer = if is_one { &mut self.one } else { &mut self.two };
@@ -59,7 +59,7 @@ impl Latencies {
         is_one
     }
 
-    /// Notes that a writer goes on at a moment.
+    /// Notes that a writer continues at a moment.
     pub(crate) fn go_on(&mut self, is_one: bool, moment: Option<Instant>) {
         let writer = if is_one { &mut self.one } else { &mut self.two };
         writer.since = moment;

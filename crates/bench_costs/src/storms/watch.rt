@@ -12,9 +12,9 @@ use storm::Tallies;
 /// The maximum number of times that a worker checks whether both writers have ended, once a millisecond.
 const LOOKS_MAX: u64 = 60_000;
 
-/// A gate that notes how long each put of a storm takes, with the making of its key and value: from the time when its
-/// writer has passed the gate to the time when it reaches the gate again. If the workers are to run after the writers
-/// have ended, the gate holds them until then, for at most a minute.
+/// A gate that notes the time of each put of a storm, which includes making its key and value: from the time at which
+/// its writer has passed the gate to the time at which it reaches the gate again. If the workers are to run after the
+/// writers, the gate holds them until the writers have ended, for at most a minute.
 #[derive(Drop)]
 pub(crate) struct Watch<'a, R: Clock> {
     clock: &'a R,
@@ -46,7 +46,7 @@ impl<'a, R: Clock> Watch<'a, R> {
         self.latencies.into_inner().into_times()
     }
 
-    /// Notes a put. The time that this takes is not part of the next put's.
+    /// Notes a put. The time that this takes isn't part of the next put's time.
     fn note_put<W: Wait>(&self, rt: &W) {
         let Ok(ended) = Instant::now(self.clock) else {
             return;

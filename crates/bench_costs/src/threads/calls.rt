@@ -29,7 +29,7 @@ impl Starts {
     }
 }
 
-/// Puts the keys of a part into a range, and gets them again. Each phase begins when all threads have reached it.
+/// Puts the keys of a part into a range, and gets them. Each phase begins when all threads have reached it.
 pub(crate) fn put_and_get<L: Ledger, R: Wait + Clock>(
     rt: &R,
     alloc: Global,

@@ -16,7 +16,7 @@ pub(crate) enum Sharing {
     Each,
 }
 
-/// The number of keys that are written, their shape, the number of threads, and the ranges.
+/// The number of keys to write, their shape, the number of threads, and the ranges.
 #[derive(Clone, Copy)]
 pub(crate) struct ThreadPlan {
     pub(crate) keys: u64,
@@ -27,7 +27,7 @@ pub(crate) struct ThreadPlan {
     ghost few: { threads ≤ 8 },
 }
 
-/// The keys of a thread: those of the numbers from one on, and below another.
+/// The keys of a thread, numbered `from..to`.
 #[derive(Clone, Copy)]
 pub(crate) struct Part {
     pub(crate) from: u64,
@@ -36,7 +36,7 @@ pub(crate) struct Part {
 }
 
 impl Sharing {
-    /// Returns the sharing that a word names.
+    /// Returns the sharing named by an argument.
     fn of_word(word: &str) -> Option<Sharing> {
         match word {
             "one" => Some(Sharing::One),
@@ -47,8 +47,8 @@ impl Sharing {
 }
 
 impl ThreadPlan {
-    /// Returns the plan of these words, or `None` if they are wrong: the number of keys, the number of threads, `one`
-    /// or `each`, and the words of the shape.
+    /// Returns the plan from these arguments, or `None` if they are invalid: the number of keys, the number of threads,
+    /// `one` or `each`, and the arguments of the shape.
     pub(crate) fn of_words(words: &[String]) -> Option<ThreadPlan> {
         let [keys, threads, sharing, shape @ ..] = words else {
             return None;
@@ -83,7 +83,7 @@ impl ThreadPlan {
         }
     }
 
-    /// Returns the part of a thread, which is known by its number, from 0. A number past the last thread has no keys.
+    /// Returns the part of a thread by its number, from 0. A number past the last thread has no keys.
     pub(crate) fn part(&self, number: u16) -> Part {
         Part {
             from: self.of_first(number),
@@ -92,7 +92,7 @@ impl ThreadPlan {
         }
     }
 
-    /// Returns the number of keys that the first threads have together.
+    /// Returns the number of keys of the first threads.
     fn of_first(&self, threads: u16) -> u64 {
         let threads = u64::from(threads.min(self.threads));
         threads.saturating_mul(self.keys) / u64::from(self.threads)

@@ -35,7 +35,7 @@ struct Returned<L: Ledger> {
 }
 
 impl Done {
-    /// Returns both together.
+    /// Returns both results, combined.
     fn and(self, other: Done) -> Done {
         Done {
             spans: self.spans.cover(other.spans),
@@ -111,7 +111,7 @@ fn gather<L: Ledger>(
     Ok((passes, spans.ok_or(Fault::NotTogether)?))
 }
 
-/// Returns the spans that cover both, or the others if there are no spans yet.
+/// Returns the spans that cover both, or `others` if `spans` is `None`.
 fn covered(spans: Option<Spans>, others: Spans) -> Spans {
     match spans {
         Some(spans) => spans.cover(others),
@@ -119,7 +119,7 @@ fn covered(spans: Option<Spans>, others: Spans) -> Spans {
     }
 }
 
-/// Runs a thread on the range that all share. Its part is that of its seat.
+/// Runs a thread on the range that all share. Its seat gives its part.
 fn run_with<L: Ledger, R: Wait + Clock>(
     rt: &R,
     alloc: Global,

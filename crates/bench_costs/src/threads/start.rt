@@ -1,12 +1,12 @@
-//! A line where threads wait for one another.
+//! A line at which threads wait for one another.
 use crate::fault::Fault;
 use std::sync::{Condvar, Mutex, Wait};
 use std::time::{Clock, Duration};
 
-/// The time that a thread waits for the others, in seconds. A thread that could not be made never arrives.
+/// The time that a thread waits for the others, in seconds. A thread that couldn't be spawned never arrives.
 const PATIENCE: u64 = 30;
 
-/// A line where threads wait until all have arrived.
+/// A line at which threads wait until all have arrived.
 #[derive(Drop)]
 pub(crate) struct StartLine {
     threads: u16,
@@ -15,7 +15,7 @@ pub(crate) struct StartLine {
 }
 
 impl StartLine {
-    /// Returns a line for this number of threads, none of which has arrived.
+    /// Returns a line for this number of threads, before any of them arrives.
     pub(crate) fn new(threads: u16) -> StartLine {
         StartLine {
             threads,

@@ -1,4 +1,4 @@
-//! Renewals beside the puts.
+//! Renewals alongside puts.
 use crate::core_calls::moments::held_range;
 use crate::core_calls::ranges::put_at;
 use crate::lines::{show, unchanged};
@@ -11,7 +11,7 @@ use vclock::Refusal;
 /// The limit of the new ranges.
 const LIMIT: u64 = 100;
 
-/// Shows the calls of a renewal beside the puts.
+/// Shows the calls of a renewal alongside puts.
 pub(crate) fn show_all<R: Print + AllocGlobal + Threads + Sync>(rt: &R) -> io::Result<()> {
     let alloc = rt.alloc();
     show(
@@ -23,19 +23,19 @@ pub(crate) fn show_all<R: Print + AllocGlobal + Threads + Sync>(rt: &R) -> io::R
     show(rt, "Renewal::finish", finish(rt, alloc))
 }
 
-/// Makes a new range of a moment, and returns its number of entries.
+/// Makes a new range from a moment, and returns its number of entries.
 fn begin(rt: &(impl Threads + Sync), alloc: Global) -> Result<u64, Refusal> {
     let state = held_range(rt, alloc)?;
     let renewal = begun(alloc, &state)?;
     Ok(renewal.state().journal().len())
 }
 
-/// Makes a new range of the moment of a range.
+/// Makes a new range from a range's moment.
 fn begun(alloc: Global, state: &RangeState) -> Result<Renewal, Refusal> {
     state.begin_renewal(alloc)?.renewal(alloc, 0, LIMIT)
 }
 
-/// Returns a range after a put, and a renewal that lacks the put.
+/// Returns a range after a put, and a renewal without the put.
 fn late_renewal(
     rt: &(impl Threads + Sync),
     alloc: Global,
@@ -46,7 +46,7 @@ fn late_renewal(
     Ok((state, renewal))
 }
 
-/// Catches up with the put, and returns the number of entries that are left.
+/// Catches up with the put, and returns the number of entries left.
 fn catch_up(rt: &(impl Threads + Sync), alloc: Global) -> Result<u64, Refusal> {
     let (state, mut renewal) = late_renewal(rt, alloc)?;
     let before = renewal.state().journal().len();
@@ -59,7 +59,7 @@ fn catch_up(rt: &(impl Threads + Sync), alloc: Global) -> Result<u64, Refusal> {
     }
 }
 
-/// Finishes such a renewal, and returns the number of the new range's entries.
+/// Finishes the renewal, and returns the number of the new range's entries.
 fn finish(rt: &(impl Threads + Sync), alloc: Global) -> Result<u64, Refusal> {
     let (mut state, renewal) = late_renewal(rt, alloc)?;
     let before = renewal.state().journal().len();

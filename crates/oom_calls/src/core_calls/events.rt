@@ -41,7 +41,7 @@ fn event(alloc: Global, at: usize) -> Result<Event, Refusal> {
     }
 }
 
-/// All events but the one at a place.
+/// Returns all events except the one at a place.
 fn events_without(alloc: Global, left_out: usize) -> Result<Vec<Event>, Refusal> {
     let mut events = Vec::new(alloc);
     for at in 0..COUNT {
@@ -52,8 +52,8 @@ fn events_without(alloc: Global, left_out: usize) -> Result<Vec<Event>, Refusal>
     Ok(events)
 }
 
-/// Runs the events, and returns the number that were done. An event that is refused for want of memory changes nothing,
-/// and the others are run.
+/// Runs the events, and returns the number that were done. An event that is refused as NoMemory changes nothing, and
+/// the others are run.
 fn run(alloc: Global) -> Result<u64, Refusal> {
     let mut state = range(alloc)?;
     let events = events_without(alloc, COUNT)?;
@@ -66,7 +66,7 @@ fn run(alloc: Global) -> Result<u64, Refusal> {
     }
 }
 
-/// Returns true if an event was not refused.
+/// Returns true if an event wasn't refused.
 fn is_done(reply: &Reply) -> bool {
     matches!(
         reply,
@@ -78,7 +78,7 @@ fn is_done(reply: &Reply) -> bool {
     )
 }
 
-/// Returns true if an event was refused for want of memory.
+/// Returns true if an event was refused as NoMemory.
 fn wanted_memory(reply: &Reply) -> bool {
     matches!(
         reply,
@@ -90,8 +90,7 @@ fn wanted_memory(reply: &Reply) -> bool {
     )
 }
 
-/// Returns true if a range has run all events but the one at a place, and that one alone was refused for want of
-/// memory.
+/// Returns true if a range has run all events except the one at a place, and only that one was refused as NoMemory.
 fn is_without(
     alloc: Global,
     state: &RangeState,

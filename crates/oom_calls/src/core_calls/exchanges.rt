@@ -53,8 +53,8 @@ fn open(rt: &(impl Threads + Sync), alloc: Global, partner: &Snapshot) -> Result
     }
 }
 
-/// Takes all that a partner has, and returns the number of versions accepted. An answer that there is no memory for
-/// leaves the range as it is, and stops the asks.
+/// Takes all versions of a partner, and returns the number of versions accepted. If the memory for an answer is
+/// refused, the range is unchanged and the asks stop.
 fn take(rt: &(impl Threads + Sync), alloc: Global, partner: &Snapshot) -> Result<u64, Refusal> {
     let mut state = held_range(rt, alloc)?;
     let mut exchange = Exchange::open(alloc, &mut state, 2, partner.offer(1), BOUNDS)?;
@@ -73,7 +73,7 @@ fn take(rt: &(impl Threads + Sync), alloc: Global, partner: &Snapshot) -> Result
     Ok(exchange.tally().accepted)
 }
 
-/// Sees all that a partner has by a dry exchange, and returns the number of asks.
+/// Sees all versions of a partner in a dry exchange, and returns the number of asks.
 fn take_dry(alloc: Global, both: &Snapshots) -> Result<u64, Refusal> {
     let (own, partner) = (Arc::try_clone(&both.own)?, &both.partner);
     let mut exchange = DryExchange::open(alloc, own, partner.offer(1), BOUNDS)?;
@@ -90,7 +90,7 @@ fn take_dry(alloc: Global, both: &Snapshots) -> Result<u64, Refusal> {
     Ok(exchange.tally().asks)
 }
 
-/// Makes the outline of the root, the partner's patch for it, and the text that this makes. Returns the length of the
+/// Makes the outline of the root, the partner's patch for it, and the text from the patch. Returns the length of the
 /// text.
 fn take_patch(alloc: Global, both: &Snapshots) -> Result<u64, Refusal> {
     let ask = Ask {

@@ -59,7 +59,7 @@ fn is_same_hint(hint: &Hint, other: &Hint) -> bool {
         && hint.version.same(&other.version)
 }
 
-/// Keeps hints until the store has had to grow.
+/// Keeps hints until the store has grown.
 fn keep(alloc: Global) -> Result<u64, Refusal> {
     let mut store = HintStore::new(alloc);
     for owner in 1..=HINTS {
@@ -84,7 +84,7 @@ fn next_of(alloc: Global) -> Result<u64, Refusal> {
     }
 }
 
-/// Renews a store of three hints whose first is delivered, and returns the number of hints that are pending then.
+/// Renews a store of three hints whose first is delivered, and returns the number of pending hints afterwards.
 fn renew(alloc: Global) -> Result<u64, Refusal> {
     let mut store = store_before(alloc, 4)?;
     let hint = store.next(alloc, 1, 0)?.ok_or(Refusal::Stale)?;

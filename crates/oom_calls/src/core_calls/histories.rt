@@ -17,7 +17,7 @@ pub(crate) fn show_all<R: Print + AllocGlobal>(rt: &R) -> io::Result<()> {
     show(rt, "held_in", held(alloc))
 }
 
-/// Appends a version that one node alone has counted.
+/// Appends a version that only one node has counted.
 fn append_of(alloc: Global, journal: &mut Journal, node: u64) -> Result<u64, Refusal> {
     let key = Bytes::copy_of(alloc, b"a")?;
     journal.append(0, Source::Client, key, version(alloc, node)?)
@@ -32,14 +32,14 @@ fn journal_before(alloc: Global, node: u64) -> Result<Journal, Refusal> {
     Ok(journal)
 }
 
-/// Returns true if a journal has the versions of the nodes before this one, and the room left by them.
+/// Returns true if a journal has the versions of the nodes before this one, and the remaining capacity.
 fn is_before(alloc: Global, journal: &Journal, node: u64) -> Result<bool, Refusal> {
     let other = journal_before(alloc, node)?;
     let (entries, others) = (journal.entries(), other.entries());
     Ok(begins(entries, others) && begins(others, entries) && journal.room() == other.room())
 }
 
-/// Appends entries until the journal has had to grow.
+/// Appends entries until the journal has grown.
 fn append(alloc: Global) -> Result<u64, Refusal> {
     let mut journal = Journal::new(alloc, 1_000);
     for node in 1..9u64 {

@@ -11,7 +11,7 @@ use std::io;
 use vclock::{Bytes, Format, Refusal, check_key};
 use version_set::Version;
 
-/// The keys, of one byte each, that are offered a version one after the other.
+/// The keys, of one byte each, that are offered a version in turn.
 const KEYS: &[u8] = b"acabeda";
 
 /// Shows the calls on shared leaves.
@@ -64,7 +64,7 @@ fn offer_to(alloc: Global, leaf: &mut SharedLeaf, key: u8) -> Result<(), Refusal
     leaf.offer(alloc, &key, version)
 }
 
-/// Returns a leaf in which a version was offered to each of these keys.
+/// Returns a leaf in which each of these keys was offered a version.
 pub(crate) fn leaf_of(alloc: Global, keys: &[u8]) -> Result<SharedLeaf, Refusal> {
     let mut leaf = SharedLeaf::empty(Format::One);
     for key in keys {
@@ -80,7 +80,7 @@ fn text_of(alloc: Global, leaf: &SharedLeaf) -> Result<Vec<u8>, Refusal> {
     Ok(text)
 }
 
-/// Returns true if a leaf has the rows of one in which a version was offered to each of these keys: leaves with equal
+/// Returns true if a leaf has the rows of one in which each of these keys was offered a version. Leaves with equal
 /// texts have equal rows.
 fn is_leaf_of(alloc: Global, leaf: &SharedLeaf, keys: &[u8]) -> Result<bool, Refusal> {
     let other = leaf_of(alloc, keys)?;
@@ -89,7 +89,7 @@ fn is_leaf_of(alloc: Global, leaf: &SharedLeaf, keys: &[u8]) -> Result<bool, Ref
     Ok(is_same && leaf.is_text(&text))
 }
 
-/// Offers a version to each key from a place on, if it was offered to those before it.
+/// Offers a version to each key from a place on, if the keys before it were offered one.
 fn grow(alloc: Global, leaf: &mut SharedLeaf, keys: &[u8], from: usize) -> Result<u64, Refusal> {
     for (at, key) in keys.iter().enumerate().skip(from) {
         if let Err(refusal) = offer_to(alloc, leaf, *key) {
@@ -116,7 +116,7 @@ fn offer_to_a_copy(alloc: Global) -> Result<u64, Refusal> {
     }
 }
 
-/// Offers more rows than a chunk holds: a chunk of 15 rows is split before one more.
+/// Offers more rows than a chunk holds: a chunk of 15 rows is split before it takes one more.
 fn offer_to_a_full_chunk(alloc: Global) -> Result<u64, Refusal> {
     let mut keys = Vec::with_capacity(alloc, 129)?;
     for key in 0..129u8 {

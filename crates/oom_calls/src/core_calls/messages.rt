@@ -6,7 +6,7 @@ use tree_nodes::{NodeAt, Text};
 use vclock::Refusal;
 use walk_messages::{Answer, Message, decode, encode};
 
-/// An answer for the root of offer 1. Its text is too long for a `Bytes` to hold without memory of its own.
+/// An answer for the root of offer 1. Its text is too long for a `Bytes` that doesn't allocate.
 const ROOT_ANSWER: &[u8] =
     b"\x03\x00\x00\x00\x01\x00\x00\x00\x00\x00\x00\x00\x00\x00\x00\x17more than sixteen bytes";
 

@@ -74,8 +74,8 @@ fn take_jobs(rt: &(impl Threads + Sync), alloc: Global) -> Result<u64, Refusal> 
     Ok(state.take_moment_jobs(alloc, 20)?.len() as u64)
 }
 
-/// Hashes the leaf of such a moment as a portion, and then the node above it. Returns the number of nodes that are dirty
-/// then.
+/// Hashes the leaf of such a moment as a portion, then the node above it. Returns the number of nodes that are still
+/// dirty.
 fn hash(rt: &(impl Threads + Sync), alloc: Global) -> Result<u64, Refusal> {
     let mut state = dirty_moment(rt, alloc)?;
     let mut portion = state.take_portion(alloc, 20)?;
@@ -93,7 +93,7 @@ fn offer(rt: &(impl Threads + Sync), alloc: Global) -> Result<u64, Refusal> {
     Ok(u64::from(state.snapshot_of(alloc, LocalRows::Moment)?.bits()))
 }
 
-/// Opens sessions at the moment of a range until its records have had to grow.
+/// Opens sessions at the moment of a range until its records have grown.
 fn open(rt: &(impl Threads + Sync), alloc: Global, partner: &Snapshot) -> Result<u64, Refusal> {
     let mut state = held_range(rt, alloc)?;
     for sessions in 0..6usize {

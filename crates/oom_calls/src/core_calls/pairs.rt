@@ -14,7 +14,7 @@ pub(crate) fn show_all<R: Print + AllocGlobal + Threads + Sync>(rt: &R) -> io::R
     show(rt, "reconcile", reconcile_pair(rt, rt.alloc()))
 }
 
-/// Returns a range with a version of a key, which one node alone has counted, whose nodes are all clean.
+/// Returns a range with a version of a key that only one node has counted. All nodes of its tree are clean.
 fn range(
     rt: &(impl Threads + Sync),
     alloc: Global,
@@ -34,7 +34,7 @@ fn range(
     Ok(state)
 }
 
-/// Two ranges that have a key each.
+/// Two ranges with a key each.
 #[derive(Drop)]
 struct Pair {
     a: RangeState,
@@ -54,8 +54,8 @@ impl Pair {
         reconcile_both(alloc, &mut self.a, &mut self.b)
     }
 
-    /// Returns true if the first stopped halfway and the second has not begun, or the first is done and the second
-    /// stopped halfway. A session that stopped is cancelled.
+    /// Returns true if the first stopped halfway and the second hasn't begun, or the first is done and the second
+    /// stopped halfway. A stopped session is cancelled.
     fn has_stopped(&self, before: &Pair, after: &Pair) -> bool {
         if is_same(&self.b, &before.b) {
             is_between(&self.a, &before.a, &after.a) || is_same(&self.a, &after.a)
@@ -83,7 +83,7 @@ fn has_stopped(rt: &(impl Threads + Sync), alloc: Global, pair: &Pair) -> Result
     Ok(pair.has_stopped(&before, &after))
 }
 
-/// Reconciles two replicas of one range, which are at the nodes 1 and 2.
+/// Reconciles two replicas of one range, at nodes 1 and 2.
 fn reconcile_both(
     alloc: Global,
     a: &mut RangeState,

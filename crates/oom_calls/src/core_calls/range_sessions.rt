@@ -66,7 +66,7 @@ fn is_range_with(
     Ok(is_same(state, &range_with(rt, alloc, partner, sessions)?))
 }
 
-/// Opens sessions of a range until its records have had to grow.
+/// Opens sessions of a range until its records have grown.
 fn open_session(
     rt: &(impl Threads + Sync),
     alloc: Global,
@@ -130,8 +130,8 @@ fn take_answer(
     Ok(state.journal().len())
 }
 
-/// Makes the outline of the root for a range's session, and the text that the partner's patch makes. Returns the length
-/// of the text.
+/// Makes the outline of the root for a range's session, and the text from the partner's patch. Returns the length of
+/// the text.
 fn patched(rt: &(impl Threads + Sync), alloc: Global, partner: &Snapshot) -> Result<u64, Refusal> {
     let state = range_with(rt, alloc, partner, 1)?;
     let root = NodeAt::root();
@@ -180,8 +180,7 @@ fn sync(alloc: Global, state: &mut RangeState, partner: &Snapshot) -> Result<Syn
     state.sync_with(alloc, 1, 2, partner)
 }
 
-/// Returns true if a range is unchanged, or has a session that is still open, and some of the leaves that a whole sync
-/// takes.
+/// Returns true if a range is unchanged, or has an open session and some of the leaves that a whole sync takes.
 fn is_on_the_way(
     rt: &(impl Threads + Sync),
     alloc: Global,

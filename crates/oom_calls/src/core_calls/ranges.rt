@@ -9,7 +9,7 @@ use std::io;
 use vclock::{Bytes, Clock, Format, Refusal};
 use version_set::Kind;
 
-/// The keys, of one byte each, whose copies are accepted one after the other.
+/// The keys, of one byte each, whose copies are accepted in turn.
 pub(crate) const KEYS: &[u8] = b"abcdee";
 
 /// The text of the key `a` with two versions, `y` and `z`.
@@ -49,7 +49,7 @@ pub(crate) fn show_all<R: Print + AllocGlobal>(rt: &R) -> io::Result<()> {
     )?;
     show(
         rt,
-        "RangeState::renewed, RangeStore::renewed, RowTable::try_clone, TableRow::try_clone, Tree::share and Marks::try_clone",
+        "RangeState::renewed, RangeStore::renewed, RowTable::reserve, Tree::share and Marks::try_clone",
         renewed(alloc),
     )?;
     show(
@@ -102,12 +102,12 @@ pub(crate) fn range_before(alloc: Global, node: u64) -> Result<RangeState, Refus
     Ok(state)
 }
 
-/// Returns true if a range is unchanged since before the put with this node's context.
+/// Returns true if a range is in its state before the put with this node's context.
 pub(crate) fn is_before(alloc: Global, state: &RangeState, node: u64) -> Result<bool, Refusal> {
     Ok(is_same(state, &range_before(alloc, node)?))
 }
 
-/// Puts until the journal and the set have had to grow.
+/// Puts until the journal and the set have grown.
 fn put(alloc: Global) -> Result<u64, Refusal> {
     let mut state = range(alloc)?;
     for node in 2..8u64 {
@@ -172,7 +172,7 @@ pub(crate) fn range_of(alloc: Global, keys: &[u8]) -> Result<RangeState, Refusal
     Ok(state)
 }
 
-/// Returns true if a range is unchanged since before it accepted the copy of the key at a place.
+/// Returns true if a range is in its state before it accepted the copy of the key at a place.
 pub(crate) fn is_before_key(alloc: Global, state: &RangeState, at: usize) -> Result<bool, Refusal> {
     Ok(is_same(state, &range_of(alloc, KEYS.get(..at).unwrap_or(KEYS))?))
 }
@@ -204,13 +204,13 @@ fn migrate(alloc: Global) -> Result<u64, Refusal> {
     }
 }
 
-/// Makes a new range of the versions that a range holds, and returns the number of its entries.
+/// Makes a new range from the versions that a range holds, and returns the number of its entries.
 fn renewed(alloc: Global) -> Result<u64, Refusal> {
     let new = range_of(alloc, KEYS)?.renewed(alloc, 0, 100)?;
     Ok(new.journal().len())
 }
 
-/// Loads a row with two versions, and returns the number of those taken.
+/// Loads a row with two versions, and returns the number of versions taken.
 fn load_rows(alloc: Global) -> Result<u64, Refusal> {
     let mut state = range(alloc)?;
     match state.load_rows(alloc, 0, TWO_VERSIONS) {
@@ -235,7 +235,7 @@ fn rows_text(alloc: Global) -> Result<u64, Refusal> {
     Ok(state.store().tree().rows_text(alloc, 12)?.len() as u64)
 }
 
-/// Replays the journal of a range, and returns 1 if the replay then has the versions that the range holds.
+/// Replays the journal of a range, and returns 1 if the replay has the versions that the range holds.
 fn replay(alloc: Global) -> Result<u64, Refusal> {
     let state = range_before(alloc, 6)?;
     let mut replay = Replay::new(alloc, state.journal().entries());

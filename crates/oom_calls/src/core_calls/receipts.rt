@@ -44,7 +44,7 @@ pub(crate) fn show_all<R: Print + AllocGlobal + Threads + Sync>(
     )
 }
 
-/// Returns true if a list has the receipts of all entries of a range, and no other.
+/// Returns true if a list contains the receipts of all entries of a range, and no others.
 fn has_receipts(list: &[Receipt], state: &RangeState) -> bool {
     let entries = state.journal().entries();
     begins(list, entries) && begins(entries, list)
@@ -72,7 +72,7 @@ fn put_at(
     )
 }
 
-/// Puts until the journal, the set and the list have had to grow.
+/// Puts until the journal, the set and the list have grown.
 fn put(alloc: Global) -> Result<u64, Refusal> {
     let mut state = range(alloc)?;
     let mut list = Vec::new(alloc);

@@ -27,14 +27,14 @@ fn read_all(alloc: Global) -> Result<u64, Refusal> {
     Ok(read_rows(alloc, Format::One, TEXT)?.len() as u64)
 }
 
-/// Writes the row that was read.
+/// Writes a row that was read.
 fn write(alloc: Global) -> Result<u64, Refusal> {
     let (row, _) = read_row(alloc, Format::One, TEXT)?;
     a_held_set_is_a_row();
     Ok(write_row(alloc, Format::One, &row)?.len() as u64)
 }
 
-/// Writes the row after another byte.
+/// Writes a row after another byte.
 fn put(alloc: Global) -> Result<u64, Refusal> {
     let (row, _) = read_row(alloc, Format::One, TEXT)?;
     let mut text = Vec::from_slice(alloc, b"z")?;

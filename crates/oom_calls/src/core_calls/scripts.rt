@@ -26,7 +26,7 @@ pub(crate) fn show_all<R: Print + AllocGlobal + Threads + Sync>(rt: &R) -> io::R
     show(rt, "run_bytes", run_in_memory(rt, alloc))
 }
 
-/// Returns the number of lines that were answered, or `None` if the output is not that of the first few lines.
+/// Returns the number of answered lines, or `None` if the output differs from that of the first few lines.
 fn answered(written: &[u8]) -> Option<u64> {
     match written.strip_prefix(FIRST) {
         Some(rest) if rest == SECOND => Some(2),
@@ -36,8 +36,8 @@ fn answered(written: &[u8]) -> Option<u64> {
     }
 }
 
-/// Runs the script with a writer that has room, and returns the number of lines it answered. Each of them has its whole
-/// answer.
+/// Runs the script with a writer that has enough capacity, and returns the number of answered lines. Each of them has
+/// its whole answer.
 fn run(rt: &(impl Threads + Sync), alloc: Global) -> Result<u64, Refusal> {
     let mut reader = SCRIPT;
     let mut writer = Vec::with_capacity(alloc, ROOM)?;
@@ -49,8 +49,8 @@ fn run(rt: &(impl Threads + Sync), alloc: Global) -> Result<u64, Refusal> {
     }
 }
 
-/// Runs the script with a writer that grows, and returns the number of lines it answered. A refused growth of the
-/// writer may end the script as a fault of its device does.
+/// Runs the script with a writer that grows, and returns the number of answered lines. A refused growth of the writer
+/// may end the script, like a fault of its device.
 fn run_in_memory(rt: &(impl Threads + Sync), alloc: Global) -> Result<u64, Refusal> {
     let (end, written) = run_bytes(rt, alloc, SCRIPT);
     match (end, answered(&written)) {

@@ -11,7 +11,7 @@ use tree_nodes::{Hashed, NodeAt, Text, hash, tree_depth};
 use vclock::Refusal;
 use walk_messages::Ask;
 
-/// The number of nodes that a range without rows asks to compare itself with the partner.
+/// The number of nodes that a range without rows asks for to compare itself with the partner.
 pub(crate) const ASKED: u64 = 7;
 
 /// Shows the calls on sessions.
@@ -36,7 +36,7 @@ fn start(alloc: Global, both: &Snapshots) -> Result<u64, Refusal> {
     Ok(new_session(alloc, both)?.asked().len() as u64)
 }
 
-/// Returns the first node that is outstanding, with the partner's text.
+/// Returns the first outstanding node, with the partner's text.
 pub(crate) fn first_text(
     alloc: Global,
     session: &Session,
@@ -47,7 +47,7 @@ pub(crate) fn first_text(
     Ok((node, hash(Text::from(text))))
 }
 
-/// Answers the first node that is outstanding.
+/// Answers the first outstanding node.
 fn take_first(alloc: Global, session: &mut Session, partner: &Snapshot) -> Result<(), Refusal> {
     let (node, text) = first_text(alloc, session, partner)?;
     session.take(alloc, node, text)?;
@@ -81,8 +81,7 @@ fn rows_of(alloc: Global, both: &Snapshots) -> Result<u64, Refusal> {
     Ok(session.rows_of(alloc, node, &text)?.len() as u64)
 }
 
-/// Returns the number of rows, 0 or 1, up to the first one in the leaf that is asked last and that the local snapshot
-/// lacks.
+/// Returns 1 if the leaf that is asked last has a row that is missing from the local snapshot, otherwise 0.
 fn next_news(alloc: Global, both: &Snapshots) -> Result<u64, Refusal> {
     let session = session_after(alloc, both, ASKED.saturating_sub(1))?;
     let (node, text) = first_text(alloc, &session, &both.partner)?;
@@ -93,7 +92,7 @@ fn next_news(alloc: Global, both: &Snapshots) -> Result<u64, Refusal> {
     Ok(u64::from(step.row.is_some()))
 }
 
-/// Returns the number of rows in the leaf that is asked last and that the local snapshot lacks.
+/// Returns the number of rows in the leaf that is asked last that are missing from the local snapshot.
 fn news_of(alloc: Global, both: &Snapshots) -> Result<u64, Refusal> {
     let session = session_after(alloc, both, ASKED.saturating_sub(1))?;
     let (node, text) = first_text(alloc, &session, &both.partner)?;
@@ -120,7 +119,7 @@ fn take_inner(alloc: Global, both: &Snapshots) -> Result<u64, Refusal> {
     }
 }
 
-/// Answers the first node that is outstanding, an inner one, by `take_inner`.
+/// Answers the first outstanding node, an inner one, by `take_inner`.
 fn take_inner_first(
     alloc: Global,
     session: &mut Session,
@@ -144,7 +143,7 @@ fn take_leaf(alloc: Global, both: &Snapshots) -> Result<u64, Refusal> {
     }
 }
 
-/// Answers the first node that is outstanding, a leaf, by `take_leaf`.
+/// Answers the first outstanding node, a leaf, by `take_leaf`.
 fn take_leaf_first(
     alloc: Global,
     session: &mut Session,

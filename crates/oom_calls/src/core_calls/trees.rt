@@ -136,8 +136,8 @@ fn hash_some(rt: &(impl Threads + Sync), alloc: Global) -> Result<u64, Refusal> 
     Ok(hash_all(rt, alloc, jobs)?.len() as u64)
 }
 
-/// Hashes some jobs in the caller's thread, and returns their number. After a refusal the jobs are lost, and can be taken
-/// again.
+/// Hashes some jobs in the caller's thread, and returns their number. After a refusal the jobs are lost, and can be
+/// taken again.
 fn hash_some_here(alloc: Global) -> Result<u64, Refusal> {
     let state = range(alloc)?;
     let jobs = state.take_jobs(alloc, 20)?;
@@ -158,7 +158,7 @@ fn rehash_here(rt: &(impl Threads + Sync), alloc: Global) -> Result<u64, Refusal
     count_clean(rt, alloc, &state, hashed)
 }
 
-/// Hashes twenty nodes of a range, and returns the number of nodes that are dirty then.
+/// Hashes twenty nodes of a range, and returns the number of nodes that are still dirty.
 fn rehash_some(alloc: Global) -> Result<u64, Refusal> {
     let mut state = range(alloc)?;
     let dirty = state.store().tree().dirty_count();
@@ -169,7 +169,7 @@ fn rehash_some(alloc: Global) -> Result<u64, Refusal> {
 }
 
 /// Returns the number of nodes that a rehash has hashed, plus one if the root is clean. A refused rehash leaves some of
-/// the nodes clean, and all else unchanged.
+/// the nodes clean, and everything else unchanged.
 fn count_clean(
     rt: &(impl Threads + Sync),
     alloc: Global,

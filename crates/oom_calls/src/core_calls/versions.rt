@@ -16,7 +16,7 @@ pub(crate) fn show_all<R: Print + AllocGlobal>(rt: &R) -> io::Result<()> {
     show(rt, "Held::to_set", held_set(alloc))
 }
 
-/// Returns a version that one node alone has counted.
+/// Returns a version that only one node has counted.
 pub(crate) fn version(alloc: Global, node: u64) -> Result<Version, Refusal> {
     Ok(Version {
         clock: Clock::from_pairs(alloc, &[(node, 1)])?,
@@ -47,7 +47,7 @@ fn clone_of_version(alloc: Global) -> Result<u64, Refusal> {
     Ok(wide_version(alloc, 7)?.try_clone()?.clock.get(7))
 }
 
-/// Offers versions until the set has had to grow.
+/// Offers versions until the set has grown.
 fn offer(alloc: Global) -> Result<u64, Refusal> {
     let mut set = VersionSet::empty(alloc);
     for node in 1..9u64 {

@@ -5,7 +5,7 @@ use std::io;
 use tree_nodes::Text;
 use vclock::{Bytes, Clock, Clocks, Refusal};
 
-/// Too many bytes for a `Bytes` to hold without memory of its own: a copy takes memory.
+/// Too many bytes for a `Bytes` that doesn't allocate: a copy takes memory.
 const LONG: &[u8] = b"more than sixteen bytes";
 
 /// Shows the calls on clocks, bytes and texts.
@@ -33,7 +33,7 @@ fn raise(alloc: Global) -> Result<u64, Refusal> {
     Ok(clock(alloc)?.raise(alloc, 3)?.pairs().len() as u64)
 }
 
-/// Returns the number of pairs of two clocks merged that share a node.
+/// Returns the number of pairs of two merged clocks that share a node.
 fn merge(alloc: Global) -> Result<u64, Refusal> {
     let other = Clock::from_pairs(alloc, &[(2, 5), (4, 1)])?;
     Ok(clock(alloc)?.merge(alloc, &other)?.pairs().len() as u64)
@@ -43,7 +43,7 @@ fn clone_of_clock(alloc: Global) -> Result<u64, Refusal> {
     Ok(clock(alloc)?.try_clone()?.get(1))
 }
 
-/// Adds clocks until the list has had to grow twice.
+/// Adds clocks until the list has grown twice.
 fn push(alloc: Global) -> Result<u64, Refusal> {
     let mut clocks = Clocks::new(alloc);
     for counter in 1..10u64 {

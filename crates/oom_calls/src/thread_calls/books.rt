@@ -42,7 +42,7 @@ fn absorbed<L: Ledger>(alloc: Global, blank: Blank) -> Result<u64, Refusal>
     }
 }
 
-/// Absorbs a pass, and returns true if that was refused once: the refusal then handed back the pass of that seat.
+/// Absorbs a pass, and returns true if that was refused once, in which case the refusal returned the pass of that seat.
 fn absorb<L: Ledger>(book: &mut Book<L>, pass: Pass<L>) -> Result<bool, Refusal> {
     let (seat, seats) = (pass.seat(), book.seats());
     let Err(refused) = book.absorb(pass) else {

@@ -1,4 +1,4 @@
-//! The calls on ranges, in the order in which they are made.
+//! The calls on ranges, in order.
 
 /// A call on a locked range. The byte is the key.
 #[derive(Clone, Copy)]
@@ -17,7 +17,7 @@ pub(crate) enum LockedCall {
     Index,
     Get(u8),
     Read(u8),
-    /// A read of the store, for no pass.
+    /// A read of the store, without a pass.
     Look(u8),
     HoldMoment,
     /// `take_moment_jobs` and `install_moment`, until all nodes of the moment are clean.
@@ -43,7 +43,7 @@ pub(crate) enum SharedCall {
     Rehash,
     Snapshot,
     Sync,
-    /// A sync over a link that lies.
+    /// A sync over a link with bad answers.
     SyncByScript,
     Keep(u8),
     Next,
@@ -126,7 +126,7 @@ pub(crate) const CALLS: [Call; 57] = [
 ];
 
 impl Call {
-    /// Returns the name that is printed.
+    /// Returns the printed name.
     pub(crate) fn name(self) -> &'static str {
         match self {
             Call::Locked(call) => call.name(),
@@ -134,7 +134,7 @@ impl Call {
         }
     }
 
-    /// Returns true if a refused call keeps the steps that are done.
+    /// Returns true if a refused call keeps its completed steps.
     pub(crate) fn is_in_steps(self) -> bool {
         matches!(
             self,

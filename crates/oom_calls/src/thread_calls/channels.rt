@@ -25,7 +25,7 @@ fn open(alloc: Global) -> Result<u64, Refusal> {
     Ok(link.failures())
 }
 
-/// Asks a server in another thread, and stops it. Asks nothing if the thread can't be made.
+/// Asks a server in another thread, and stops it. Asks nothing if the thread can't be spawned.
 fn serve<R: Threads + Wait + Sync>(
     rt: &R,
     alloc: Global,

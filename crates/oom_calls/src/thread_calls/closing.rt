@@ -5,11 +5,11 @@ use std::alloc::Global;
 use std::sync::ledger::Ledger;
 use vclock::Refusal;
 
-/// A range that was closed, in the second try if the first one was refused.
+/// A range that was closed, on the second try if the first one was refused.
 #[derive(Drop)]
 pub(crate) struct Closing<L: Ledger> {
     pub(crate) closed: Closed<L>,
-    /// The refusal of the first try, if there was one.
+    /// The refusal of the first try, if any.
     pub(crate) refusal: Option<Refusal>,
 }
 

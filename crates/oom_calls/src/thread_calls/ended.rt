@@ -9,7 +9,7 @@ use std::alloc::Global;
 use std::sync::ledger::Ledger;
 use vclock::Refusal;
 
-/// The state of a range that was closed, and its passes.
+/// The state of a closed range, and its passes.
 pub(crate) struct Left {
     state: RangeState,
     passes: Vec<PassCopy>,
@@ -34,7 +34,7 @@ impl Left {
         self.state.journal().len()
     }
 
-    /// Returns true if the state and the passes are between those before and those after.
+    /// Returns true if the state and the passes are between `before` and `after`.
     pub(crate) fn is_between(&self, before: &Left, after: &Left) -> bool {
         let places = before.passes.iter().zip(&after.passes);
         let mut passes = self.passes.iter().zip(places);
@@ -55,15 +55,15 @@ impl Left {
 pub(crate) struct Ended {
     pub(crate) locked: Left,
     pub(crate) shared: Left,
-    /// The hints that are pending, by rising id.
+    /// The pending hints, by rising id.
     pub(crate) pending: Vec<Hint>,
     /// The number of digests that rehash workers installed in the shared range.
     pub(crate) installed: u64,
 }
 
 impl Ended {
-    /// Returns true if both ranges are between before and after. Each hint that was pending before is pending or was
-    /// delivered, and each digest that a worker installed is there.
+    /// Returns true if both ranges are between `before` and `after`. Each hint that was pending in `before` is pending
+    /// or was delivered, and each digest that a worker installed is there.
     pub(crate) fn is_between(&self, before: &Ended, after: &Ended) -> bool {
         let clean = clean_nodes(&self.shared.state).saturating_sub(clean_nodes(
             &before.shared.state,
@@ -74,7 +74,7 @@ impl Ended {
             && clean == self.installed.saturating_sub(before.installed)
     }
 
-    /// Returns true if the pending hints are the last ones of those before, and the first ones were delivered.
+    /// Returns true if the pending hints are the last ones of `before`, and the first ones were delivered.
     fn has_hints_of(&self, before: &Ended) -> bool {
         let delivered = self
             .shared

@@ -42,7 +42,7 @@ pub(crate) fn offer<K: Link, R: Wait>(rt: &R, link: &mut K) -> Result<u64, Refus
     }
 }
 
-/// Returns the length of the message that answers an ask for the root, in bytes.
+/// Returns the length of the answer's message to an ask for the root, in bytes.
 pub(crate) fn ask<K: Link, R: Wait>(rt: &R, alloc: Global, link: &mut K) -> Result<u64, Refusal> {
     let message = root_ask(alloc)?;
     let failures = link.failures();
@@ -65,8 +65,7 @@ fn length<K: Link>(bytes: &[u8], failures: u64, link: &K) -> Result<u64, Refusal
     }
 }
 
-/// Returns NoMemory for a call that was lost, if the link has failed once more for it and the repeated call received
-/// bytes.
+/// Returns NoMemory for a lost call, if the link has failed once more for it and the repeated call received bytes.
 fn lost<K: Link>(again: Reached, failures: u64, link: &K) -> Refusal {
     let has_come = matches!(again, Reached::Bytes(_));
     if has_come && link.failures() == failures.saturating_add(1) {
@@ -87,7 +86,7 @@ fn scripted<'a>(
     Ok(ScriptedLink::new(alloc, link, deeds))
 }
 
-/// Asks for three offers; the last repeats the second. A call that is lost has used its deed.
+/// Asks for three offers; the last repeats the second. A lost call has used its deed.
 fn scripted_offer<R: Wait>(rt: &R, alloc: Global, partner: &Partner) -> Result<u64, Refusal> {
     let deeds = [Deed::Change(1), Deed::Pass, Deed::Repeat];
     let mut link = scripted(alloc, partner, &deeds)?;

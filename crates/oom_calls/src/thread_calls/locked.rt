@@ -50,7 +50,7 @@ impl<L: Ledger> Locked<L> {
         renew_locked(alloc, range, passes)
     }
 
-    /// Makes a call, and returns a number that stands for its result.
+    /// Makes a call, and returns a number for its result.
     pub(crate) fn make(
         &mut self,
         alloc: Global,
@@ -116,7 +116,7 @@ impl<L: Ledger> Locked<L> {
         Ok(count)
     }
 
-    /// Takes the partner's text of the first node that is outstanding, and returns the number of versions accepted.
+    /// Takes the partner's text of the first outstanding node, and returns the number of versions accepted.
     fn take_answer(&mut self, alloc: Global, partner: &Partner) -> Result<u64, Refusal> {
         let node = self.range.outstanding(0)?.ok_or(Refusal::NotAsked)?;
         let text = partner.snapshot.answer(alloc, Ask { offer: 1, node })?;
@@ -169,7 +169,7 @@ impl<L: Ledger> Locked<L> {
         }
     }
 
-    /// Loads a row of two versions, and returns the number of those taken.
+    /// Loads a row of two versions, and returns the number of versions taken.
     fn load(&mut self, alloc: Global) -> Result<u64, Refusal> {
         let pass = self.passes.get_mut(0).ok_or(Refusal::Stranger)?;
         let loaded = self.range.load_rows(alloc, pass, TWO_VERSIONS)?;

@@ -1,4 +1,4 @@
-//! A partner with rows that the ranges lack.
+//! A partner with rows that the ranges don't have.
 use crate::lines::show;
 use crate::thread_calls::versions::version;
 use range_journal::Source;
@@ -64,7 +64,7 @@ fn take_in(alloc: Global, state: &mut RangeState, key: &[u8]) -> Result<(), Refu
     Ok(())
 }
 
-/// Hashes the dirty nodes one by one, so that the growths have one order, and returns a snapshot.
+/// Hashes the dirty nodes one by one, so that the growths have a fixed order, and returns a snapshot.
 fn hashed(alloc: Global, state: &mut RangeState) -> Result<Arc<Snapshot, Global>, Refusal> {
     for _ in 0..TURNS {
         let Some(job) = state.take_job(alloc, 0)? else {

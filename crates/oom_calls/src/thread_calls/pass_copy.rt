@@ -35,8 +35,8 @@ impl PassCopy {
         })
     }
 
-    /// Returns true if a pass recorded everything before and the first few receipts of after. If `before` and `after`
-    /// are equal, its records equal theirs.
+    /// Returns true if a pass recorded everything of `before` and the first few receipts of `after`. If `before` and
+    /// `after` are equal, its records equal theirs.
     pub(crate) fn is_between(&self, before: &PassCopy, after: &PassCopy) -> bool {
         self.seat == before.seat
             && before.seen <= self.seen

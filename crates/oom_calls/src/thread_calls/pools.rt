@@ -24,7 +24,7 @@ fn ask(offer: u32) -> Result<Ask, Refusal> {
     Ok(Ask { offer, node })
 }
 
-/// Publishes a snapshot until the pool has had to grow twice, and returns the number of the last offer.
+/// Publishes a snapshot until the pool has grown twice, and returns the number of the last offer.
 fn publish<R: Wait>(rt: &R, alloc: Global, partner: &Partner) -> Result<u64, Refusal> {
     let pool = OfferPool::new(alloc);
     for count in 0..5u32 {

@@ -32,7 +32,7 @@ pub(crate) fn show_all<R: Print + AllocGlobal + Wait>(rt: &R, partner: &Partner)
     show(rt, "SharedRange::renew", shared(rt, rt.alloc(), partner))
 }
 
-/// Returns the number of entries of a locked range that was renewed.
+/// Returns the number of entries of a renewed locked range.
 fn locked(alloc: Global, partner: &Partner) -> Result<u64, Refusal> {
     let Renewal { left, refusal } = locked_once(alloc, partner, true)?;
     let Some(refusal) = refusal else {
@@ -42,7 +42,7 @@ fn locked(alloc: Global, partner: &Partner) -> Result<u64, Refusal> {
     Err(unchanged(refusal, Ok(left.is_between(&before, &before))))
 }
 
-/// Returns the number of entries of a shared range that was renewed.
+/// Returns the number of entries of a renewed shared range.
 fn shared<R: Wait>(rt: &R, alloc: Global, partner: &Partner) -> Result<u64, Refusal> {
     let Renewal { left, refusal } = shared_once(rt, alloc, partner, true)?;
     let Some(refusal) = refusal else {
@@ -109,7 +109,7 @@ fn shared_in<L: Ledger, C: Ledger, R: Wait>(
     }
 }
 
-/// Returns the state and the passes of a range that was closed.
+/// Returns the state and the passes of a closed range.
 fn renewed<L: Ledger>(alloc: Global, closing: Closing<L>) -> Result<Renewal, Refusal> {
     let Closing { closed, refusal } = closing;
     let left = Left::of(alloc, closed)?;

@@ -1,4 +1,4 @@
-//! A locked range and a shared one that the calls are made on.
+//! A locked range and a shared one, on which the calls are made.
 ghost use Rattle.std.specs.Prelude.{◌≡◌};
 
 use crate::thread_calls::calls::{CALLS, Call};
@@ -37,7 +37,7 @@ impl<L: Ledger, M: Ledger, C: Ledger> Scene<L, M, C> {
         })
     }
 
-    /// Makes a call, and returns a number that stands for its result.
+    /// Makes a call, and returns a number for its result.
     pub(crate) fn make<R: Wait>(
         &mut self,
         rt: &R,
@@ -66,7 +66,7 @@ impl<L: Ledger, M: Ledger, C: Ledger> Scene<L, M, C> {
     }
 }
 
-/// Returns the closed ranges after the first few calls alone.
+/// Returns the closed ranges after only the first few calls.
 pub(crate) fn ended_after<R: Wait>(
     rt: &R,
     alloc: Global,

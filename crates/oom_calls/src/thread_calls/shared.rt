@@ -24,7 +24,7 @@ use version_set::Kind;
 /// More turns than a tree of format 1 has nodes.
 const TURNS: u64 = 300;
 
-/// The node that keeps the range.
+/// The node of the range.
 const OWNER: u16 = 1;
 
 /// A true offer, then three bad answers among true ones.
@@ -52,8 +52,8 @@ impl Gate for Counter {
     }
 }
 
-/// A shared range with the passes of its two seats, and the values its workers need. The first pass writes and reads,
-/// and the workers have the second one.
+/// A shared range with the passes of its two seats, and the values that its workers need. The first pass writes and
+/// reads, and the workers use the second one.
 pub(crate) struct Shared<L: Ledger, C: Ledger> {
     range: SharedRange<L>,
     passes: Vec<Pass<L>>,
@@ -112,7 +112,7 @@ impl<L: Ledger, C: Ledger> Shared<L, C> {
         self.counter.hashed.load(Ordering::SeqCst)
     }
 
-    /// Returns the hints that are pending, by rising id.
+    /// Returns the pending hints, by rising id.
     pub(crate) fn pending<R: Wait>(&self, rt: &R, alloc: Global) -> Result<Vec<Hint>, Refusal> {
         let mut pending = Vec::new(alloc);
         let mut after = 0;
@@ -126,7 +126,7 @@ impl<L: Ledger, C: Ledger> Shared<L, C> {
         Ok(pending)
     }
 
-    /// Makes a call, and returns a number that stands for its result.
+    /// Makes a call, and returns a number for its result.
     pub(crate) fn make<R: Wait>(
         &mut self,
         rt: &R,
@@ -218,7 +218,7 @@ impl<L: Ledger, C: Ledger> Shared<L, C> {
         }
     }
 
-    /// Loads a row of two versions, and returns the number of those taken.
+    /// Loads a row of two versions, and returns the number of versions taken.
     fn load<R: Wait>(&mut self, rt: &R, alloc: Global) -> Result<u64, Refusal> {
         let pass = self.passes.get_mut(0).ok_or(Refusal::Stranger)?;
         let loaded = self.range.load_rows(rt, alloc, pass, TWO_VERSIONS)?;
@@ -267,7 +267,7 @@ impl<L: Ledger, C: Ledger> Shared<L, C> {
         outcome(synced, link.failures())
     }
 
-    /// Syncs at the moment over a link, as `sync` does.
+    /// Syncs at the moment over a link, with the results of `sync`.
     fn sync_at_moment<K: Link, R: Wait>(
         &mut self,
         rt: &R,
@@ -334,7 +334,7 @@ impl<L: Ledger, C: Ledger> Shared<L, C> {
         Ok(report?.delivered)
     }
 
-    /// Renews the hints, and returns the numbers of pending and of delivered ones as the digits of a number.
+    /// Renews the hints, and returns the numbers of pending and of delivered hints as the digits of a number.
     fn renew<R: Wait>(&mut self, rt: &R, alloc: Global) -> Result<u64, Refusal> {
         self.hints.renew(rt, alloc)?;
         let counts = self.hints.counts(rt);
@@ -353,7 +353,7 @@ fn digits(report: &SyncReport) -> u64 {
 }
 
 /// Returns the digits of the report of a sync over a link with this number of failures. A refused growth in the link
-/// makes it fail once: then that is NoMemory.
+/// makes it fail once, which is returned as NoMemory.
 fn outcome(synced: Result<SyncReport, Refusal>, failures: u64) -> Result<u64, Refusal> {
     match (synced, failures) {
         (Ok(report), 0) => Ok(digits(&report)),

@@ -1,4 +1,4 @@
-//! The calls on ranges, one after the other.
+//! The calls on ranges, made in turn.
 ghost use Rattle.std.specs.Prelude.{◌≡◌};
 
 use crate::lines::{show, unchanged};
@@ -13,10 +13,10 @@ use std::sync::Wait;
 use std::sync::ledger::{Blank, Ledger};
 use vclock::Refusal;
 
-/// The line that is shown for the opening of the ranges.
+/// The line for the opening of the ranges.
 const OPENING: &str = "a locked range and a shared one";
 
-/// Shows the calls on ranges. If one is refused, both ranges are closed, and new ones continue after that call.
+/// Shows the calls on ranges. If one is refused, both ranges are closed, and the calls continue after it on new ones.
 pub(crate) fn show_all<R: Print + AllocGlobal + Wait>(rt: &R, partner: &Partner) -> io::Result<()> {
     let mut from = 0;
     for _ in 0..2 {
@@ -95,7 +95,7 @@ fn make_all<L: Ledger, M: Ledger, C: Ledger, R: Print + AllocGlobal + Wait>(
     Ok(None)
 }
 
-/// Returns the refusal of a call, if the ranges are right after it, and otherwise Dirty.
+/// Returns the refusal of a call, if the ranges are consistent after it, otherwise Dirty.
 fn judged<L: Ledger, M: Ledger, C: Ledger, R: AllocGlobal + Wait>(
     rt: &R,
     partner: &Partner,
@@ -144,7 +144,7 @@ fn show_closing<L: Ledger, M: Ledger, C: Ledger, R: Print + AllocGlobal + Wait>(
     )
 }
 
-/// Returns the number of entries of a closed range. If the first try was refused, it must have handed back everything
+/// Returns the number of entries of a closed range. If the first try was refused, it must have returned everything
 /// unchanged.
 fn closed<L: Ledger, R: AllocGlobal + Wait>(
     rt: &R,

@@ -7,7 +7,7 @@ use version_set::{Kind, Version};
 pub(crate) const TWO_VERSIONS: &[u8] =
     b"\x00\x01z\x00\x02\x01\x00\x02\x00\x00\x00\x00\x00\x00\x00\x01\x00\x00\x00\x01y\x01\x00\x03\x00\x00\x00\x00\x00\x00\x00\x01\x00\x00\x00\x01z";
 
-/// Returns a version that one node alone has counted, with the value `x`.
+/// Returns a version that only one node has counted, with the value `x`.
 pub(crate) fn version(alloc: Global, node: u64) -> Result<Version, Refusal> {
     Ok(Version {
         clock: Clock::from_pairs(alloc, &[(node, 1)])?,

@@ -18,13 +18,13 @@ impl RangeState {
     /// Takes a partner's text for a node of a session. For an inner node it asks the children that differ; for a leaf
     /// it accepts all of its versions or none.
     ///
-    /// Refused, in order: UnknownSession (there is no record of that number), NotAsked, WrongDigest, NotCanonical (the
-    /// session has failed then), Crowded (one version, in its turn, would be too many for its key), JournalFull,
-    /// NoMemory. Reading a leaf allocates, so at a leaf NoMemory may replace NotCanonical, Crowded and JournalFull. The
-    /// state is unchanged after any refusal but NotCanonical.
+    /// Refused, in order: UnknownSession (no record has that number), NotAsked, WrongDigest, NotCanonical (the session
+    /// fails), Crowded (one version, in its turn, would be too many for its key), JournalFull, NoMemory. Reading a leaf
+    /// allocates, so at a leaf NoMemory may replace NotCanonical, Crowded and JournalFull. The state is unchanged after
+    /// any refusal but NotCanonical.
     ///
-    /// A leaf is judged a row at a time before its rows are copied, so one that is refused takes the memory of one row.
-    /// A row that is in the session's snapshot, too, isn't read: its bytes are compared, and its versions are known.
+    /// A leaf is judged a row at a time before its rows are copied, so a refused leaf takes the memory of one row. A
+    /// row that is also in the session's snapshot isn't read: its bytes are compared, and its versions are known.
     pub fn take_answer(
         &mut self,
         alloc: Global,
@@ -40,7 +40,7 @@ impl RangeState {
         self.take_answer_at(alloc, seat, place, node, text)
     }
 
-    /// Takes a text as `take_answer` does, for the session at a place among the records.
+    /// Takes a text, like `take_answer`, for the session at a place among the records.
     pub(super) fn take_answer_at(
         &mut self,
         alloc: Global,
@@ -56,7 +56,7 @@ impl RangeState {
         self.take_answer_beside(alloc, &mut list, seat, place, node, text)
     }
 
-    /// Takes a text as `take_answer_at` does, and makes room for the receipts in a list that isn't empty.
+    /// Takes a text, like `take_answer_at`, and reserves space for the receipts in a list that isn't empty.
     pub(super) fn take_answer_beside(
         &mut self,
         alloc: Global,
@@ -112,7 +112,7 @@ impl RangeState {
         })
     }
 
-    /// Takes a text of a leaf with this news, and makes room for the receipts in a list that isn't empty. Allocates
+    /// Takes a text of a leaf with this news, and reserves space for the receipts in a list that isn't empty. Allocates
     /// before it changes anything.
     fn take_leaf(
         &mut self,
@@ -132,7 +132,7 @@ impl RangeState {
         ensures room { IfOk result (λ taken. (list.new.items ≡ [])
             ⊎ (vec_len list.new + vec_len taken.receipts ≤ vec_capacity list.new)) }
     {
-        // Called for its clause alone: the digest is that of the text.
+        // Called only for its clause: the digest is the text's.
         let _bytes = text.text();
         let leaf = node.index;
         let batch = self
@@ -149,7 +149,7 @@ impl RangeState {
         })
     }
 
-    /// Makes a session fail by a text that it awaits and that the node can't have.
+    /// Makes a session fail after a text that it awaits but that the node can't have.
     fn fail_session(&mut self, place: usize)
         requires { MatchOption (slice_get self.old.records place) ⊥
             (λ r. (t : TakenText) × IsDue r.session t × (IsCanonical r.session.own t.node t.text → ⊥)) }

@@ -12,23 +12,23 @@ use sync_session::{Session, Taken};
 use tree_nodes::{Digest, NodeAt, tree_depth};
 
 /// The size of a range at one moment: lengths of contents in bytes, each at most 2^64 - 1. Memory differs, since rows,
-/// entries and sessions share values. What the moment keeps isn't counted.
+/// entries and sessions share values. The moment isn't counted.
 #[derive(Clone, Copy, Debug, PartialEq, Eq)]
 pub struct RangeBytes {
     /// The texts of the rows.
     pub rows: u64,
     /// The keys, values and clocks of the journal's entries: 10 bytes for each pair of a clock.
     pub journal: u64,
-    /// The texts that sessions took, and at most what only they keep of rows: the texts of the leaves of their rows that the
-    /// next session, or else the range now, has with another digest or with none. Of these leaves they keep only the
-    /// chunks of 15 rows that have changed.
+    /// The texts that sessions took, and an upper bound for the rows that only they keep: the texts of those leaves
+    /// that have another digest, or none, in the next session, or in the range now for the last session. Of these
+    /// leaves they keep only the chunks of 15 rows that have changed.
     pub sessions: u64,
 }
 
 impl RangeState {
-    /// Returns the size of the rows, of the journal and of what sessions keep in addition. Reads no row or entry, but each
-    /// chunk of 15 rows, and for each session the digests of the leaves and the length of each text that it took. Doesn't
-    /// allocate.
+    /// Returns the size of the rows, of the journal, and of the data that sessions keep in addition. Reads each chunk
+    /// of 15 rows, but no row or entry, and for each session the digests of the leaves and the length of each text that
+    /// it took. Doesn't allocate.
     pub fn bytes(&self) -> RangeBytes
         ensures { result ≡ bytes_of self.now }
     {
@@ -41,7 +41,7 @@ impl RangeState {
     }
 }
 
-/// Returns the size of what sessions keep in addition to a tree, at most 2^64 - 1.
+/// Returns the size of the data that sessions keep in addition to a tree, at most 2^64 - 1.
 #[tactic(auto, using(crate::proofs::SizeLaws::next_session))]
 fn sessions_len(records: &[Record], tree: &Tree) -> u64
     ensures { result ≡ min (sessions_len tree.now records.now) (2 ^ 64 - 1) }
@@ -54,7 +54,7 @@ fn sessions_len(records: &[Record], tree: &Tree) -> u64
     len
 }
 
-/// Returns the size of what a session keeps in addition to later ones and a tree, at most 2^64 - 1.
+/// Returns the size of the data that a session keeps in addition to later ones and a tree, at most 2^64 - 1.
 fn session_len(session: &Session, later: &[Record], tree: &Tree) -> u64
     ensures { result ≡ min (session_len tree.now session.now later.now) (2 ^ 64 - 1) }
 {
@@ -85,7 +85,7 @@ fn replaced_len(own: &Snapshot, later: &[Record], tree: &Tree) -> u64
     len
 }
 
-/// Returns the size of a leaf if it was replaced later, or else 0; at most 2^64 - 1.
+/// Returns the size of a leaf if it was replaced later, otherwise 0; at most 2^64 - 1.
 fn replaced_leaf_len(own: &Snapshot, leaf: u16, later: &[Record], tree: &Tree) -> u64
     requires { leaf < 2 ^ leaf_bits own.now.format }
     ensures { result ≡ min (replaced_leaf_len tree.now own.now later.now leaf) (2 ^ 64 - 1) }
@@ -100,8 +100,8 @@ fn replaced_leaf_len(own: &Snapshot, leaf: u16, later: &[Record], tree: &Tree) -
     own.rows(leaf).rows_len()
 }
 
-/// Returns the digest of a node in the rows of the first of some sessions, or in a tree if there is none. Returns `None` if
-/// the node is dirty, or isn't in the tree.
+/// Returns the digest of a node in the rows of the first of some sessions, or in a tree without sessions. Returns
+/// `None` if the node is dirty, or isn't in the tree.
 fn later_digest(later: &[Record], tree: &Tree, node: NodeAt) -> Option<Digest>
     ensures { result ≡ later_digest tree.now later.now node }
 {
@@ -115,7 +115,7 @@ fn later_digest(later: &[Record], tree: &Tree, node: NodeAt) -> Option<Digest>
     Some(own.digest_at(node))
 }
 
-/// Returns true if a digest is the other one.
+/// Returns true if a digest is present and equal to the other one.
 fn is_digest(digest: Option<Digest>, other: Digest) -> bool
     ensures { result ≡ is_digest digest other }
 {

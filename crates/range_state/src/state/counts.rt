@@ -13,9 +13,9 @@ pub struct RangeCounts {
     pub limit: u64,
     /// The number of nodes of the tree without a digest.
     pub dirty: u64,
-    /// The number of sessions that were ever opened.
+    /// The number of sessions ever opened.
     pub sessions: u64,
-    /// The number of sessions that are open.
+    /// The number of open sessions.
     pub open_sessions: u64,
 }
 

@@ -1,4 +1,4 @@
-//! Judgement of a partner's text before anything of it is kept.
+//! Judgement of a partner's text before any of it is kept.
 ghost use Rattle.std.specs.Prelude.{◌≡◌, ◌+◌, ℕ, List, [], ◌∷◌, ◌++◌, ⊤, None, length};
 ghost use Rattle.vclock.specs.Answer.{AnswersAtOnce, AnswersOrNoMemory};
 ghost use Rattle.range_journal.specs.Journal.{held};
@@ -23,8 +23,8 @@ use vclock::Refusal;
 use version_set::Offered;
 
 impl RangeState {
-    /// Returns the news in a text that the session of a kept record awaits, if all of it can be taken: no rows for an inner
-    /// node. A leaf's text is judged first, a row at a time, so a leaf that is refused costs the memory of one row.
+    /// Returns the news in a text that the session of a kept record awaits, if all of it can be taken: no rows for an
+    /// inner node. A leaf's text is judged first, a row at a time, so a refused leaf costs the memory of one row.
     ///
     /// Refused, in order: NotAsked, WrongDigest, NotCanonical, Crowded, JournalFull, NoMemory. At a leaf NoMemory may
     /// replace NotCanonical, Crowded and JournalFull.
@@ -74,8 +74,8 @@ impl RangeState {
         }
     }
 
-    /// Judges the news of a leaf by their number, or `None` if a key has too many versions. Refused, in order: Crowded,
-    /// JournalFull.
+    /// Judges the news of a leaf by their number, which is `None` if a key has too many versions. Refused, in order:
+    /// Crowded, JournalFull.
     fn judge(&self, news: Option<u64>) -> Result<(), Refusal>
         ensures { (seat : ℕ) (others : List Row) → IsCounted self.now.store seat others news
             → AnswersAtOnce result (leaf_fault self.now.store seat (offers_of others)) (λ _. ⊤) }
@@ -89,7 +89,7 @@ impl RangeState {
         }
     }
 
-    /// Adds the number of a row's versions that are new: `None` from the first version on that is too many for its key.
+    /// Adds the number of a row's new versions. Returns `None` from the first version on that is too many for its key.
     /// Refused: NoMemory.
     fn with_news(&self, alloc: Global, row: &Row, news: Option<u64>) -> Result<Option<u64>, Refusal>
         ensures { (seat : ℕ) (others : List Row) → IsCounted self.now.store seat others news → HasOtherKeys row.now others
@@ -105,8 +105,8 @@ impl RangeState {
         }
     }
 
-    /// Counts the versions of a row that are new. Refused: Crowded (one version, in its turn, would be too many for the
-    /// key), NoMemory, which may replace Crowded.
+    /// Counts the new versions of a row. Refused: Crowded (one version, in its turn, would be too many for the key),
+    /// NoMemory, which may replace Crowded.
     fn count_news(&self, alloc: Global, row: &Row) -> Result<u64, Refusal>
         ensures { (seat : ℕ) → AnswersOrNoMemory result (crowded_in self.now.store seat sources.Partner (offers_in row.now))
             (λ count. length (taken_in self.now.store seat (offers_in row.now)).entries ≡ length self.now.store.entries + count) }

@@ -9,9 +9,9 @@ use std::alloc::Global;
 use vclock::{Format, Refusal};
 
 impl RangeState {
-    /// Migrates a range of format 1 to format 2. The journal is unchanged, word for word, and its versions are live;
-    /// the rows are in 4,096 leaves, and all 4,369 nodes are dirty. Open sessions are cancelled; each record keeps the
-    /// format of its snapshot. The moment is dropped. A range of format 2 is unchanged.
+    /// Migrates a range of format 1 to format 2. The journal is unchanged, and its versions are live; the rows are in
+    /// 4,096 leaves, and all 4,369 nodes are dirty. Open sessions are cancelled; each record keeps the format of its
+    /// snapshot. The moment is dropped. A range of format 2 is unchanged.
     ///
     /// The journal is replayed once, with the present leaves still in memory. Refused: NoMemory. On error the state is
     /// unchanged.

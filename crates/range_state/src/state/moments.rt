@@ -1,4 +1,4 @@
-//! The moment of a range: its rows at a time, which are hashed and offered while the range goes on.
+//! The moment of a range: its rows at one time, which are hashed and offered while the range changes.
 ghost use Rattle.std.specs.Prelude.{◌≡◌, ⊤, None, Some};
 ghost use Rattle.std.specs.Arc.{arc_value};
 ghost use Rattle.vclock.specs.Answer.{Answers, AnswersAtOnce};
@@ -24,9 +24,9 @@ use vclock::Refusal;
 use walk_messages::Offer;
 
 impl RangeState {
-    /// Keeps the rows now, and the digests of their tree, as the moment of the range, in the place of another one, which
-    /// it returns. Shares the leaves, and copies no row: while the moment is kept, the first change of a chunk of rows
-    /// copies it.
+    /// Keeps the rows now, and the digests of their tree, as the moment of the range, and returns the previous one, if
+    /// any. Shares the leaves, and copies no row: while the moment is kept, the first change of a chunk of rows copies
+    /// it.
     ///
     /// Refused: NoMemory. On error the state is unchanged.
     pub fn hold_moment(&mut self, alloc: Global) -> Result<Option<Moment>, Refusal>
@@ -39,8 +39,8 @@ impl RangeState {
         Ok(before)
     }
 
-    /// Lets go of the moment, and returns it, if there is one; `whole_front` is unchanged. Its rows are freed with it, so
-    /// a caller that holds a lock drops it without the lock. Doesn't allocate.
+    /// Takes the moment out of the range, and returns it, if any; `whole_front` is unchanged. Dropping it frees its
+    /// rows, so a caller with a lock releases the lock first. Doesn't allocate.
     pub fn take_moment(&mut self) -> Option<Moment>
         ensures moment { result ≡ self.old.moment }
         ensures state { self.new ≡ without_moment self.old }
@@ -49,8 +49,8 @@ impl RangeState {
         self.moment.take()
     }
 
-    /// Returns jobs of different nodes of the moment: of all its dirty nodes whose children are clean, or of the first
-    /// `most` of them if there are more. Without a moment there are none. Refused: NoMemory.
+    /// Returns jobs of different nodes of the moment: of all its dirty nodes whose children are clean, but at most of
+    /// the first `most`. Returns no job without a moment. Refused: NoMemory.
     pub fn take_moment_jobs(&self, alloc: Global, most: usize) -> Result<Vec<Job>, Refusal>
         ensures { Answers result None (λ jobs. AreMomentJobs self.now.moment most jobs.items) }
     {
@@ -63,7 +63,7 @@ impl RangeState {
     /// Installs the digest of a text at a node of the moment, and at that node of the range's tree, if its children are
     /// clean and this is its text now.
     ///
-    /// Refused: Stale (there is no moment, its tree has no such node, one of its children is dirty, or the node has
+    /// Refused: Stale (the moment is missing, its tree has no such node, one of its children is dirty, or the node has
     /// another text). On error the state is unchanged. Doesn't allocate: the text is compared with the rows in place.
     pub fn install_moment(&mut self, node: NodeAt, hashed: &Hashed) -> Result<(), Refusal>
         ensures { DoesAtOnce result self.old self.new (install_moment self.old node hashed.now) }
@@ -86,8 +86,8 @@ impl RangeState {
         let _changed = self.install(node, hashed);
     }
 
-    /// Makes a snapshot of the moment, to offer to another replica. Copies no row. Refused, in order: Dirty (there is no
-    /// moment, or some node of it has no digest), NoMemory.
+    /// Makes a snapshot of the moment, to offer to another replica. Copies no row. Refused, in order: Dirty (the moment
+    /// is missing, or one of its nodes has no digest), NoMemory.
     pub fn moment(&self, alloc: Global) -> Result<Arc<Snapshot, Global>, Refusal>
         ensures { Answers result (moment_fault self.now.moment)
             (λ snapshot. arc_value snapshot ≡ rows_at self.now.store (front_of self.now.moment)) }
@@ -109,7 +109,7 @@ impl RangeState {
         Ok(moment)
     }
 
-    /// Makes a snapshot of the rows now, as `snapshot` does, or of the moment, as `moment` does.
+    /// Makes a snapshot of the rows now, like `snapshot`, or of the moment, like `moment`.
     pub fn snapshot_of(
         &self,
         alloc: Global,
@@ -123,8 +123,8 @@ impl RangeState {
         }
     }
 
-    /// Opens a session that compares the rows now, as `open_session` does, or those of the moment, as
-    /// `open_session_at_moment` does.
+    /// Opens a session that compares the rows now, like `open_session`, or the moment's rows, like
+    /// `open_session_at_moment`.
     pub fn open_session_by(
         &mut self,
         alloc: Global,
@@ -140,13 +140,13 @@ impl RangeState {
         }
     }
 
-    /// Opens a session with a partner's offer: the rows of the moment are compared with those under the offered root,
-    /// so it may ask for leaves that differ only because the range has gone on. Returns the number of the session: one
-    /// more than the last, from 0.
+    /// Opens a session with a partner's offer: the rows of the moment are compared with the rows under the offered
+    /// root, so it may ask for leaves that differ only because the range has changed since. Returns the number of the
+    /// session: one more than the last, from 0.
     ///
     /// Refused, in order: OtherFormat, OtherRange, SessionsFull (64 sessions are open, or there are 1,024 records),
-    /// Dirty (there is no moment, or some node of it has no digest), NoMemory (also if the number would be 2^64 - 1). On
-    /// error the state is unchanged.
+    /// Dirty (the moment is missing, or one of its nodes has no digest), NoMemory (also if the number would be
+    /// 2^64 - 1). On error the state is unchanged.
     pub fn open_session_at_moment(
         &mut self,
         alloc: Global,

@@ -1,4 +1,4 @@
-//! Outlines and patches of a session: they let a partner send only what the local snapshot lacks.
+//! Outlines and patches of a session: a partner then sends only the parts that are missing from the local snapshot.
 ghost use Rattle.std.specs.Prelude.{◌≡◌, MatchOption};
 ghost use Rattle.vclock.specs.Answer.{Answers, AnswersAtOnce};
 ghost use Rattle.range_state.specs.Records.{record_of};
@@ -14,12 +14,12 @@ use vclock::Refusal;
 use walk_messages::Ask;
 
 impl RangeState {
-    /// Returns the bytes of an outline of a node that a session has outstanding: the ask for it, with the number of the
+    /// Returns the bytes of an outline of a session's outstanding node: the ask for it, with the number of the
     /// partner's offer, and a mark of `width` bytes for each part of the node's text in the session's snapshot. Send it
-    /// in place of the ask: the partner's patch has only what these parts lack.
+    /// in place of the ask: the partner's patch has only the bytes that aren't in these parts.
     ///
-    /// Refused, in order: BadMessage (the width isn't 1 to 8), UnknownSession (there is no record of that number),
-    /// NotAsked (the node isn't outstanding), NoMemory.
+    /// Refused, in order: BadMessage (the width isn't 1 to 8), UnknownSession (no record has that number), NotAsked
+    /// (the node isn't outstanding), NoMemory.
     pub fn outline(
         &self,
         alloc: Global,
@@ -41,11 +41,11 @@ impl RangeState {
         Ok(Text::from(outline(alloc, ask, &salt, width, &parts)?))
     }
 
-    /// Returns the text that the steps of a patch make of a node's parts in the snapshot of a session that has the node
-    /// outstanding. It isn't trusted: hash it, and hand it to `take_answer`.
+    /// Returns the text that the steps of a patch make from the parts of a session's outstanding node, in the session's
+    /// snapshot. It isn't trusted: hash it, and pass it to `take_answer`.
     ///
-    /// Refused, in order: UnknownSession (there is no record of that number), NotAsked (the node isn't outstanding),
-    /// BadMessage (the steps aren't well formed, copy a part that isn't there, or go back), NoMemory, which may replace
+    /// Refused, in order: UnknownSession (no record has that number), NotAsked (the node isn't outstanding), BadMessage
+    /// (the steps aren't well formed, copy a part that doesn't exist, or go back), NoMemory, which may replace
     /// BadMessage.
     pub fn patched(
         &self,
@@ -59,9 +59,9 @@ impl RangeState {
         rebuild(alloc, self.asking(session, node)?.own(), node, steps)
     }
 
-    /// Returns the session of a number, if it has a node outstanding. Doesn't allocate.
+    /// Returns the session with a number, if a node of it is outstanding. Doesn't allocate.
     ///
-    /// Refused, in order: UnknownSession (there is no record of that number), NotAsked (the node isn't outstanding).
+    /// Refused, in order: UnknownSession (no record has that number), NotAsked (the node isn't outstanding).
     pub fn asking(&self, id: u64, node: NodeAt) -> Result<&Session, Refusal>
         ensures session { AnswersAtOnce result (asked_fault self.now id node)
             (λ session. MatchOption (record_of id self.now.records) ⊥ (λ r. r.session ≡ session.now)) }

@@ -11,11 +11,11 @@ use tree_nodes::{Hashed, NodeAt};
 use vclock::Refusal;
 
 impl RangeState {
-    /// Hashes a portion of the moment's nodes, as `take_portion` makes it, in the caller's thread. Returns the number of
-    /// its nodes that are dirty then: 0 without a moment. A caller that repeats it until that number is 0 can do other
-    /// work between.
+    /// Hashes a portion of the moment's nodes, like `take_portion`'s, in the caller's thread. Returns the number of its
+    /// nodes that are still dirty: 0 without a moment. A caller that repeats the call until that number is 0 can do
+    /// other work in between.
     ///
-    /// Refused: NoMemory. Then the state is unchanged.
+    /// Refused: NoMemory. On error the state is unchanged.
     pub fn hash_moment(&mut self, alloc: Global, most: usize) -> Result<usize, Refusal>
         ensures { HashesMoment result most self.old self.new }
     {
@@ -23,18 +23,18 @@ impl RangeState {
         Ok(self.install_portion(portion))
     }
 
-    /// Returns a portion of the moment's dirty nodes whose children are clean: at most `most` of them, the first ones in
-    /// the order of their places, up to the one with which their texts have 262,144 bytes. It has room for their
-    /// digests. Without a moment it has no node. Refused: NoMemory.
+    /// Returns a portion of the moment's dirty nodes whose children are clean: at most `most` of them, the first ones
+    /// in the order of their places, up to the one with which their texts have 262,144 bytes. It has capacity for their
+    /// digests. It is empty without a moment. Refused: NoMemory.
     pub fn take_portion(&self, alloc: Global, most: usize) -> Result<Portion, Refusal>
         ensures { Answers result None (IsPortion self.now.moment most) }
     {
         Portion::of(alloc, self.take_moment_jobs(alloc, most)?)
     }
 
-    /// Installs the digests of a portion, each as `install_moment` does; those that are Stale are left out. Hashes the
-    /// nodes that aren't hashed yet. Returns the number of the moment's nodes that are dirty then: 0 without a moment.
-    /// Doesn't allocate.
+    /// Installs the digests of a portion, each like `install_moment`, and skips stale ones. Hashes the nodes that
+    /// aren't hashed yet. Returns the number of the moment's nodes that are still dirty: 0 without a moment. Doesn't
+    /// allocate.
     pub fn install_portion(&mut self, portion: Portion) -> usize
         ensures installed { self.new ≡ installed_all self.old portion }
         ensures left { result ≡ dirty_in self.new.moment }
@@ -62,8 +62,8 @@ impl RangeState {
         }
     }
 
-    /// Returns the number of entries that the journal had at the last moment that was whole: that had a digest at each
-    /// node. Returns 0 if there was none. Doesn't allocate.
+    /// Returns the number of entries that the journal had at the last whole moment, which had a digest at each node.
+    /// Returns 0 if no moment was whole. Doesn't allocate.
     pub fn whole_front(&self) -> u64
         ensures { result ≡ last_whole self.now }
     {

@@ -1,4 +1,4 @@
-//! Calls that add their receipts to a list of the caller, too.
+//! Calls that also append their receipts to a list of the caller.
 ghost use Rattle.std.specs.Prelude.{◌≡◌, ◌≤◌, None, IfErr, IsTrue};
 ghost use Rattle.vclock.specs.Outcome.{Does, DoesOrNoMemory};
 ghost use Rattle.range_store.specs.Store.{is_sent, ask_fault};
@@ -17,8 +17,8 @@ use vclock::{Bytes, Clock, Refusal};
 use version_set::{Kind, Version};
 
 impl RangeState {
-    /// Puts a value as `put` does, or as `put_read` does, by the test of its context, for a key that was hashed before,
-    /// and appends a copy of the receipt to a list. Refused as that one is. On error the list is unchanged.
+    /// Puts a value, like `put` or `put_read`, by the test of its context, for a key that was already hashed, and
+    /// appends a copy of the receipt to a list. Refused like that call. On error the list is unchanged.
     pub fn put_into(
         &mut self,
         alloc: Global,
@@ -41,13 +41,13 @@ impl RangeState {
         let done = self
             .store
             .put_into(alloc, receipts, test, seat, at, key, context, kind, value);
-        // Called for its clause alone: the store is sound.
+        // Called only for its clause: the store is sound.
         let _sound = self.store.journal();
         done
     }
 
-    /// Accepts a version as `accept` does, for a key that was hashed before, and appends a copy of the receipt, if any,
-    /// to a list. Refused as `accept` is. On error the list is unchanged.
+    /// Accepts a version, like `accept`, for a key that was already hashed, and appends a copy of the receipt, if any,
+    /// to a list. Refused like `accept`. On error the list is unchanged.
     pub fn accept_into(
         &mut self,
         alloc: Global,
@@ -64,12 +64,12 @@ impl RangeState {
         let done = self
             .store
             .accept_into(alloc, receipts, seat, source, key, version);
-        // Called for its clause alone: the store is sound.
+        // Called only for its clause: the store is sound.
         let _sound = self.store.journal();
         done
     }
 
-    /// Takes a text as `take_answer` does, and moves the receipts to the end of a list. Refused as `take_answer` is. On
+    /// Takes a text, like `take_answer`, and moves the receipts to the end of a list. Refused like `take_answer`. On
     /// error the list is unchanged.
     pub fn take_answer_into(
         &mut self,

@@ -24,7 +24,7 @@ use vclock::Refusal;
 /// ```
 #[derive(Debug, Drop)]
 pub struct Reconciled {
-    /// The number of nodes that the first asked: those at which the two trees differed.
+    /// The number of nodes that the first asked: the nodes at which the two trees differed.
     pub asked_a: u64,
     /// The number of versions that the first received: each has an entry at the end of its journal.
     pub accepted_a: u64,
@@ -39,11 +39,11 @@ pub struct Reconciled {
 ///
 /// Refused, in order, before anything changes: Dirty (some node of the tree of `a`, then of `b`, has no digest),
 /// SessionsFull (of `a`, then of `b`, 64 sessions are open, or there are 1,024 records). Refused during the sessions:
-/// Crowded, JournalFull, NoMemory. A session that is refused then is cancelled, and the versions that it accepted stay.
-/// If it is that of `a`, then `b` is unchanged.
+/// Crowded, JournalFull, NoMemory. The refused session is cancelled, and the versions that it accepted stay. If it is
+/// the session of `a`, then `b` is unchanged.
 ///
 /// Otherwise each asked the nodes at which their trees differed, and no others. If no two different texts of the nodes
-/// of the two trees share a digest, both hold, for each key, the maximal versions of those that they held before; and
+/// of the two trees share a digest, both hold, for each key, the maximal versions of all that they held before; and
 /// once both are clean, the digests of their roots are equal.
 pub fn reconcile(
     alloc: Global,
@@ -61,13 +61,13 @@ pub fn reconcile(
     ensures roots { OnOk result (NoTwoShareADigest (rows_now a.old.store) (rows_now b.old.store) []
         → HaveEqualRoots a.new b.new) }
 {
-    // Called for their clauses alone: both states are right.
+    // Called only for their clauses: both states are valid.
     let _right = a.journal();
     let _other = b.journal();
     run_both(alloc, a, at_a, b, at_b, seat)
 }
 
-/// Reconciles two replicas. Its contract covers the two sessions alone.
+/// Reconciles two replicas. Its contract covers only the two sessions.
 fn run_both(
     alloc: Global,
     a: &mut RangeState,
@@ -127,7 +127,7 @@ impl RangeState {
                 }
             },
             Err(refusal) => {
-                // If the session was not opened, there is nothing to cancel.
+                // If the session wasn't opened, there is nothing to cancel.
                 let _cancelled = self.cancel_at(place);
                 Err(refusal)
             }

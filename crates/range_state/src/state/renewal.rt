@@ -1,4 +1,4 @@
-//! A new range that begins with the versions that a range holds, or held at a moment.
+//! New ranges that begin with the versions that a range holds, or held at a moment.
 ghost use Rattle.std.specs.Prelude.{◌≡◌, ◌+◌, ◌^◌, ◌<◌, ⊤, [], length, drop, None, IfOk, IfErr, MatchOption};
 ghost use Rattle.std.specs.List.{AllByRecursion};
 ghost use Rattle.vclock.specs.Answer.{Answers, AnswersAtOnce};
@@ -20,8 +20,8 @@ use vclock::Refusal;
 impl RangeState {
     /// Makes a new range that begins with the versions that this one holds: each is an entry, as a copy by the seat,
     /// leaf by leaf, row by row and version by version, numbered from 0. The new range has this one's configuration
-    /// with another limit, its rows and its digests, no session and no moment; its sessions' numbers go on. It shares
-    /// the leaves, so no row is copied. This range is unchanged.
+    /// with another limit, its rows and its digests, no session and no moment; it continues the session numbers. It
+    /// shares the leaves, so no row is copied. This range is unchanged.
     ///
     /// Refused, in order: BadRing (the limit isn't 1 to 1,000,000), JournalFull (more versions are held than the
     /// limit), NoMemory.
@@ -38,8 +38,9 @@ impl RangeState {
         })
     }
 
-    /// Begins a renewal beside the puts: returns the rows of the moment, from which a new range is made without this one.
-    /// Copies no row. Refused, in order: Dirty (there is no moment, or some node of it has no digest), NoMemory.
+    /// Begins a renewal alongside the puts: returns the rows of the moment. A new range is made from them, without
+    /// access to this one. Copies no row. Refused, in order: Dirty (the moment is missing, or one of its nodes has no
+    /// digest), NoMemory.
     pub fn begin_renewal(&self, alloc: Global) -> Result<RenewalStart, Refusal>
         ensures { Answers result (moment_fault self.now.moment)
             (λ start. MatchOption self.now.moment ⊥ (λ m. start ≡ start_at self.now m)) }
@@ -61,8 +62,8 @@ impl RangeState {
     }
 }
 
-/// The rows of a range at a moment, from which a new range begins. Any thread makes the new range, while the old one goes
-/// on.
+/// The rows of a range at a moment, to begin a new range with. Any thread can make the new range, while the old one is
+/// in use.
 #[derive(Drop)]
 pub struct RenewalStart {
     basis: RenewalBasis,
@@ -79,7 +80,7 @@ impl Model for RenewalStart {
 }
 
 impl RenewalStart {
-    /// Makes a new range that begins with these rows, as [`RangeState::renewed`] makes one of the rows now. It shares the
+    /// Makes a new range that begins with these rows, like [`RangeState::renewed`] with the rows now. It shares the
     /// leaves and the digests.
     ///
     /// Refused, in order: BadRing (the limit isn't 1 to 1,000,000), JournalFull (the rows have more versions than the
@@ -88,7 +89,7 @@ impl RenewalStart {
         ensures { Answers result (basis_fault self.now.basis limit) (λ renewal. renewal ≡ renewing_from self.now seat limit) }
     {
         let store = self.basis.renewed(alloc, seat, limit)?;
-        // Called for its clause alone: the store is sound.
+        // Called only for its clause: the store is sound.
         let _sound = store.journal();
         let state = RangeState {
             store,
@@ -106,14 +107,14 @@ impl RenewalStart {
     }
 }
 
-/// A new range beside the old one, which goes on. It began with the rows of a moment, catches up with the entries that the
-/// old one accepted since then, some at a time, and takes its place.
+/// A new range alongside the old one, which is still in use. It began with the rows of a moment, catches up with the
+/// entries that the old one accepted since then, some at a time, and takes its place.
 ///
-/// The caller hands in the range that the renewal began from: another one isn't refused for certain.
+/// The caller must pass the range that the renewal began from: another one isn't always refused.
 #[derive(Drop)]
 pub struct Renewal {
     state: RangeState,
-    /// The number of the old range's entries with which the new one began.
+    /// The number of the old range's entries that the new one began with.
     began: u64,
     /// The number of the old range's entries that the new one has.
     front: u64,
@@ -131,27 +132,27 @@ impl Model for Renewal {
 }
 
 impl Renewal {
-    /// The number of the old range's entries with which the new one began.
+    /// Returns the number of the old range's entries that the new one began with.
     pub fn began(&self) -> u64
         ensures { result ≡ self.now.began }
     {
         self.began
     }
 
-    /// The new range, as far as it is.
+    /// Returns the new range in its current state.
     pub fn state(&self) -> &RangeState
         ensures { result.now ≡ self.now.state }
     {
         &self.state
     }
 
-    /// Accepts entries that the old range accepted after those that are here, in order and as copies by a seat: the first
-    /// `most` of them. Returns the number of those that are left.
+    /// Accepts the next entries that the old range accepted, at most `most`, in order and as copies by a seat. Returns
+    /// the number of entries that are left.
     ///
-    /// Refused, in order: Stale (the range can't be the old one: its format, its ring or its range differs, or it has fewer
-    /// entries than were accepted); then, for one of the entries, Stale (it isn't new), Crowded (the key would hold over 64
-    /// versions), JournalFull, NoMemory, which may replace the three before it. The entries before it are accepted then, and
-    /// a later call goes on with it.
+    /// Refused, in order: Stale (the range can't be the old one: its format, its ring or its range differs, or it has
+    /// fewer entries than were accepted); then, for one of the entries, Stale (it isn't new), Crowded (the key would
+    /// hold over 64 versions), JournalFull, NoMemory, which may replace the three before it. The entries before it are
+    /// accepted, and a later call continues with it.
     pub fn catch_up(
         &mut self,
         alloc: Global,
@@ -168,11 +169,11 @@ impl Renewal {
         Ok((later.len() - count) as u64)
     }
 
-    /// Accepts all entries that are left, and puts the new range in the place of the old one, which it returns: its caller
-    /// drops it where nobody waits. The new range goes on with the numbers of the old one's sessions, which it doesn't
-    /// have.
+    /// Accepts all entries that are left, replaces the old range by the new one, and returns the old one. The caller
+    /// should drop it without holding a lock. The new range continues the old one's session numbers, but doesn't have
+    /// its sessions.
     ///
-    /// Refused as [`Renewal::catch_up`] is. On error the old range is unchanged.
+    /// Refused like [`Renewal::catch_up`]. On error the old range is unchanged.
     pub fn finish(
         mut self,
         alloc: Global,
@@ -212,8 +213,8 @@ impl Renewal {
         Ok(())
     }
 
-    /// Accepts entries of the old range. Refused: Stale, Crowded, JournalFull, NoMemory. Then those before the entry are
-    /// accepted.
+    /// Accepts entries of the old range. Refused: Stale, Crowded, JournalFull, NoMemory. On error the entries before
+    /// the refused one are accepted.
     fn accept_all(&mut self, alloc: Global, seat: u16, entries: &[Entry]) -> Result<(), Refusal>
         requires own { AllByRecursion (IsOwn self.old.state.store.config) entries.now }
         requires few { self.old.front + length entries.now < 2 ^ 64 }
@@ -226,8 +227,8 @@ impl Renewal {
         Ok(())
     }
 
-    /// Accepts an entry of the old range. Refused: Stale, Crowded, JournalFull, NoMemory, which may replace any of them. On
-    /// error the renewal is unchanged.
+    /// Accepts an entry of the old range. Refused: Stale, Crowded, JournalFull, NoMemory, which may replace any of
+    /// them. On error the renewal is unchanged.
     fn accept(&mut self, alloc: Global, seat: u16, entry: &Entry) -> Result<(), Refusal>
         requires own { IsOwn self.old.state.store.config entry.now }
         requires few { self.old.front + 1 < 2 ^ 64 }

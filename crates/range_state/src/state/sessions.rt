@@ -19,7 +19,7 @@ use vclock::limits::{OPEN_SESSIONS_MAX, SESSIONS_MAX};
 use walk_messages::Offer;
 
 impl RangeState {
-    /// The records of the sessions, in the order of their numbers. Doesn't allocate.
+    /// Returns the records of the sessions, in the order of their numbers. Doesn't allocate.
     pub fn records(&self) -> &[Record]
         ensures all { result.now ≡ self.now.records }
         ensures valid { IsRight self.now }
@@ -34,8 +34,8 @@ impl RangeState {
         open_count(&self.records)
     }
 
-    /// Opens a session with a partner's offer: the rows now are compared with those under the offered root. Returns the
-    /// number of the session: one more than the last, from 0.
+    /// Opens a session with a partner's offer: the rows now are compared with the rows under the offered root. Returns
+    /// the number of the session: one more than the last, from 0.
     ///
     /// Refused, in order: OtherFormat, OtherRange, SessionsFull (64 sessions are open, or there are 1,024 records),
     /// Dirty (some node of the local tree has no digest), NoMemory (also if the number would be 2^64 - 1). On error the
@@ -52,8 +52,8 @@ impl RangeState {
         self.open_with(alloc, partner, offer.root)
     }
 
-    /// Opens a session that compares the rows now with those under a partner's root. Returns the number of the session.
-    /// Refused, in order: SessionsFull, Dirty, NoMemory.
+    /// Opens a session that compares the rows now with the rows under a partner's root. Returns the number of the
+    /// session. Refused, in order: SessionsFull, Dirty, NoMemory.
     pub(super) fn open_with(
         &mut self,
         alloc: Global,
@@ -76,8 +76,8 @@ impl RangeState {
         Ok(number)
     }
 
-    /// Cancels a session that is open; a session that has ended is unchanged. Doesn't allocate. Refused: UnknownSession
-    /// (there is no record of that number).
+    /// Cancels an open session; an ended one is unchanged. Doesn't allocate. Refused: UnknownSession (no record has
+    /// that number).
     pub fn cancel_session(&mut self, id: u64) -> Result<(), Refusal>
         ensures { DoesAtOnce result self.old self.new (cancel_session self.old id) }
     {
@@ -85,7 +85,7 @@ impl RangeState {
         self.cancel_at(place)
     }
 
-    /// Cancels the session at a place among the records. Refused: UnknownSession (there is no such place).
+    /// Cancels the session at a place among the records. Refused: UnknownSession (no record is at that place).
     pub(super) fn cancel_at(&mut self, place: usize) -> Result<(), Refusal>
         ensures { DoesAtOnce result self.old self.new (cancel_at self.old place) }
     {
@@ -96,8 +96,8 @@ impl RangeState {
         Ok(())
     }
 
-    /// The first outstanding node of a session, if any. Doesn't allocate. Refused: UnknownSession (there is no record
-    /// of that number).
+    /// Returns the first outstanding node of a session, if any. Doesn't allocate. Refused: UnknownSession (no record
+    /// has that number).
     pub fn outstanding(&self, id: u64) -> Result<Option<NodeAt>, Refusal>
         ensures first { AnswersAtOnce result (unknown_fault self.now id)
             (λ first. MatchOption (record_of id self.now.records) ⊥
@@ -107,7 +107,7 @@ impl RangeState {
         self.outstanding_at(self.place(id))
     }
 
-    /// The first outstanding node of the session at a place, if any.
+    /// Returns the first outstanding node of the session at a place, if any.
     pub(super) fn outstanding_at(&self, place: usize) -> Result<Option<NodeAt>, Refusal>
         ensures first { AnswersAtOnce result (unknown_at self.now place)
             (λ first. MatchOption (slice_get self.now.records place) ⊥
@@ -118,7 +118,7 @@ impl RangeState {
         Ok(nodes.first().copied())
     }
 
-    /// Returns the record of a session. Doesn't allocate. Refused: UnknownSession (there is no record of that number).
+    /// Returns the record of a session. Doesn't allocate. Refused: UnknownSession (no record has that number).
     pub fn record(&self, id: u64) -> Result<&Record, Refusal>
         ensures found { AnswersAtOnce result (unknown_fault self.now id)
             (λ r. record_of id self.now.records ≡ Some r.now) }
@@ -127,7 +127,7 @@ impl RangeState {
         self.record_at(self.place(id))
     }
 
-    /// Returns the record at a place. Refused: UnknownSession (there is no such place).
+    /// Returns the record at a place. Refused: UnknownSession (no record is at that place).
     pub(super) fn record_at(&self, place: usize) -> Result<&Record, Refusal>
         ensures found { AnswersAtOnce result (unknown_at self.now place)
             (λ r. slice_get self.now.records place ≡ Some r.now) }
@@ -136,7 +136,7 @@ impl RangeState {
         self.records.get(place).ok_or(Refusal::UnknownSession)
     }
 
-    /// Returns the place of a session's record: the number of records if there is none.
+    /// Returns the place of a session's record, or the number of records if the session has no record.
     pub(super) fn place(&self, id: u64) -> usize
         ensures { result ≡ place_of id self.now.records }
     {
@@ -158,7 +158,7 @@ impl RangeState {
     }
 }
 
-/// Tests that a session can be opened in addition to these.
+/// Tests that another session can be opened.
 pub(super) fn check_crowd(records: &[Record]) -> Result<(), Refusal>
     ensures { AnswersAtOnce result (crowd_fault (standings records.now)) (λ _. ⊤) }
 {
@@ -168,7 +168,7 @@ pub(super) fn check_crowd(records: &[Record]) -> Result<(), Refusal>
     Ok(())
 }
 
-/// Returns the place of the record with a number: the number of records if there is none. Their numbers ascend.
+/// Returns the place of the record with a number, or the number of records if no record has it. Their numbers ascend.
 fn place_in(records: &[Record], id: u64) -> usize
     requires { Pairwise (λ r s. r.number < s.number) records.now }
     ensures { result ≡ place_of id records.now }

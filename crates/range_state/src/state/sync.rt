@@ -1,4 +1,4 @@
-//! Whole sessions with a partner that answers truly.
+//! Whole sessions with an honest partner.
 ghost use Rattle.std.specs.Prelude.{◌≡◌, ◌≢◌, ◌⊎◌, ◌+◌, ◌≤◌, ⊤, None, length, slice_get, MatchOption, IfOk, IfErr, OnOk, OnErr, Err};
 ghost use Rattle.vclock.specs.Answer.{Answers, AnswersOrNoMemory, first_fault};
 ghost use Rattle.tree_nodes.specs.Nodes.{tree_depth};
@@ -15,14 +15,14 @@ use tree_nodes::NodeAt;
 use vclock::Refusal;
 use walk_messages::Ask;
 
-/// The report of a session with a partner that answers truly.
+/// The report of a session with an honest partner.
 #[derive(Debug, Drop)]
 pub struct Synced {
     /// The number of new versions: each has an entry at the end of the journal.
     pub accepted: u64,
-    /// The number of versions, in the leaves that were taken, that were covered by those accepted before.
+    /// The number of versions in the taken leaves that were covered by versions accepted before.
     pub known: u64,
-    /// The number of nodes that were asked: those at which the two trees differ.
+    /// The number of nodes that were asked: the nodes at which the two trees differ.
     pub asked: u64,
     /// The refusal of a leaf, if any: Crowded or JournalFull.
     pub fault: Option<Refusal>,
@@ -34,8 +34,7 @@ impl RangeState {
     ///
     /// Refused, in order, before anything changes: SessionsFull (64 sessions are open, or there are 1,024 records),
     /// Dirty (some node of the local tree has no digest), NoMemory. NoMemory is possible later, too: then the session
-    /// stays, and so do the versions of the leaves that were taken, which are the first of those at which the two trees
-    /// differ.
+    /// stays, and so do the versions of the taken leaves, which are the first leaves at which the two trees differ.
     pub fn sync_with(
         &mut self,
         alloc: Global,
@@ -51,7 +50,7 @@ impl RangeState {
         ensures err { IfErr result (λ e. e ≢ Refusal.NoMemory → self.new ≡ self.old) }
         ensures late { OnErr result ((self.new ≡ self.old) ⊎ IsPartWay self.old seat partner other.now self.new) }
     {
-        // Called for its clause alone: the rows have a tree.
+        // Called only for its clause: the rows have a tree.
         let _format = other.format();
         let before = self.store.journal().len();
         let place = self.records.len();

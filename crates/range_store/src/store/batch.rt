@@ -44,8 +44,8 @@ impl Batch {
 }
 
 impl RangeStore {
-    /// Prepares the versions of rows of a leaf, each in its turn, as from a source, so that `accept_batch` accepts all or
-    /// none. Refused: Crowded (one version, in its turn, would be too many for its key), NoMemory, which may replace
+    /// Prepares the versions of rows of a leaf, each in its turn, as from a source, so that `accept_batch` accepts all
+    /// or none. Refused: Crowded (one version, in its turn, would be too many for its key), NoMemory, which may replace
     /// Crowded.
     pub fn prepare(
         &self,
@@ -136,8 +136,8 @@ impl RangeStore {
         Ok(())
     }
 
-    /// Accepts the versions of a batch for a leaf. Allocates before it changes anything. Refused, in order: JournalFull,
-    /// NoMemory. On error the store is unchanged.
+    /// Accepts the versions of a batch for a leaf. Allocates before it changes anything. Refused, in order:
+    /// JournalFull, NoMemory. On error the store is unchanged.
     pub fn accept_batch(
         &mut self,
         alloc: Global,

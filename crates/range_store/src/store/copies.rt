@@ -6,8 +6,8 @@ ghost use Rattle.range_store.specs.Copies.{with_copies};
 use crate::store::RangeStore;
 
 impl RangeStore {
-    /// Makes a copy of each partner's entry from number `from` on, as `Journal::make_copies` does. What is held, the rows
-    /// and the digests are unchanged. None of the entries before is a partner's. Doesn't allocate.
+    /// Turns each partner's entry from number `from` on into a copy, like `Journal::make_copies`. The held versions,
+    /// the rows and the digests are unchanged. No earlier entry is a partner's. Doesn't allocate.
     pub fn make_copies(&mut self, from: u64)
         requires { IsSettled from self.old.entries }
         ensures { self.new ≡ with_copies self.old }

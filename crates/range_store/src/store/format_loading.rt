@@ -37,15 +37,14 @@ pub(super) struct Spread {
 }
 
 impl RangeStore {
-    /// Loads rows of a format, of any leaves of the range, from their texts, which are one after another in ascending
-    /// order of key: accepts each of their versions in its turn, as a copy by a seat, or none. So rows that were saved
-    /// in format 1 are loaded after a migration. A version that is equal to or below one accepted before is known, and
-    /// isn't journaled again.
+    /// Loads rows of a format, of any leaves of the range, from their texts in ascending order of key: accepts each of
+    /// their versions in its turn, as a copy by a seat, or none. Rows that were saved in format 1 can be loaded after a
+    /// migration. A version that is equal to or below one accepted before is known, and isn't journaled again.
     ///
-    /// Refused, in order: OtherFormat (rows of format 2 for a range of format 1), RowBroken (with the offset in bytes of
-    /// the first field that isn't whole or breaks its rule), OtherRange (a key is of another range), Crowded (one
-    /// version, in its turn, would be too many for its key), JournalFull, NoMemory. Reading allocates, so NoMemory may
-    /// replace any cause. On error the state is unchanged.
+    /// Refused, in order: OtherFormat (rows of format 2 for a range of format 1), RowBroken (with the offset in bytes
+    /// of the first field that isn't whole or breaks its rule), OtherRange (a key belongs to another range), Crowded
+    /// (one version, in its turn, would be too many for its key), JournalFull, NoMemory. Reading allocates, so NoMemory
+    /// may replace any cause. On error the state is unchanged.
     pub fn load_format(
         &mut self,
         alloc: Global,
@@ -61,8 +60,8 @@ impl RangeStore {
         self.accept_spread(alloc, spread)
     }
 
-    /// Prepares the versions of rows of a format, as copies by a seat. Refused as a load for which the journal has room
-    /// is.
+    /// Prepares the versions of rows of a format, as copies by a seat. Refused like a load into a journal that isn't
+    /// full.
     fn spread(
         &self,
         alloc: Global,
@@ -176,7 +175,7 @@ impl RangeStore {
     }
 }
 
-/// Refuses rows of a format for a range of another. Refused: OtherFormat.
+/// Refuses rows of one format for a range of the other. Refused: OtherFormat.
 fn check_format(own: Format, format: Format) -> Result<(), Refusal>
     ensures { AnswersAtOnce result (newer_fault own format) (λ _. ⊤) }
 {
@@ -186,14 +185,14 @@ fn check_format(own: Format, format: Format) -> Result<(), Refusal>
     }
 }
 
-/// Returns true if the key of each row is of the range.
+/// Returns true if the key of each row belongs to the range.
 fn are_here(config: &RangeConfig, rows: &[Row]) -> bool
     ensures { result ≡ are_here config.now rows.now }
 {
     rows.iter().all(|row| is_here(config, row))
 }
 
-/// Returns true if the key of a row is of the range.
+/// Returns true if the key of a row belongs to the range.
 fn is_here(config: &RangeConfig, row: &Row) -> bool
     ensures { result ≡ (range_at config.now.bits row.now.key == config.now.range) }
 {

@@ -19,21 +19,21 @@ use vclock::Refusal;
 /// The counts of a load.
 #[derive(Clone, Copy, Debug, PartialEq, Eq)]
 pub struct Loaded {
-    /// The number of versions that were taken: each has an entry at the end of the journal.
+    /// The number of accepted versions: each has an entry at the end of the journal.
     pub taken: u64,
-    /// The number of versions that were known.
+    /// The number of known versions.
     pub known: u64,
 }
 
 impl RangeStore {
-    /// Loads rows of one leaf from their texts, which are one after another in ascending order of key: accepts each of
-    /// their versions in its turn, as a copy by a seat, or none. A version that is equal to or below one accepted before
-    /// is known, and isn't journaled again.
+    /// Loads rows of one leaf from their texts in ascending order of key: accepts each of their versions in its turn,
+    /// as a copy by a seat, or none. A version that is equal to or below one accepted before is known, and isn't
+    /// journaled again.
     ///
     /// Refused, in order: RowBroken (with the offset in bytes of the first field that isn't whole or breaks its rule),
-    /// OtherRange (a key is of another range, or of another leaf than the first one), Crowded (one version, in its turn,
-    /// would be too many for its key), JournalFull, NoMemory. Reading allocates, so NoMemory may replace any cause. On
-    /// error the store is unchanged.
+    /// OtherRange (a key belongs to another range, or to another leaf than the first key), Crowded (one version, in its
+    /// turn, would be too many for its key), JournalFull, NoMemory. Reading allocates, so NoMemory may replace any
+    /// cause. On error the store is unchanged.
     pub fn load_rows(&mut self, alloc: Global, seat: u16, text: &[u8]) -> Result<Loaded, Refusal>
         ensures { DoesOrNoMemory result self.old self.new (load_text self.old seat text.now) }
     {
@@ -42,8 +42,8 @@ impl RangeStore {
         self.accept_batch(alloc, rows.leaf(), batch)
     }
 
-    /// Loads rows as `load_rows` does, that were read before for this range's configuration, and appends copies of the
-    /// receipts to a list. Refused as `load_rows` is. On error the list is unchanged.
+    /// Loads rows that were read before for this range's configuration, like `load_rows`, and appends copies of the
+    /// receipts to a list. Refused like `load_rows`. On error the list is unchanged.
     pub fn load_into(
         &mut self,
         alloc: Global,
@@ -63,7 +63,7 @@ impl RangeStore {
         Ok(loaded)
     }
 
-    /// Prepares the versions of rows, as copies by a seat. Refused as a load for which the journal has room is.
+    /// Prepares the versions of rows, as copies by a seat. Refused like a load into a journal that isn't full.
     fn prepare_load(&self, alloc: Global, seat: u16, rows: &LeafRows) -> Result<Batch, Refusal>
         requires { rows.now.config ≡ self.now.config }
         ensures { AnswersOrNoMemory result (crowded_in self.now seat Copy (offers_of rows.now.rows))

@@ -1,4 +1,4 @@
-//! Calls that add their receipts to a list of the caller, too.
+//! Calls that also append their receipts to a list of the caller.
 ghost use Rattle.std.specs.Prelude.{◌≡◌, ◌+◌, ◌≤◌, ◌++◌, ◌⊎◌, [], None, IfOk, IfErr, IsTrue};
 ghost use Rattle.std.specs.Vec.{vec_len, vec_capacity};
 ghost use Rattle.vclock.specs.Answer.{Answers};
@@ -18,8 +18,8 @@ use vclock::{Bytes, Clock, Refusal};
 use version_set::{Kind, Version};
 
 impl RangeStore {
-    /// Puts a value as `put` does, for a key that was hashed before, and appends a copy of the receipt to a list. Refused
-    /// as `put` is. On error the list is unchanged.
+    /// Puts a value like `put`, for a key that was hashed before, and appends a copy of the receipt to a list. Refused
+    /// like `put`. On error the list is unchanged.
     pub fn put_into(
         &mut self,
         alloc: Global,
@@ -53,8 +53,8 @@ impl RangeStore {
         )
     }
 
-    /// Accepts a version as `accept` does, for a key that was hashed before, and appends a copy of the receipt, if any,
-    /// to a list. Refused as `accept` is. On error the list is unchanged.
+    /// Accepts a version like `accept`, for a key that was hashed before, and appends a copy of the receipt, if any, to
+    /// a list. Refused like `accept`. On error the list is unchanged.
     pub fn accept_into(
         &mut self,
         alloc: Global,
@@ -77,7 +77,7 @@ impl RangeStore {
     }
 }
 
-/// Copies entries as receipts, and makes room for them in a list that isn't empty. Refused: NoMemory.
+/// Copies entries as receipts, and reserves capacity for them in a list that isn't empty. Refused: NoMemory.
 pub fn receipts_beside(
     alloc: Global,
     list: &mut Vec<Receipt>,
@@ -94,7 +94,7 @@ pub fn receipts_beside(
     copy_entries(alloc, entries)
 }
 
-/// Moves receipts to the end of a list that is empty or has room for them.
+/// Moves receipts to the end of a list that is empty or has capacity for them.
 pub fn move_to(list: &mut Vec<Receipt>, mut receipts: Vec<Receipt>)
     requires { (list.old.items ≡ []) ⊎ (vec_len list.old + vec_len receipts ≤ vec_capacity list.old) }
     ensures { list.new.items ≡ list.old.items ++ receipts.items }

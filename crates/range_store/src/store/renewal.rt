@@ -1,15 +1,16 @@
 //! A new range that begins with the versions that a range holds.
-ghost use Rattle.std.specs.Prelude.{◌≡◌, ◌+◌, ◌<◌, ◌≤◌, ◌^◌, ℕ, ⊤, [], ◌∷◌, length, map, take, None};
+ghost use Rattle.std.specs.Prelude.{◌≡◌, ◌+◌, ◌++◌, ◌<◌, ◌≤◌, ◌^◌, ℕ, ⊤, [], ◌∷◌, length, map, take, None};
+ghost use Rattle.std.specs.List.{AllByRecursion};
 ghost use Rattle.vclock.specs.Answer.{Answers, AnswersAtOnce};
-ghost use Rattle.key_ring.specs.Places.{leaf_bits};
 ghost use Rattle.range_store.specs.Offers.{offers_in, offers_of};
-ghost use Rattle.range_store.specs.Renewals.{IsOfConfig, config_to, copies_from, by_leaf, offers_by_leaf, held_offers, renewed_by, renew_fault, limit_fault, begun_by, basis_fault, with_copies};
-ghost use Rattle.range_store.specs.Store.{rows_now};
+ghost use Rattle.range_store.specs.Renewals.{IsBasis, IsOfConfig, config_to, by_leaf, offers_by_leaf, renewed_by, renew_fault, limit_fault, begun_by, basis_fault, with_copies};
+ghost use Rattle.range_store.specs.Store.{leaf_in, rows_now};
 ghost use Rattle.range_store.specs.TableRows.{row_of};
+ghost use Rattle.row_bytes.specs.declared.row.Row.{Row};
 
 use crate::config::RangeConfig;
 use crate::store::RangeStore;
-use crate::store::table_rows::insert_leaf;
+use crate::store::table_rows::insert_rows;
 use hash_tree::SharedLeaf;
 use key_ring::leaf_count;
 use range_journal::{Journal, Source};
@@ -27,23 +28,24 @@ const SPARE_LEAST: u64 = 1_024;
 impl RangeStore {
     /// Makes a new range that begins with the versions that this one holds: each is an entry, as a copy by the seat,
     /// leaf by leaf, row by row and version by version, numbered from 0. The new range has this one's configuration
-    /// with another limit, its rows and its digests. It shares the leaves, and copies of the table's rows share keys and
-    /// values. This range is unchanged.
+    /// with another limit, its rows and its digests. It shares the leaves, and the table's rows share keys and values.
+    /// This range is unchanged.
     ///
     /// Refused, in order: BadRing (the limit isn't 1 to 1,000,000), JournalFull (more versions are held than the
     /// limit), NoMemory.
     pub fn renewed(&self, alloc: Global, seat: u16, limit: u64) -> Result<RangeStore, Refusal>
         ensures { Answers result (renew_fault self.now limit) (λ range. range ≡ renewed_by self.now seat limit) }
     {
-        let (config, count) = self.new_limit(limit)?;
-        let journal = begun_journal(alloc, &self.config, &self.tree, seat, limit, count)?;
-        let tree = self.tree.share(alloc)?;
-        Ok(RangeStore {
-            config,
-            journal,
-            tree,
-            table: self.table.try_clone(alloc)?,
-        })
+        // Called for its clause alone: the journal is within its limit.
+        let _within = self.journal.len();
+        RangeStore::begun(
+            alloc,
+            &self.config,
+            self.table.seed(),
+            &self.tree,
+            seat,
+            limit,
+        )
     }
 
     /// Tests the limit of a renewal. Doesn't allocate.
@@ -52,20 +54,40 @@ impl RangeStore {
     pub fn check_limit(&self, limit: u64) -> Result<(), Refusal>
         ensures { AnswersAtOnce result (renew_fault self.now limit) (λ _. ⊤) }
     {
-        self.new_limit(limit)?;
+        // Called for its clause alone: the journal is within its limit.
+        let _within = self.journal.len();
+        limited(&self.config, &self.tree, limit)?;
         Ok(())
     }
 
-    /// Returns the configuration of a new range with a limit, and the number of versions that are held. Refused, in
-    /// order: BadRing, JournalFull.
-    fn new_limit(&self, limit: u64) -> Result<(RangeConfig, u64), Refusal>
-        ensures { AnswersAtOnce result (renew_fault self.now limit) (λ new.
-            (new.0 ≡ config_to self.now.config limit) × (new.1 ≡ length (held_offers self.now))
-            × (new.1 ≤ limit)) }
+    /// Makes a new range that begins with the rows of a tree, as copies by a seat. Refused, in order: BadRing,
+    /// JournalFull, NoMemory.
+    fn begun(
+        alloc: Global,
+        config: &RangeConfig,
+        seed: Seed,
+        tree: &Tree,
+        seat: u16,
+        limit: u64,
+    ) -> Result<RangeStore, Refusal>
+        requires basis { IsBasis (record { config = config.now; rows = tree.now.map.rows; marks = tree.now.marks }) }
+        requires of { tree.now.map ≡ record { format = config.now.format; bits = config.now.bits; range = config.now.range; rows = tree.now.map.rows } }
+        ensures { Answers result (limit_fault config.now tree.now.map.rows limit)
+            (λ range. range ≡ begun_by (record { config = config.now; rows = tree.now.map.rows; marks = tree.now.marks }) seat limit) }
     {
-        // Called for its clause alone: the journal is within its limit.
-        let _within = self.journal.len();
-        limited(&self.config, &self.tree, limit)
+        let (new, count) = limited(config, tree, limit)?;
+        let room = count + spare_room(count, limit);
+        let mut journal = Journal::new(alloc, limit);
+        journal.reserve(room)?;
+        let mut table = RowTable::new(alloc, seed);
+        table.reserve(room)?;
+        fill(alloc, &mut journal, &mut table, config, tree, seat)?;
+        Ok(RangeStore {
+            config: new,
+            journal,
+            tree: tree.share(alloc)?,
+            table,
+        })
     }
 
     /// Returns the basis of a new range: the rows of a tree, which some first entries of this one made. Doesn't allocate.
@@ -114,17 +136,7 @@ impl RenewalBasis {
     pub fn renewed(&self, alloc: Global, seat: u16, limit: u64) -> Result<RangeStore, Refusal>
         ensures { Answers result (basis_fault self.now limit) (λ range. range ≡ begun_by self.now seat limit) }
     {
-        let (config, count) = limited(&self.config, &self.tree, limit)?;
-        let room = count + spare_room(count, limit);
-        let journal = begun_journal(alloc, &self.config, &self.tree, seat, limit, room)?;
-        let table = begun_table(alloc, self.seed, &self.config, &self.tree, room)?;
-        let tree = self.tree.share(alloc)?;
-        Ok(RangeStore {
-            config,
-            journal,
-            tree,
-            table,
-        })
+        RangeStore::begun(alloc, &self.config, self.seed, &self.tree, seat, limit)
     }
 }
 
@@ -180,32 +192,12 @@ fn spare_room(count: u64, limit: u64) -> u64
     (limit - count).min(count / 4 + SPARE_LEAST)
 }
 
-/// Makes a journal with a limit, of the versions of rows, as copies by a seat, with room for `room` entries in all.
-/// Refused: NoMemory.
-fn begun_journal(
+/// Appends the versions of rows to a journal, as copies by a seat, for which room was made, and inserts the rows into a
+/// table. Refused: NoMemory, and then some may be there.
+fn fill(
     alloc: Global,
-    config: &RangeConfig,
-    tree: &Tree,
-    seat: u16,
-    limit: u64,
-    room: u64,
-) -> Result<Journal, Refusal>
-    requires of { IsOfConfig config.now tree.now.map }
-    requires few { length (offers_by_leaf config.now tree.now.map.rows) ≤ room }
-    requires within { room ≤ limit }
-    ensures { Answers result None
-        (λ journal. (journal.entries ≡ copies_from 0 seat (offers_by_leaf config.now tree.now.map.rows)) × (journal.limit ≡ limit)) }
-{
-    let mut journal = Journal::new(alloc, limit);
-    journal.reserve(room)?;
-    append_all(&mut journal, config, tree, seat)?;
-    Ok(journal)
-}
-
-/// Appends the versions of rows, as copies by a seat, for which room was made. Refused: NoMemory, and then some may be
-/// appended.
-fn append_all(
     journal: &mut Journal,
+    table: &mut RowTable,
     config: &RangeConfig,
     tree: &Tree,
     seat: u16,
@@ -213,32 +205,39 @@ fn append_all(
     requires of { IsOfConfig config.now tree.now.map }
     requires room { length (offers_by_leaf config.now tree.now.map.rows) ≤ journal.old.room }
     ensures { Answers result None
-        (λ _. journal.new ≡ with_copies journal.old seat (offers_by_leaf config.now tree.now.map.rows)) }
+        (λ _. (journal.new ≡ with_copies journal.old seat (offers_by_leaf config.now tree.now.map.rows))
+        × (table.new.rows ≡ table.old.rows ++ map (row_of config.now.bits) (by_leaf config.now tree.now.map.rows))) }
 {
     for leaf in 0..leaf_count(config.format()) {
-        append_leaf(journal, seat, tree.rows(leaf))?;
+        fill_leaf(alloc, journal, table, config, leaf, tree.rows(leaf), seat)?;
     }
     Ok(())
 }
 
-/// Makes the table of rows, with room for `room` rows in all. Refused: NoMemory.
-fn begun_table(
+/// Appends the versions of a leaf to a journal, as copies by a seat, for which room was made, and inserts its rows into
+/// a table: some rows at a time, while their keys and values are in the cache. Refused: NoMemory, and then some may be
+/// there.
+fn fill_leaf(
     alloc: Global,
-    seed: Seed,
+    journal: &mut Journal,
+    table: &mut RowTable,
     config: &RangeConfig,
-    tree: &Tree,
-    room: u64,
-) -> Result<RowTable, Refusal>
-    requires of { IsOfConfig config.now tree.now.map }
+    leaf: u16,
+    rows: &SharedLeaf,
+    seat: u16,
+) -> Result<(), Refusal>
+    requires homes { AllByRecursion (λ (r : Row). leaf_in config.now r.key ≡ leaf) rows.now.rows }
+    requires room { length (offers_of rows.now.rows) ≤ journal.old.room }
     ensures { Answers result None
-        (λ table. table.rows ≡ map (row_of config.now.bits) (by_leaf config.now tree.now.map.rows)) }
+        (λ _. (journal.new ≡ with_copies journal.old seat (offers_of rows.now.rows))
+        × (table.new.rows ≡ table.old.rows ++ map (row_of config.now.bits) rows.now.rows)) }
 {
-    let mut table = RowTable::new(alloc, seed);
-    table.reserve(room)?;
-    for leaf in 0..leaf_count(config.format()) {
-        insert_leaf(alloc, &mut table, config, leaf, tree.rows(leaf))?;
+    let mut runs = rows.runs();
+    while let Some(run) = runs.next_run() {
+        append_rows(journal, seat, run)?;
+        insert_rows(alloc, table, config, leaf, run)?;
     }
-    Ok(table)
+    Ok(())
 }
 
 /// Counts the versions of a leaf.
@@ -264,19 +263,6 @@ fn count_in(rows: &[Row]) -> u64
         count += row.versions.len() as u64;
     }
     count
-}
-
-/// Appends the versions of a leaf, as copies by a seat, for which room was made. Refused: NoMemory, and then some may be
-/// appended.
-fn append_leaf(journal: &mut Journal, seat: u16, leaf: &SharedLeaf) -> Result<(), Refusal>
-    requires { length (offers_of leaf.now.rows) ≤ journal.old.room }
-    ensures { Answers result None (λ _. journal.new ≡ with_copies journal.old seat (offers_of leaf.now.rows)) }
-{
-    let mut runs = leaf.runs();
-    while let Some(rows) = runs.next_run() {
-        append_rows(journal, seat, rows)?;
-    }
-    Ok(())
 }
 
 /// Appends the versions of rows, as copies by a seat, for which room was made. Refused: NoMemory, and then some may be

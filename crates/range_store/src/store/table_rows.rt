@@ -161,25 +161,7 @@ pub(super) fn rows_from_tree(
 }
 
 /// Inserts rows of a leaf into a table. Refused: NoMemory, and then some may be inserted.
-pub(super) fn insert_leaf(
-    alloc: Global,
-    table: &mut RowTable,
-    config: &RangeConfig,
-    leaf: u16,
-    rows: &SharedLeaf,
-) -> Result<(), Refusal>
-    requires { AllByRecursion (λ (r : Row). leaf_in config.now r.key ≡ leaf) rows.now.rows }
-    ensures { Answers result None (λ _. table.new.rows ≡ table.old.rows ++ map (row_of config.now.bits) rows.now.rows) }
-{
-    let mut runs = rows.runs();
-    while let Some(run) = runs.next_run() {
-        insert_rows(alloc, table, config, leaf, run)?;
-    }
-    Ok(())
-}
-
-/// Inserts rows of a leaf that are in a slice. Refused: NoMemory, and then some may be inserted.
-fn insert_rows(
+pub(super) fn insert_rows(
     alloc: Global,
     table: &mut RowTable,
     config: &RangeConfig,

@@ -18,8 +18,8 @@ use vclock::Refusal;
 impl RangeStore {
     /// Installs the digest of a text at a node.
     ///
-    /// Refused: Stale (the range's tree has no such node, one of its children is dirty, or the text is no longer that
-    /// of the node). On error the state is unchanged. Doesn't allocate: the text is compared with the rows in place.
+    /// Refused: Stale (the range's tree has no such node, one of its children is dirty, or the text is no longer the
+    /// node's). On error the state is unchanged. Doesn't allocate: the text is compared with the rows in place.
     pub fn install(&mut self, node: NodeAt, hashed: &Hashed) -> Result<(), Refusal>
         ensures { DoesAtOnce result self.old self.new (install self.old node hashed.now) }
     {
@@ -38,7 +38,7 @@ impl RangeStore {
         self.tree.rehash(rt, alloc)
     }
 
-    /// Hashes every dirty node as `rehash` does, in the caller's thread alone.
+    /// Hashes every dirty node like `rehash`, but only in the caller's thread.
     ///
     /// Refused: NoMemory. Then some of the dirty nodes may be clean, and everything else is unchanged.
     pub fn rehash_here(&mut self, alloc: Global) -> Result<u64, Refusal>
@@ -50,8 +50,8 @@ impl RangeStore {
     }
 
     /// Hashes at most `most` of the dirty nodes whose children are clean, in the order of their places, in the caller's
-    /// thread, and returns the number of nodes that are dirty then. So a new tree's leaves are first. A caller that
-    /// repeats it until that number is 0 can do other work between.
+    /// thread, and returns the number of nodes that are still dirty. A new tree's leaves are first. A caller that
+    /// repeats it until that number is 0 can do other work in between.
     ///
     /// Refused: NoMemory. Then the state is unchanged.
     pub fn rehash_some(&mut self, alloc: Global, most: usize) -> Result<usize, Refusal>
@@ -60,8 +60,8 @@ impl RangeStore {
         self.tree.rehash_some(alloc, most)
     }
 
-    /// Makes a snapshot of the rows now as `Tree::snapshot` does, and keeps its digests in shared blocks, so that later
-    /// snapshots share those that haven't changed. Refused, in order: Dirty (some node has no digest), NoMemory.
+    /// Makes a snapshot of the rows now, like `Tree::snapshot`, and keeps its digests in shared blocks, so that later
+    /// snapshots share the blocks that haven't changed. Refused, in order: Dirty (some node has no digest), NoMemory.
     pub fn kept_snapshot(&mut self, alloc: Global) -> Result<Arc<Snapshot, Global>, Refusal>
         ensures snapshot { Answers result (dirty_fault self.old) (λ snapshot. arc_value snapshot ≡ rows_now self.old) }
         ensures same { self.new ≡ self.old }

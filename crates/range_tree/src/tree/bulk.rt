@@ -16,7 +16,7 @@ use vclock::Refusal;
 /// The number of bytes of text that a round of a rehash has in memory if each text is as long as the first leaf's.
 const ROUND_LEN: u128 = 4 << 20;
 
-/// The minimum number of nodes of a round, so that each thread has some.
+/// The minimum number of nodes in a round, so that each thread has some.
 const ROUND_SIZE_MIN: usize = 16;
 
 impl Tree {
@@ -30,10 +30,10 @@ impl Tree {
     }
 
     /// Hashes every dirty node, installs the digests, and returns the number of nodes that were dirty. Each round
-    /// hashes some nodes whose children are clean, in several threads if there is enough to hash, and has their texts
+    /// hashes some nodes whose children are clean, in several threads if there is enough to hash, and keeps their texts
     /// in memory: 4 MiB if each is as long as the first leaf's, but at least 16 texts.
     ///
-    /// Refused: NoMemory. Then some of the dirty nodes may be clean, and everything else is unchanged.
+    /// Refused: NoMemory. On error some of the dirty nodes may be clean, and everything else is unchanged.
     pub fn rehash(&mut self, rt: &(impl Threads + Sync), alloc: Global) -> Result<u64, Refusal>
         ensures count { Answers result None (λ hashed. hashed ≡ dirty_count self.old.marks) }
         ensures ok { OnOk result (self.new ≡ rehashed self.old) }
@@ -44,14 +44,14 @@ impl Tree {
             ensures { Answers result None (λ all. all.items ≡ map (λ j. j.text) jobs.items) }
         { hash_all(rt, alloc, jobs) };
         let dirty = self.rehash_by(&hash, alloc);
-        // Called for its clause alone: the tree is right.
+        // Called only for its clause: the tree is valid.
         let _right = self.dirty_count();
         dirty
     }
 
-    /// Hashes every dirty node as `rehash` does, in the caller's thread alone.
+    /// Hashes every dirty node, like `rehash`, but only in the caller's thread.
     ///
-    /// Refused: NoMemory. Then some of the dirty nodes may be clean, and everything else is unchanged.
+    /// Refused: NoMemory. On error some of the dirty nodes may be clean, and everything else is unchanged.
     pub fn rehash_here(&mut self, alloc: Global) -> Result<u64, Refusal>
         ensures count { Answers result None (λ hashed. hashed ≡ dirty_count self.old.marks) }
         ensures ok { OnOk result (self.new ≡ rehashed self.old) }
@@ -62,16 +62,16 @@ impl Tree {
             ensures { Answers result None (λ all. all.items ≡ map (λ j. j.text) jobs.items) }
         { hash_here(alloc, jobs) };
         let dirty = self.rehash_by(&hash, alloc);
-        // Called for its clause alone: the tree is right.
+        // Called only for its clause: the tree is valid.
         let _right = self.dirty_count();
         dirty
     }
 
     /// Hashes at most `most` of the dirty nodes whose children are clean, in the order of their places, in the caller's
-    /// thread, and returns the number of nodes that are dirty then. So a new tree's leaves are first. A caller that
-    /// repeats it until that number is 0 can do other work between.
+    /// thread. A new tree's leaves are first. Returns the number of nodes that are still dirty; a caller that repeats
+    /// the call until that number is 0 can do other work in between.
     ///
-    /// Refused: NoMemory. Then the tree is unchanged.
+    /// Refused: NoMemory. On error the tree is unchanged.
     pub fn rehash_some(&mut self, alloc: Global, most: usize) -> Result<usize, Refusal>
         ensures some { HashesSome result most self.old self.new }
         ensures valid { IsRangeTree self.new }
@@ -85,7 +85,7 @@ impl Tree {
         Ok(left)
     }
 
-    /// Hashes every dirty node by a function that hashes jobs.
+    /// Hashes every dirty node with a function that hashes jobs.
     fn rehash_by<F: Fn(Vec<Job>) -> Result<Vec<Hashed>, Refusal>>(
         &mut self,
         hash: &F,
@@ -101,13 +101,13 @@ impl Tree {
         let dirty = self.dirty_count() as u64;
         let most = self.round_size();
         while self.rehash_ready(hash, alloc, most)? {}
-        // Called for its clause alone: the tree is right.
+        // Called only for its clause: the tree is valid.
         let _right = self.dirty_count();
         Ok(dirty)
     }
 
-    /// Returns the number of nodes that a round hashes: as many as have `ROUND_LEN` bytes of text if each is as long as
-    /// the first leaf's, but at least `ROUND_SIZE_MIN`.
+    /// Returns the number of nodes that a round hashes: `ROUND_LEN` bytes of text if each text is as long as the first
+    /// leaf's, but at least `ROUND_SIZE_MIN` nodes.
     fn round_size(&self) -> usize
         ensures { 0 < result }
     {
@@ -116,8 +116,8 @@ impl Tree {
         size.max(ROUND_SIZE_MIN)
     }
 
-    /// Hashes at most `most` of the dirty nodes whose children are clean, and makes them clean. Returns true if there was
-    /// any.
+    /// Hashes at most `most` of the dirty nodes whose children are clean, and makes them clean. Returns true if there
+    /// was any.
     fn rehash_ready<F: Fn(Vec<Job>) -> Result<Vec<Hashed>, Refusal>>(
         &mut self,
         hash: &F,

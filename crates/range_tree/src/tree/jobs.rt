@@ -15,8 +15,8 @@ use tree_nodes::{Digest, Hashed, NodeAt, tree_depth};
 use vclock::Refusal;
 
 impl Tree {
-    /// The digest of a node, if it is clean: that of its text for the rows now. `None` if the node is dirty or the
-    /// tree has no such node. Doesn't allocate.
+    /// Returns the digest of a clean node's text for the rows now, or `None` if the node is dirty or the tree has no
+    /// such node. Doesn't allocate.
     pub fn digest_at(&self, node: NodeAt) -> Option<Digest>
         ensures digest { result ≡ kept_digest self.now.marks (place_of node) }
         ensures right { IfSome result (λ digest. digest ≡ sha256 (text_in self.now node)) }
@@ -24,8 +24,8 @@ impl Tree {
         self.marks.get(node)
     }
 
-    /// Returns a job: a dirty node whose children are clean, and its text now. Returns `None` if no node is dirty. If
-    /// there are several, it takes the one at `skip`, counted round and round, so workers that are numbered from 0 get
+    /// Returns a job: a dirty node whose children are clean, and its text now; or `None` if no node is dirty. Of
+    /// several such nodes it takes the one at `skip`, modulo their number, so workers that are numbered from 0 get
     /// different jobs as long as there are enough. Refused: NoMemory.
     pub fn take_job(&self, alloc: Global, skip: u64) -> Result<Option<Job>, Refusal>
         ensures { Answers result None (GivesJob self.now) }
@@ -36,8 +36,8 @@ impl Tree {
         }
     }
 
-    /// Returns jobs of different nodes: of all dirty nodes whose children are clean, or of the first `most` of them if
-    /// there are more. Refused: NoMemory.
+    /// Returns jobs of different nodes: of all dirty nodes whose children are clean, but at most of the first `most`.
+    /// Refused: NoMemory.
     pub fn take_jobs(&self, alloc: Global, most: usize) -> Result<Vec<Job>, Refusal>
         ensures { Answers result None (λ jobs. AreJobs self.now most jobs.items) }
     {
@@ -55,13 +55,13 @@ impl Tree {
 
     /// Installs the digest of a text at a node.
     ///
-    /// Refused: Stale (the tree has no such node, one of its children is dirty, or the text is no longer that
-    /// of the node). On error the tree is unchanged. Doesn't allocate: the text is compared with the rows in place.
+    /// Refused: Stale (the tree has no such node, one of its children is dirty, or the text is no longer the node's).
+    /// On error the tree is unchanged. Doesn't allocate: the text is compared with the rows in place.
     pub fn install(&mut self, node: NodeAt, hashed: &Hashed) -> Result<(), Refusal>
         ensures installs { DoesAtOnce result self.old self.new (install self.old node hashed.now) }
         ensures valid { IsRangeTree self.new }
     {
-        // Called for its clause alone: the tree is right.
+        // Called only for its clause: the tree is valid.
         let _right = self.dirty_count();
         if !self.is_current(node, hashed.text()) {
             return Err(Refusal::Stale);
@@ -76,7 +76,7 @@ impl Tree {
         ensures digest { self.new ≡ installed self.old node hashed.now }
         ensures valid { IsRangeTree self.new }
     {
-        // A look at a field shows that the index is one of this depth.
+        // Reading a field shows that the index is valid for this depth.
         let _ = &node.depth;
         self.marks.set(node, hashed.digest());
     }
@@ -96,7 +96,7 @@ impl Tree {
             }
     }
 
-    /// Chooses a node for a job, if any: of several, the one at `skip`, counted round and round.
+    /// Chooses a node for a job, if any: of several, the one at `skip`, modulo their number.
     fn choose(&self, skip: u64) -> Option<NodeAt>
         ensures { MatchOption result (ready_from self.now.marks 0 ≡ [])
             (λ node. IsTrue (has_node self.now node) × IsTrue (is_ready self.now.marks (place_of node))) }

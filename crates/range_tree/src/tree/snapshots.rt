@@ -12,9 +12,9 @@ use tree_nodes::SharedDigests;
 use vclock::Refusal;
 
 impl Tree {
-    /// Makes a snapshot of the rows now with the digests of the whole tree, to offer to another replica. Copies no row,
-    /// and shares with the tree the leaves, and the digests that haven't changed since a session was opened. Refused,
-    /// in order: Dirty (some node has no digest), NoMemory.
+    /// Makes a snapshot of the rows now with the digests of the whole tree, to offer to another replica. No row is
+    /// copied: the snapshot shares the leaves with the tree, and the digests that haven't changed since a session was
+    /// opened. Refused, in order: Dirty (some node has no digest), NoMemory.
     pub fn snapshot(&self, alloc: Global) -> Result<Arc<Snapshot, Global>, Refusal>
         ensures { Answers result (dirty_fault self.now) (λ snapshot. arc_value snapshot ≡ self.now.map) }
     {
@@ -22,7 +22,7 @@ impl Tree {
         self.snapshot_with(alloc, digests)
     }
 
-    /// Makes a snapshot as `snapshot` does, and keeps copies of all digests, which later snapshots share. Refused, in
+    /// Makes a snapshot, like `snapshot`, and keeps copies of all digests, which later snapshots share. Refused, in
     /// order: Dirty, NoMemory.
     pub fn kept_snapshot(&mut self, alloc: Global) -> Result<Arc<Snapshot, Global>, Refusal>
         ensures snapshot { Answers result (dirty_fault self.old) (λ snapshot. arc_value snapshot ≡ self.old.map) }

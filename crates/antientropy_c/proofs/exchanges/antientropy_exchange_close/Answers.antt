@@ -5,4 +5,6 @@ use Rattle.antientropy_c.proofs.exchanges.antientropy_exchange_close.Goals as go
 
 pub returns : goal.returns
 returns c =
-    held c.close_in-result.result (exchange_in c.args.exchange.now) (exchange_in c.hold.new.self) _ _ c.deref_mut.result.now c.close_in-result.new.exchange c.in-Some.ensures.value.0 c.hold.ensures.held (c.deref_mut.ensures.value ∙ c.in-Some.ensures.value.1) c.hold.ensures.value c.close_in-result.ensures
+    held c.close_in-result.result (exchange_in c.args.exchange.now)
+    (exchange_in c.hold.new.self) _ _ c.deref_mut.result.now c.close_in-result.new.exchange c.in-Some.ensures.value.0 c.hold.ensures.held
+    (c.deref_mut.ensures.value ∙ c.in-Some.ensures.value.1) c.hold.ensures.value c.close_in-result.ensures

@@ -7,4 +7,5 @@ use Rattle.antientropy_c.proofs.lifecycle.antientropy_new.Goals as goal
 pub returns : goal.returns
 returns c =
     let config = config_of c.args.format c.args.bits c.args.range c.args.limit in
-    filled c.fill.result (replica_in c.args.replica.now) (replica_in c.fill.new.handle) (config_fault config) (IsFresh config) _ c.fresh-made.result c.in_default.ensures.value c.fill.ensures.number c.fill.ensures.filled c.fresh-made.ensures
+    filled c.fill.result (replica_in c.args.replica.now) (replica_in c.fill.new.handle) (config_fault config)
+    (IsFresh config) _ c.fresh-made.result c.in_default.ensures.value c.fill.ensures.number c.fill.ensures.filled c.fresh-made.ensures

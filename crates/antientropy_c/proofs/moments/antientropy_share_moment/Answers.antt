@@ -9,4 +9,6 @@ use Rattle.antientropy_c.proofs.moments.antientropy_share_moment.Goals as goal
 pub returns : goal.returns
 returns c =
     let f = c.args.share.now in
-    made_from f c.read_into.new.from f.held f.kept c.read_into.result _ (shown_in c.args.publication.now) (shown_in c.read_into.new.into) _ _ (λ s. moment_fault s.state.moment) (λ s m. m ≡ shown_by local_rows.Moment s) (λ r said. search rules) c.read_into.ensures.same c.read_into.ensures.filled
+    made_from f c.read_into.new.from f.held f.kept c.read_into.result _ (shown_in c.args.publication.now) (shown_in c.read_into.new.into) _ _
+    (λ s. moment_fault s.state.moment) (λ s m. m ≡ shown_by local_rows.Moment s)
+    (λ r said. search rules) c.read_into.ensures.same c.read_into.ensures.filled

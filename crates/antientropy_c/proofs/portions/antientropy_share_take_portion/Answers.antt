@@ -7,4 +7,5 @@ use Rattle.antientropy_c.proofs.portions.antientropy_share_take_portion.Goals as
 pub returns : goal.returns
 returns c =
     let f = c.args.share.now in
-    made_from f c.read_into.new.from f.held f.kept.state c.read_into.result _ (nodes_in c.args.portion.now) (nodes_in c.read_into.new.into) _ _ (λ s. None) (λ s. IsPortion s.moment c.args.most) (λ r said. search rules) c.read_into.ensures.same c.read_into.ensures.filled
+    made_from f c.read_into.new.from f.held f.kept.state c.read_into.result _ (nodes_in c.args.portion.now) (nodes_in c.read_into.new.into) _ _
+    (λ s. None) (λ s. IsPortion s.moment c.args.most) (λ r said. search rules) c.read_into.ensures.same c.read_into.ensures.filled

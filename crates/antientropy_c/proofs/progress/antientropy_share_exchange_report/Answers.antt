@@ -6,4 +6,6 @@ use Rattle.antientropy_c.proofs.progress.antientropy_share_exchange_report.Goals
 pub returns : goal.returns
 returns c =
     let x = c.deref.result.now in
-    held c.report_to-result.result (exchange_in c.args.exchange.now) (exchange_in c.hold.new.self) _ _ x x c.in-Some.ensures.value.0 c.hold.ensures.held (c.deref.ensures ∙ c.in-Some.ensures.value.1) (c.hold.ensures.value ∙ sym c.deref.ensures) (refl, c.report_to-result.ensures)
+    held c.report_to-result.result (exchange_in c.args.exchange.now)
+    (exchange_in c.hold.new.self) _ _ x x c.in-Some.ensures.value.0 c.hold.ensures.held (c.deref.ensures ∙ c.in-Some.ensures.value.1)
+    (c.hold.ensures.value ∙ sym c.deref.ensures) (refl, c.report_to-result.ensures)

@@ -6,4 +6,5 @@ use Rattle.antientropy_c.proofs.readers.antientropy_share_snapshot_share.Goals a
 pub returns : goal.returns
 returns c =
     let f = c.args.share.now in
-    made_from f c.read_into.new.from f.held f.shown c.read_into.result _ (shown_in c.args.other.now) (shown_in c.read_into.new.into) _ _ (λ m. None) (λ m x. x ≡ m) (λ r said. search rules) c.read_into.ensures.same c.read_into.ensures.filled
+    made_from f c.read_into.new.from f.held f.shown c.read_into.result _ (shown_in c.args.other.now) (shown_in c.read_into.new.into) _ _ (λ m. None)
+    (λ m x. x ≡ m) (λ r said. search rules) c.read_into.ensures.same c.read_into.ensures.filled

@@ -5,4 +5,6 @@ use Rattle.antientropy_c.proofs.renewal_calls.antientropy_renewal_finish.Goals a
 
 pub returns : goal.returns
 returns c =
-    held c.finish_in-result.result (renewal_in c.args.renewal.now) (renewal_in c.hold.new.self) _ _ c.deref_mut.result.now c.finish_in-result.new.renewal c.in-Some.ensures.value.0 c.hold.ensures.held (c.deref_mut.ensures.value ∙ c.in-Some.ensures.value.1) c.hold.ensures.value c.finish_in-result.ensures
+    held c.finish_in-result.result (renewal_in c.args.renewal.now)
+    (renewal_in c.hold.new.self) _ _ c.deref_mut.result.now c.finish_in-result.new.renewal c.in-Some.ensures.value.0 c.hold.ensures.held
+    (c.deref_mut.ensures.value ∙ c.in-Some.ensures.value.1) c.hold.ensures.value c.finish_in-result.ensures

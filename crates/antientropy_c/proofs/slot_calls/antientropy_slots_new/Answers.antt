@@ -8,4 +8,6 @@ use Rattle.antientropy_c.proofs.slot_calls.antientropy_slots_new.Goals as goal
 pub returns : goal.returns
 returns c =
     let a = c.args in
-    filled c.fill.result (slots_in a.slots.now) (slots_in c.fill.new.handle) (bounds_fault a.floor a.ceiling) (λ budget. budget ≡ fresh_admission a.floor a.ceiling a.threshold) _ c.new_slots-made.result c.in_default.ensures.value c.fill.ensures.number c.fill.ensures.filled c.new_slots-made.ensures
+    filled c.fill.result (slots_in a.slots.now) (slots_in c.fill.new.handle) (bounds_fault a.floor a.ceiling)
+    (λ budget. budget ≡ fresh_admission a.floor a.ceiling a.threshold) _ c.new_slots-made.result c.in_default.ensures.value c.fill.ensures.number
+    c.fill.ensures.filled c.new_slots-made.ensures

@@ -11,6 +11,15 @@ returns c =
     let n = c.args.entries - c.args.kept.now.first in
     let kept = ap (λ (x : State). top_counter (take n x.store.entries) c.args.key.now c.args.node) c.state.ensures in
     elim c.match-check_key.branch [
-      | in-Ok w ↦ rw w.result-is (c.in_ok-node.ensures.0, w.top_counter.ensures ∙ (λ i. top_counter (take (c.below-front.ensures i) (c.journal-journal.ensures.entries i)) c.args.key.now (c.in_ok-node.ensures.1 i)) ∙ kept)
-      | in-Err w ↦ rw w.result-is (c.in_ok-node.ensures.0, no_counter s.store.config n s.store.entries c.args.key.now c.args.node c.journal-journal.ensures.valid.store.own (λ none. cc (none, w.in-Err.ensures)) ∙ kept)
+      | in-Ok w ↦ rw w.result-is (
+        c.in_ok-node.ensures.0,
+        w.top_counter.ensures
+            ∙ (λ i. top_counter (take (c.below-front.ensures i) (c.journal-journal.ensures.entries i)) c.args.key.now (c.in_ok-node.ensures.1 i))
+            ∙ kept,
+      )
+      | in-Err w ↦ rw w.result-is (
+        c.in_ok-node.ensures.0,
+        no_counter s.store.config n s.store.entries c.args.key.now c.args.node c.journal-journal.ensures.valid.store.own
+            (λ none. cc (none, w.in-Err.ensures)) ∙ kept,
+      )
     ]

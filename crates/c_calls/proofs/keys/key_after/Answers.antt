@@ -33,6 +33,7 @@ loop-rows-preserved c =
     let here : AscendByKey run = ascend_middle [] run rest all in
     let later : AscendByKey rest = ascend_middle run rest [] (subst AscendByKey (sym (append-nil (run ++ rest))) all) in
     record {
-      same = sym (passed key run rest last (none_above key run last here not)) ∙ ap (key_after key) (sym c.in-Some.ensures.0) ∙ c.loop-rows.invariant.same;
+      same = sym (passed key run rest last (none_above key run last here not)) ∙ ap (key_after key) (sym c.in-Some.ensures.0)
+          ∙ c.loop-rows.invariant.same;
       ascend = later;
     }

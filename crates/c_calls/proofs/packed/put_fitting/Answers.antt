@@ -16,6 +16,7 @@ loop-count-preserved c =
     let len = c.entry_len-entry_len.ensures ∙ ap (λ (x : Entry). length (text x)) c.index-entries-count.is in
     record {
       fit = rw len (one_more_fits c.args.format es l.count l.left e within (omega (arith, len, c.if-entry_len-left.false)) ∙ l.invariant.fit);
-      written = more_written text es l.count e c.args.out.now l.out new 0 l.len end within (omega arith) l.invariant.written (subst (λ (x : Entry). IsWritten (text x) l.out l.len new end) c.index-entries-count.is c.put_entry-len.ensures);
+      written = more_written text es l.count e c.args.out.now l.out new 0 l.len end within (omega arith) l.invariant.written
+          (subst (λ (x : Entry). IsWritten (text x) l.out l.len new end) c.index-entries-count.is c.put_entry-len.ensures);
       room = omega (arith, c.put_entry-len.ensures.ends, c.entry_len-entry_len.ensures, l.invariant.room, c.if-entry_len-left.false);
     }

@@ -14,4 +14,6 @@ put_pair-end-requires c =
 pub loop-pair-preserved : goal.loop-pair-preserved
 loop-pair-preserved c =
     let l = c.loop-pair in
-    more_written pair_text c.args.pairs.now l.pair-index (0, 0) c.args.out.now l.out c.put_pair-end.new.out c.args.at l.end c.put_pair-end.result c.loop-pair-test.true (omega (arith, c.requires)) l.invariant c.put_pair-end.ensures
+    more_written pair_text c.args.pairs.now l.pair-index
+    (0, 0) c.args.out.now l.out c.put_pair-end.new.out c.args.at l.end c.put_pair-end.result c.loop-pair-test.true
+    (omega (arith, c.requires)) l.invariant c.put_pair-end.ensures

@@ -14,4 +14,5 @@ returns-in-Two c =
     let end = c.put_plain-in-Two.result in
     let kind = subst (λ (b : ℕ). IsWritten (b ∷ []) a.out.now a.at c.put-kind.new.out c.put-kind.result) c.byte.ensures c.put-kind.ensures in
     subst (λ (f : Format). IsWritten (version_text f v) a.out.now a.at new end) (sym c.in-Two.is)
-    (both_written (kind_byte v.kind ∷ []) (plain_text v) a.out.now c.put-kind.new.out new a.at c.put-kind.result end (omega (arith, c.requires.room)) kind c.put_plain-in-Two.ensures)
+    (both_written (kind_byte v.kind ∷ []) (plain_text v) a.out.now c.put-kind.new.out new a.at c.put-kind.result end
+    (omega (arith, c.requires.room)) kind c.put_plain-in-Two.ensures)

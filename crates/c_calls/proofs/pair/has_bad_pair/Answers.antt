@@ -9,5 +9,6 @@ use Rattle.c_calls.proofs.pair.has_bad_pair.Goals as goal
 
 pub returns : goal.returns
 returns c =
-    any_from_yields_List (λ (x : Pair). is_bad_pair (clock_pair x)) _ _ _ c.any.ensures.ran (YieldsList-from_slice c.args.pairs.now cc) (λ x b q k. search (rules, tests))
+    any_from_yields_List (λ (x : Pair). is_bad_pair (clock_pair x)) _ _ _ c.any.ensures.ran (YieldsList-from_slice c.args.pairs.now cc)
+    (λ x b q k. search (rules, tests))
     ∙ sym (list_any-pairs is_bad_pair c.args.pairs.now)

@@ -7,5 +7,6 @@ use Rattle.c_calls.proofs.pair.has_node.Goals as goal
 
 pub returns : goal.returns
 returns c =
-    any_from_yields_List (λ (x : Pair). eqb x.node c.args.node) _ _ _ c.any.ensures.ran (YieldsList-from_slice c.args.pairs.now cc) (λ x b q k. search (rules, tests))
+    any_from_yields_List (λ (x : Pair). eqb x.node c.args.node) _ _ _ c.any.ensures.ran (YieldsList-from_slice c.args.pairs.now cc)
+    (λ x b q k. search (rules, tests))
     ∙ sym (list_any-pairs (λ p. eqb p.0 c.args.node) c.args.pairs.now)

@@ -42,7 +42,8 @@ returns-then-seen-node c =
     let within : i < length ps = omega (arith, c.loop-pair-test.true, length-map c.args.pairs.now clock_pair) in
     let good = good_pair (get_or ps i (0, 0)) (good_at ps i (0, 0) c.requires.good within) in
     let at = ap (λ (p : ℕ × ℕ). p.0) (get_or-map clock_pair c.args.pairs.now i zero_pair (0, 0) c.loop-pair-test.true) in
-    sym (has_repeat_found ps i (0, 0) within (sym (c.loop-pair.invariant.came (get_or ps i (0, 0)).0 (omega (arith, good.below))) ∙ ap (λ n. get_or c.loop-pair.seen n false) at ∙ c.if-seen-node.true))
+    sym (has_repeat_found ps i (0, 0) within (sym (c.loop-pair.invariant.came (get_or ps i (0, 0)).0 (omega (arith, good.below)))
+    ∙ ap (λ n. get_or c.loop-pair.seen n false) at ∙ c.if-seen-node.true))
 
 pub loop-pair-preserved : goal.loop-pair-preserved
 loop-pair-preserved c =
@@ -57,5 +58,7 @@ loop-pair-preserved c =
     record {
       each_node = length-set c.loop-pair.seen node true ∙ c.loop-pair.invariant.each_node;
       came = λ n h. came_more ps c.loop-pair.seen i n node within (sym at) seen (c.loop-pair.invariant.came n h);
-      none = has_repeat_more ps i (0, 0) within ∙ or_from _ _ c.loop-pair.invariant.none (sym (c.loop-pair.invariant.came p.0 (omega (arith, good.below))) ∙ ap (λ n. get_or c.loop-pair.seen n false) at ∙ c.if-seen-node.false);
+      none = has_repeat_more ps i (0, 0) within
+          ∙ or_from _ _ c.loop-pair.invariant.none (sym (c.loop-pair.invariant.came p.0 (omega (arith, good.below)))
+          ∙ ap (λ n. get_or c.loop-pair.seen n false) at ∙ c.if-seen-node.false);
     }

@@ -14,5 +14,6 @@ returns-in_err-kind-clause-does c =
     let e = c.in_err-kind.field-0.0 in
     let p = err_from_is_err_and c.from_residual.result c.from_residual.ensures.1 in
     let own = c.format.ensures ∙ ap (λ (x : Config). x.format) c.config.ensures ∙ ap (λ (x : Store). x.config.format) c.store.ensures.store in
-    let fault = subst (λ (f : Format). parts_fault f c.args.key.now (clock_pairs c.args.clock.now) c.args.kind c.args.value.now ≡ Some e) own c.in_err-kind.ensures.answers in
+    let fault = subst (λ (f : Format). parts_fault f c.args.key.now (clock_pairs c.args.clock.now) c.args.kind c.args.value.now ≡ Some e) own
+    c.in_err-kind.ensures.answers in
     rw (p.1, p.2) (refl, inr (accept_refused s c.args.key.now (clock_pairs c.args.clock.now) c.args.kind c.args.value.now e fault))

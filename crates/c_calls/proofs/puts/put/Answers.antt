@@ -17,6 +17,14 @@ returns-in_err-kind-clause-does c =
     let s = k.state in
     let e = c.in_err-kind.field-0.0 in
     let p = err_from_is_err_and c.from_residual-in_err-kind.result c.from_residual-in_err-kind.ensures.1 in
-    let own = c.format.ensures ∙ ap (λ (x : Config). x.format) c.config.ensures ∙ ap (λ (x : Store). x.config.format) c.store.ensures.store ∙ ap (λ (x : State). x.store.config.format) c.state.ensures in
-    let fault = subst (λ (f : Format). parts_fault f c.args.key.now (clock_pairs c.args.context.now) c.args.kind c.args.value.now ≡ Some e) own c.in_err-kind.ensures.answers in
-    rw (p.1, p.2) (refl, inr (ap (through (with_state k)) (put_refused c.args.test s c.args.node c.args.key.now (clock_pairs c.args.context.now) c.args.kind c.args.value.now e c.in_ok-node.ensures.0 fault)))
+    let own = c.format.ensures ∙ ap (λ (x : Config). x.format) c.config.ensures ∙ ap (λ (x : Store). x.config.format) c.store.ensures.store
+    ∙ ap (λ (x : State). x.store.config.format) c.state.ensures in
+    let fault = subst (λ (f : Format). parts_fault f c.args.key.now (clock_pairs c.args.context.now) c.args.kind c.args.value.now ≡ Some e) own
+    c.in_err-kind.ensures.answers in
+    rw (p.1, p.2) (
+      refl,
+      inr
+          (ap (through (with_state k))
+          (put_refused c.args.test s c.args.node c.args.key.now
+          (clock_pairs c.args.context.now) c.args.kind c.args.value.now e c.in_ok-node.ensures.0 fault)),
+    )

@@ -8,8 +8,10 @@ use Rattle.c_calls.proofs.versions.versions_of.Goals as goal
 
 pub returns : goal.returns
 returns c = elim c.match-check_key.branch [
-  | in-Ok w ↦ ap (λ (b : Bor (List Version)). b.now) w.result-is ∙ w.versions.ensures.held ∙ ap (λ (s : Store). held s.entries c.args.key.now) w.store.ensures.store
+  | in-Ok w ↦ ap (λ (b : Bor (List Version)). b.now) w.result-is ∙ w.versions.ensures.held
+      ∙ ap (λ (s : Store). held s.entries c.args.key.now) w.store.ensures.store
   | in-Err w ↦
       ap (λ (b : Bor (List Version)). b.now) w.result-is
-      ∙ none_held c.args.state.now.store.config c.args.state.now.store.entries c.args.key.now c.journal-valid.ensures.valid.store.own (λ none. cc (none, w.in-Err.ensures))
+      ∙ none_held c.args.state.now.store.config c.args.state.now.store.entries c.args.key.now c.journal-valid.ensures.valid.store.own
+      (λ none. cc (none, w.in-Err.ensures))
 ]

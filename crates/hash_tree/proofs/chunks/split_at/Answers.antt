@@ -21,4 +21,8 @@ returns-clause-split c =
     let now : c.insert.new.self.items ≡ insert (set chunks i c.split.new.self) (i + 1) c.in_ok-back.back = search rules in
     let few : length chunks < 2 ^ 56 = omega (arith, c.if-len-ge-CHUNKS_MAX.false, c.len.ensures) in
     let parts = given _ _ _ _ c.in_ok-back.ensures in
-    rw now (refl, is_split chunks i c.args.cut old c.split.new.self c.in_ok-back.back c.requires.within few c.requires.some c.requires.less is (omega (arith, c.requires.full, ap (λ (rs : List Row). length rs) (rows_read chunks i old c.requires.within is))) parts.1 parts.0)
+    rw now (
+      refl,
+      is_split chunks i c.args.cut old c.split.new.self c.in_ok-back.back c.requires.within few c.requires.some c.requires.less is
+          (omega (arith, c.requires.full, ap (λ (rs : List Row). length rs) (rows_read chunks i old c.requires.within is))) parts.1 parts.0,
+    )

@@ -9,5 +9,7 @@ loop-digest-preserved c =
     let l = c.loop-digest in
     let id = λ (d : List ℕ). d in
     let text = c.args.text.now in
-    let here = subst (λ (b : List ℕ). IsBehind text (flat_map id ds) l.rest.now b) (flat_map-at id ds l.digest-index [] c.loop-digest-test.true) l.invariant in
-    behind_more text (flat_map id ds) l.rest.now c.in_ok-rest.rest.now (get_or ds l.digest-index []) (flat_map id (drop (l.digest-index + 1) ds)) here c.in_ok-rest.ensures
+    let here = subst (λ (b : List ℕ). IsBehind text (flat_map id ds) l.rest.now b)
+    (flat_map-at id ds l.digest-index [] c.loop-digest-test.true) l.invariant in
+    behind_more text (flat_map id ds) l.rest.now c.in_ok-rest.rest.now (get_or ds l.digest-index [])
+    (flat_map id (drop (l.digest-index + 1) ds)) here c.in_ok-rest.ensures

@@ -4,4 +4,5 @@ use Rattle.row_bytes.proofs.StripLaws.{IsBehind}
 use Rattle.hash_tree.proofs.comparison.strip_all.Given as goal
 
 abbrev pub invariant-loop-digest : goal.invariant-loop-digest
-invariant-loop-digest l = IsBehind l.text (flat_map (λ (d : List ℕ). d) l.digests) l.rest (flat_map (λ (d : List ℕ). d) (drop l.digest-index l.digests))
+invariant-loop-digest l =
+    IsBehind l.text (flat_map (λ (d : List ℕ). d) l.digests) l.rest (flat_map (λ (d : List ℕ). d) (drop l.digest-index l.digests))

@@ -14,5 +14,7 @@ returns-in_err-rest c =
 pub returns : goal.returns
 unfolding inner_text
 returns c =
-    let whole = strips_then (λ (x : Bor (List ℕ)). x.now) (c.inner_byte.result ∷ []) (flat_map (λ (d : List ℕ). d) c.args.digests.now) c.args.text.now c.in_ok-rest.rest.now c.strip_all.result c.in_ok-rest.ensures c.strip_all.ensures in
+    let whole = strips_then (λ (x : Bor (List ℕ)). x.now) (c.inner_byte.result ∷ [])
+    (flat_map (λ (d : List ℕ). d) c.args.digests.now) c.args.text.now c.in_ok-rest.rest.now c.strip_all.result c.in_ok-rest.ensures
+    c.strip_all.ensures in
     rw c.inner_byte.ensures at whole

@@ -6,4 +6,10 @@ use Rattle.hash_tree.proofs.measured_rows.texts_len.Goals as goal
 pub overflow_add-len : goal.overflow_add-len
 overflow_add-len c =
     let l = c.loop-row in
-    omega (arith, part_within (row_text c.args.format) c.args.rows.now l.row-index c.row-item.result c.loop-row-test.true c.row-item.is, l.invariant, c.row_len-len.ensures.exact, c.requires.short)
+    omega (
+      arith,
+      part_within (row_text c.args.format) c.args.rows.now l.row-index c.row-item.result c.loop-row-test.true c.row-item.is,
+      l.invariant,
+      c.row_len-len.ensures.exact,
+      c.requires.short,
+    )

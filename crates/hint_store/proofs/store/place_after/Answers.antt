@@ -6,4 +6,5 @@ use Rattle.hint_store.proofs.store.place_after.Goals as goal
 
 pub returns-clause-place : goal.returns-clause-place
 returns-clause-place c =
-    IsPartitionPoint-from_clause (is_up_to c.args.owner c.args.id) c.args.pending.now c.partition_point.result c.partition_point.ensures.partitioned (index_partitioned c.args.owner c.args.id c.args.pending.now c.requires) (λ a r f k. search rules)
+    IsPartitionPoint-from_clause (is_up_to c.args.owner c.args.id) c.args.pending.now c.partition_point.result c.partition_point.ensures.partitioned
+    (index_partitioned c.args.owner c.args.id c.args.pending.now c.requires) (λ a r f k. search rules)

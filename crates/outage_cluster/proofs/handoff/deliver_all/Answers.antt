@@ -10,7 +10,8 @@ pub offer-requires-clause-pending : goal.offer-requires-clause-pending
 offer-requires-clause-pending c =
     let l = c.loop-hint in
     let e : next_hint c.args.up.now l.after l.hints ≡ Some c.in-Some.hint = sym c.in_ok-hint.ensures.found.1 ∙ c.in-Some.is in
-    (next_is c.args.up.now c.args.ring.now.bits l.after l.hints (round_at l.ranges l.hints l.done.taken l.done.known) c.in-Some.hint c.next.ensures.valid.numbered e).awaited
+    (next_is c.args.up.now c.args.ring.now.bits l.after l.hints
+    (round_at l.ranges l.hints l.done.taken l.done.known) c.in-Some.hint c.next.ensures.valid.numbered e).awaited
 
 pub count-requires : goal.count-requires
 count-requires c = let inv = c.loop-hint.invariant in omega (arith, inv.counts, inv.small)
@@ -19,7 +20,8 @@ pub loop-hint-smaller : goal.loop-hint-smaller
 loop-hint-smaller c =
     let l = c.loop-hint in
     let e : next_hint c.args.up.now l.after l.hints ≡ Some c.in-Some.hint = sym c.in_ok-hint.ensures.found.1 ∙ c.in-Some.is in
-    let ahead = (next_is c.args.up.now c.args.ring.now.bits l.after l.hints (round_at l.ranges l.hints l.done.taken l.done.known) c.in-Some.hint c.next.ensures.valid.numbered e).ahead in
+    let ahead = (next_is c.args.up.now c.args.ring.now.bits l.after l.hints
+    (round_at l.ranges l.hints l.done.taken l.done.known) c.in-Some.hint c.next.ensures.valid.numbered e).ahead in
     let small : c.in-Some.hint.id < 2 ^ 32 = search rules in
     omega (arith, ahead, small)
 
@@ -37,11 +39,16 @@ loop-hint-preserved c =
       small = search rules;
       counts = omega (arith, l.invariant.counts, c.count.ensures.most, ahead);
       rest = ap (λ (r : Round). fold (offer_one up bits) r (drop hint.id c.offer.new.hints)) (sym counted)
-          ∙ stepped up bits l.after l.hints c.offer.new.hints l.ranges c.offer.new.ranges l.done.taken l.done.known c.in_ok-known.known hint (fold (offer_one up bits) (first_round c.args.ranges.now c.args.hints.now) c.args.hints.now) c.next.ensures.valid.numbered e l.invariant.rest (c.in_ok-known.ensures.done.1 l.done.taken l.done.known) (ap (λ (r : Round). r.hints) counted);
+          ∙ stepped up bits l.after l.hints c.offer.new.hints l.ranges c.offer.new.ranges l.done.taken l.done.known c.in_ok-known.known hint
+          (fold (offer_one up bits) (first_round c.args.ranges.now c.args.hints.now) c.args.hints.now) c.next.ensures.valid.numbered e
+          l.invariant.rest (c.in_ok-known.ensures.done.1 l.done.taken l.done.known) (ap (λ (r : Round). r.hints) counted);
     }
 
 pub returns-clause-done : goal.returns-clause-done
 returns-clause-done c =
     let l = c.loop-hint in
-    let none : next_hint c.args.up.now l.after l.hints ≡ None = search rules in
-    (refl, sym (last_is c.args.up.now c.args.ring.now.bits l.after l.hints (round_at l.ranges l.hints l.done.taken l.done.known) c.next.ensures.valid.numbered none) ∙ l.invariant.rest)
+    let none : next_hint c.args.up.now l.after l.hints ≡ None = search rules in (
+      refl,
+      sym (last_is c.args.up.now c.args.ring.now.bits l.after l.hints
+          (round_at l.ranges l.hints l.done.taken l.done.known) c.next.ensures.valid.numbered none) ∙ l.invariant.rest,
+    )

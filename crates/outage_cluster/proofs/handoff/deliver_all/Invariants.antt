@@ -9,7 +9,8 @@ invariant-loop-hint l = record {
   ranges : length l.ranges ≡ length l.initial.ranges;
   small : l.after < 2 ^ 32;
   counts : l.done.taken + l.done.known ≤ l.after;
-  rest : fold (offer_one l.up l.ring.bits) (round_at l.ranges l.hints l.done.taken l.done.known) (drop l.after l.hints) ≡ fold (offer_one l.up l.ring.bits) (first_round l.initial.ranges l.initial.hints) l.initial.hints;
+  rest : fold (offer_one l.up l.ring.bits) (round_at l.ranges l.hints l.done.taken l.done.known) (drop l.after l.hints) ≡ fold
+      (offer_one l.up l.ring.bits) (first_round l.initial.ranges l.initial.hints) l.initial.hints;
 }
 
 abbrev pub decreases-loop-hint : goal.decreases-loop-hint

@@ -15,12 +15,14 @@ loop-i-preserved c =
     let long = ap length inv.all ∙ changed_length f xs i in
     let lt : i < length xs = omega (arith, c.loop-i-test.true, long) in
     let here : get_or c.loop-i.replicas i r ≡ get_or xs i r = ap (λ t. get_or t i r) inv.all ∙ changed_get f xs i r lt in
-    let one : c.from.result ≡ cond (p (get_or xs i r)) 1 0 = c.from.ensures ∙ ap bool_byte (c.in_ok-send.ensures.taken.1 ∙ ap p here) ∙ byte_is (p (get_or xs i r)) in
+    let one : c.from.result ≡ cond (p (get_or xs i r)) 1 0 = c.from.ensures ∙ ap bool_byte (c.in_ok-send.ensures.taken.1 ∙ ap p here)
+    ∙ byte_is (p (get_or xs i r)) in
     record {
       all = ap (λ t. set t i c.send.new.self) inv.all ∙ changed_next f xs i c.send.new.self r lt (c.in_ok-send.ensures.after ∙ ap f here);
       count = (λ k. inv.count k + one k) ∙ sym (counted_more p xs i r lt);
       most = omega (arith, inv.most, c.from.ensures, byte-le c.in_ok-send.field-0);
-      kept = λ config are. of_set config c.loop-i.replicas i c.send.new.self r (inv.kept config are) (omega (arith, lt, long)) c.in_ok-send.ensures.config;
+      kept = λ config are. of_set config c.loop-i.replicas i c.send.new.self r (inv.kept config are)
+          (omega (arith, lt, long)) c.in_ok-send.ensures.config;
     }
 
 pub returns-in_err-send-clause-config : goal.returns-in_err-send-clause-config
@@ -28,7 +30,8 @@ returns-in_err-send-clause-config c =
     let f = after_copy c.args.down.now c.args.node c.args.lose.now c.args.entry.now in
     let long = ap length c.loop-i.invariant.all ∙ changed_length f c.args.replicas.now c.loop-i.i in
     let lt : c.loop-i.i < length c.loop-i.replicas = omega (arith, c.loop-i-test.true, long) in
-    λ config are. of_set config c.loop-i.replicas c.loop-i.i c.send.new.self c.index-replicas-i.result (c.loop-i.invariant.kept config are) lt c.in_err-send.ensures.config
+    λ config are. of_set config c.loop-i.replicas c.loop-i.i c.send.new.self c.index-replicas-i.result
+    (c.loop-i.invariant.kept config are) lt c.in_err-send.ensures.config
 
 pub returns-clause-config : goal.returns-clause-config
 returns-clause-config c = c.loop-i.invariant.kept

@@ -16,9 +16,11 @@ returns-in_default c =
 pub returns-in-Some-members_of : goal.returns-in-Some-members_of
 returns-in-Some-members_of c =
     let read = c.in-Ok.ensures.ok in
-    members_claim _ _ (view c.in-Ok.value) c.member_fault.ensures (value_read _ _ read.0 read.1) ((c.in-Some.name.now, view c.in-Some.members.now), sym c.in-Some.ensures, sym c.in-Some-members_of.ensures)
+    members_claim _ _ (view c.in-Ok.value) c.member_fault.ensures (value_read _ _ read.0 read.1)
+    ((c.in-Some.name.now, view c.in-Some.members.now), sym c.in-Some.ensures, sym c.in-Some-members_of.ensures)
 
 pub returns : goal.returns
 returns c =
     let read = c.in-Ok.ensures.ok in
-    name_claim _ _ (view c.in-Ok.value) c.name_fault.ensures (value_read _ _ read.0 read.1) ((c.in-Some.name.now, view c.in-Some.members.now), sym c.in-Some.ensures, sym c.in-None.ensures)
+    name_claim _ _ (view c.in-Ok.value) c.name_fault.ensures (value_read _ _ read.0 read.1)
+    ((c.in-Some.name.now, view c.in-Some.members.now), sym c.in-Some.ensures, sym c.in-None.ensures)

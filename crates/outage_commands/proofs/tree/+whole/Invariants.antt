@@ -17,4 +17,5 @@ abbrev pub invariant-items_are_whole-loop-item : goal.invariant-items_are_whole-
 invariant-items_are_whole-loop-item l = items_are_whole (items_view (drop l.item-index l.item-items)) ≡ items_are_whole (items_view l.item-items)
 
 abbrev pub invariant-members_are_whole-loop-member : goal.invariant-members_are_whole-loop-member
-invariant-members_are_whole-loop-member l = members_are_whole (members_view (drop l.member-index l.member-items)) ≡ members_are_whole (members_view l.member-items)
+invariant-members_are_whole-loop-member l =
+    members_are_whole (members_view (drop l.member-index l.member-items)) ≡ members_are_whole (members_view l.member-items)

@@ -10,4 +10,5 @@ returns-in-Ok c =
 
 pub returns : goal.returns
 returns c =
-    sym (ap is_some (value_refused c.args.line.now (c.in-Err.ensures.err (λ m. let yes = c.is_memory.ensures.1 m in let no = c.if-is_memory.false in cc))))
+    sym (ap is_some (value_refused c.args.line.now
+    (c.in-Err.ensures.err (λ m. let yes = c.is_memory.ensures.1 m in let no = c.if-is_memory.false in cc))))

@@ -23,4 +23,5 @@ pub returns : goal.returns
 returns c =
     let items = c.in_ok-members.members.now.items in
     let some : 0 < length items = grind (arith, c.if-is_empty.ensures) in
-    one_found (seen c.args.value.now) items c.index.result.now (seen c.in_ok-member.field-0.now) some c.index.ensures c.in_ok-members.ensures (sym c.if-not-has_only.ensures) (sym c.in_ok-member.ensures)
+    one_found (seen c.args.value.now) items c.index.result.now (seen c.in_ok-member.field-0.now) some c.index.ensures c.in_ok-members.ensures
+    (sym c.if-not-has_only.ensures) (sym c.in_ok-member.ensures)

@@ -21,4 +21,5 @@ returns c =
     let s = c.as_bytes-digits.result.now in
     let none : (get_or s 0 0 == 45) ≡ false = sym c.if-has_minus.ensures in
     let read : number_from false (scan s) ≡ number_of s = rw none in
-    c.without_sign.ensures ∙ ap (λ p. option_and_then as_u64 (number_from false p)) c.scan.ensures.parts ∙ ap (option_and_then as_u64) read ∙ ap whole_of c.as_bytes-digits.ensures.value
+    c.without_sign.ensures ∙ ap (λ p. option_and_then as_u64 (number_from false p)) c.scan.ensures.parts ∙ ap (option_and_then as_u64) read
+    ∙ ap whole_of c.as_bytes-digits.ensures.value

@@ -5,7 +5,8 @@ use Rattle.outage_script.proofs.part.write_list.Goals as goal
 
 pub loop-item-preserved : goal.loop-item-preserved
 loop-item-preserved g c = (
-  item_written g.T.ToJson.shown c.args.items.now c.loop-item.out.tokens c.write.new.out.tokens c.loop-item.item-index c.item-item.result c.loop-item-test.true c.item-item.is c.in_ok-write.ensures.tokens ∙ c.loop-item.invariant.0,
+  item_written g.T.ToJson.shown c.args.items.now c.loop-item.out.tokens c.write.new.out.tokens c.loop-item.item-index c.item-item.result
+      c.loop-item-test.true c.item-item.is c.in_ok-write.ensures.tokens ∙ c.loop-item.invariant.0,
   c.write.ensures.before ∙ c.loop-item.invariant.1,
 )
 

@@ -5,7 +5,9 @@ use Rattle.outage_script.proofs.part.write_object.Goals as goal
 
 pub loop-member-preserved : goal.loop-member-preserved
 loop-member-preserved c = (
-  member_written c.args.members.now c.loop-member.out.tokens c.key.new.self.tokens c.write_part.new.out.tokens c.loop-member.member-index c.member-item.result c.loop-member-test.true c.member-item.is c.in_ok-key.ensures.ok c.in_ok-write_part.ensures.tokens ∙ c.loop-member.invariant.0,
+  member_written c.args.members.now c.loop-member.out.tokens c.key.new.self.tokens c.write_part.new.out.tokens c.loop-member.member-index
+      c.member-item.result c.loop-member-test.true c.member-item.is c.in_ok-key.ensures.ok c.in_ok-write_part.ensures.tokens
+      ∙ c.loop-member.invariant.0,
   c.write_part.ensures.before ∙ c.in_ok-key.ensures.room.0 ∙ c.loop-member.invariant.1,
 )
 

@@ -8,5 +8,6 @@ abbrev pub invariant-loop-calls : goal.invariant-loop-calls
 invariant-loop-calls g l = record {
   size : vec_len l.buffer ≡ 65536;
   number : l.script.number ≤ 1 + 65536 * l.calls;
-  run : Progress (g.R.Read.remaining l.fn.reader) (g.R.Read.remaining l.reader) (g.W.Write.contents l.fn.writer) (g.W.Write.contents l.writer) (script_place l.script.number l.script.world l.script.line.items l.script.too_long);
+  run : Progress (g.R.Read.remaining l.fn.reader) (g.R.Read.remaining l.reader) (g.W.Write.contents l.fn.writer) (g.W.Write.contents l.writer)
+      (script_place l.script.number l.script.world l.script.line.items l.script.too_long);
 }

@@ -14,8 +14,15 @@ loop-at-preserved c =
     let i = c.loop-at.at in
     let r : Entry = c.index_mut-entry.result.now in
     let within : i < length xs = omega arith in
-    let copied : _ ≡ as_copy r = λ j. record { number = r.number; seat = r.seat; source = c.copied-entry.ensures j; key = r.key; version = r.version } in
+    let copied : _ ≡ as_copy r = λ j. record {
+      number = r.number;
+      seat = r.seat;
+      source = c.copied-entry.ensures j;
+      key = r.key;
+      version = r.version;
+    } in
     (next_changed as_copy xs items i r _ within c.loop-at.invariant.0 (copied ∙ ap as_copy c.index_mut-entry.ensures.value), c.loop-at.invariant.1)
 
 pub returns-clause-made : goal.returns-clause-made
-returns-clause-made c = all_changed as_copy c.args.entries.now.items c.loop-at.entries.items c.loop-at.at (omega (arith, c.loop-at-test.false, c.loop-at.auto.at-end (omega (arith, c.requires.within)))) c.loop-at.invariant.0
+returns-clause-made c = all_changed as_copy c.args.entries.now.items c.loop-at.entries.items c.loop-at.at
+    (omega (arith, c.loop-at-test.false, c.loop-at.auto.at-end (omega (arith, c.requires.within)))) c.loop-at.invariant.0

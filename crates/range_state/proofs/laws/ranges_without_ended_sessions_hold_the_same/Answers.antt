@@ -12,5 +12,6 @@ returns c = record {
   held = λ s key. copies_held s.store.entries key;
   rows = λ s. sym (copies_rows_now s.store);
   numbers = λ s ok id. names_open s.records id ok.numbers.ascending;
-  finished = λ s ok r there ended other partners apart. subst (λ (h : List ℕ → List Version). Held other.rows h) (sym (held_alike s.store.entries)) (finished s ok r there ended other partners apart);
+  finished = λ s ok r there ended other partners apart. subst (λ (h : List ℕ → List Version). Held other.rows h) (sym (held_alike s.store.entries))
+      (finished s ok r there ended other partners apart);
 }

@@ -8,7 +8,8 @@ use Rattle.range_store.proofs.laws.renewed_ranges_hold_the_same.Goals as goal
 pub returns : goal.returns
 returns c = record {
   held = λ s seat limit key. renewed_holds s seat key;
-  rows = λ s seat limit. ap (λ (rows : List Row). record { format = s.config.format; bits = s.config.bits; range = s.config.range; rows = rows }) (renewed_rows s seat);
+  rows = λ s seat limit. ap (λ (rows : List Row). record { format = s.config.format; bits = s.config.bits; range = s.config.range; rows = rows })
+      (renewed_rows s seat);
   again = renewed_again;
   fewer = renewed_fewer;
   stale = λ s seat limit key clock. ap (λ (vs : List Version). stale_fault vs clock) (renewed_holds s seat key);

@@ -9,13 +9,18 @@ returns-in_err-rest c =
     let ps = c.args.pairs.now in
     let l = c.loop-pair in
     let text = c.args.text.now in
-    let here = subst (λ (b : List ℕ). IsBehind text (flat_map pair_text ps) l.rest.now b) (flat_map-at pair_text ps l.pair-index (0, 0) c.loop-pair-test.true) l.invariant in
-    rw c.from_residual.ensures (behind_lacks text (flat_map pair_text ps) l.rest.now (pair_text (get_or ps l.pair-index (0, 0))) (flat_map pair_text (drop (l.pair-index + 1) ps)) here c.in_err-rest.ensures)
+    let here = subst (λ (b : List ℕ). IsBehind text (flat_map pair_text ps) l.rest.now b)
+    (flat_map-at pair_text ps l.pair-index (0, 0) c.loop-pair-test.true) l.invariant in
+    rw c.from_residual.ensures
+    (behind_lacks text (flat_map pair_text ps) l.rest.now (pair_text (get_or ps l.pair-index (0, 0)))
+    (flat_map pair_text (drop (l.pair-index + 1) ps)) here c.in_err-rest.ensures)
 
 pub loop-pair-preserved : goal.loop-pair-preserved
 loop-pair-preserved c =
     let ps = c.args.pairs.now in
     let l = c.loop-pair in
     let text = c.args.text.now in
-    let here = subst (λ (b : List ℕ). IsBehind text (flat_map pair_text ps) l.rest.now b) (flat_map-at pair_text ps l.pair-index (0, 0) c.loop-pair-test.true) l.invariant in
-    behind_more text (flat_map pair_text ps) l.rest.now c.in_ok-rest.rest.now (pair_text (get_or ps l.pair-index (0, 0))) (flat_map pair_text (drop (l.pair-index + 1) ps)) here c.in_ok-rest.ensures
+    let here = subst (λ (b : List ℕ). IsBehind text (flat_map pair_text ps) l.rest.now b)
+    (flat_map-at pair_text ps l.pair-index (0, 0) c.loop-pair-test.true) l.invariant in
+    behind_more text (flat_map pair_text ps) l.rest.now c.in_ok-rest.rest.now (pair_text (get_or ps l.pair-index (0, 0)))
+    (flat_map pair_text (drop (l.pair-index + 1) ps)) here c.in_ok-rest.ensures

@@ -15,7 +15,10 @@ returns-in_err-rest-3 c =
     let first : text ≡ count ++ c.in_ok-rest.rest.now = search rules in
     let second : c.in_ok-rest.rest.now ≡ pairs ++ c.in_ok-rest-2.rest.now = search rules in
     let third : Lacks len c.in_ok-rest-2.rest.now = rw c.as_slice-value.ensures at (rw c.to_be_bytes.ensures at c.in_err-rest-3.ensures) in
-    rw c.from_residual-in_err-rest-3.ensures (lacks_second count (pairs ++ (len ++ v.value)) text c.in_ok-rest.rest.now first (lacks_second pairs (len ++ v.value) c.in_ok-rest.rest.now c.in_ok-rest-2.rest.now second (lacks_first len v.value c.in_ok-rest-2.rest.now third)))
+    rw c.from_residual-in_err-rest-3.ensures
+    (lacks_second count (pairs ++ (len ++ v.value)) text c.in_ok-rest.rest.now first
+    (lacks_second pairs (len ++ v.value) c.in_ok-rest.rest.now c.in_ok-rest-2.rest.now second
+    (lacks_first len v.value c.in_ok-rest-2.rest.now third)))
 
 pub returns : goal.returns
 returns c =
@@ -27,7 +30,8 @@ returns c =
     let text = c.args.text.now in
     let first : text ≡ count ++ c.in_ok-rest.rest.now = search rules in
     let second : c.in_ok-rest.rest.now ≡ pairs ++ c.in_ok-rest-2.rest.now = search rules in
-    let third : c.in_ok-rest-2.rest.now ≡ len ++ c.in_ok-rest-3.rest.now = rw c.as_slice-value.ensures at (rw c.to_be_bytes.ensures at c.in_ok-rest-3.ensures) in
+    let third : c.in_ok-rest-2.rest.now ≡ len ++ c.in_ok-rest-3.rest.now = rw c.as_slice-value.ensures at
+    (rw c.to_be_bytes.ensures at c.in_ok-rest-3.ensures) in
     let last = rw c.as_slice-value.ensures at c.strip-3.ensures in
     strips_then view count (pairs ++ (len ++ v.value)) text c.in_ok-rest.rest.now c.strip-3.result first
     (strips_then view pairs (len ++ v.value) c.in_ok-rest.rest.now c.in_ok-rest-2.rest.now c.strip-3.result second

@@ -15,7 +15,9 @@ returns-in_err-rest c =
     let k = to_be_bytes w16 (length r.versions) in
     let text = c.args.text.now in
     let lacks : Lacks n text = rw c.as_slice-key.ensures at (rw c.to_be_bytes.ensures at c.in_err-rest.ensures) in
-    rw c.from_residual.ensures (lacks_first (n ++ r.key ++ k) (flat_map (version_text c.args.format) r.versions) text (lacks_first (n ++ r.key) k text (lacks_first n r.key text lacks)))
+    rw c.from_residual.ensures
+    (lacks_first (n ++ r.key ++ k) (flat_map (version_text c.args.format) r.versions) text
+    (lacks_first (n ++ r.key) k text (lacks_first n r.key text lacks)))
 
 pub returns-in_err-rest-2 : goal.returns-in_err-rest-2
 unfolding row_text
@@ -26,7 +28,9 @@ returns-in_err-rest-2 c =
     let text = c.args.text.now in
     let first : text ≡ n ++ c.in_ok-rest.rest.now = search rules in
     let lacks : Lacks r.key c.in_ok-rest.rest.now = rw c.as_slice-key.ensures at c.in_err-rest-2.ensures in
-    rw c.from_residual-in_err-rest-2.ensures (lacks_first (n ++ r.key ++ k) (flat_map (version_text c.args.format) r.versions) text (lacks_first (n ++ r.key) k text (lacks_second n r.key text c.in_ok-rest.rest.now first lacks)))
+    rw c.from_residual-in_err-rest-2.ensures
+    (lacks_first (n ++ r.key ++ k) (flat_map (version_text c.args.format) r.versions) text
+    (lacks_first (n ++ r.key) k text (lacks_second n r.key text c.in_ok-rest.rest.now first lacks)))
 
 pub returns : goal.returns
 unfolding row_text
@@ -41,4 +45,5 @@ returns c =
     let second : c.in_ok-rest.rest.now ≡ r.key ++ c.in_ok-rest-2.rest.now = search rules in
     let last : Strips view (k ++ vs) c.in_ok-rest-2.rest.now c.strip_versions.result = rw c.as_slice.ensures.all at c.strip_versions.ensures in
     subst (λ (front : List ℕ). Strips view front text c.strip_versions.result) (sym (append_assoc (n ++ r.key) k vs))
-    (strips_then view (n ++ r.key) (k ++ vs) text c.in_ok-rest-2.rest.now c.strip_versions.result (has_both n r.key text c.in_ok-rest.rest.now c.in_ok-rest-2.rest.now first second) last)
+    (strips_then view (n ++ r.key) (k ++ vs) text c.in_ok-rest-2.rest.now c.strip_versions.result
+    (has_both n r.key text c.in_ok-rest.rest.now c.in_ok-rest-2.rest.now first second) last)

@@ -16,16 +16,21 @@ returns-in_err-rest-2 c =
     let vs = c.args.versions.now in
     let l = c.loop-version in
     let front = to_be_bytes w16 (length vs) ++ flat_map (version_text c.args.format) vs in
-    rw c.from_residual-in_err-rest-2.ensures (behind_lacks_item (version_text c.args.format) vs l.version-index c.version-item.result front c.args.text.now l.rest.now c.loop-version-test.true c.version-item.is l.invariant c.in_err-rest-2.ensures)
+    rw c.from_residual-in_err-rest-2.ensures
+    (behind_lacks_item (version_text c.args.format) vs l.version-index c.version-item.result front c.args.text.now l.rest.now
+    c.loop-version-test.true c.version-item.is l.invariant c.in_err-rest-2.ensures)
 
 pub loop-version-preserved : goal.loop-version-preserved
 loop-version-preserved c =
     let vs = c.args.versions.now in
     let l = c.loop-version in
     let front = to_be_bytes w16 (length vs) ++ flat_map (version_text c.args.format) vs in
-    behind_item (version_text c.args.format) vs l.version-index c.version-item.result front c.args.text.now l.rest.now c.in_ok-rest-2.rest.now c.loop-version-test.true c.version-item.is l.invariant c.in_ok-rest-2.ensures
+    behind_item (version_text c.args.format) vs l.version-index c.version-item.result front c.args.text.now l.rest.now c.in_ok-rest-2.rest.now
+    c.loop-version-test.true c.version-item.is l.invariant c.in_ok-rest-2.ensures
 
 pub returns-in_err-rest : goal.returns-in_err-rest
 returns-in_err-rest c =
     let vs = c.args.versions.now in
-    rw c.from_residual.ensures (lacks_first (to_be_bytes w16 (length vs)) (flat_map (version_text c.args.format) vs) c.args.text.now (rw c.to_be_bytes.ensures at c.in_err-rest.ensures))
+    rw c.from_residual.ensures
+    (lacks_first (to_be_bytes w16 (length vs)) (flat_map (version_text c.args.format) vs) c.args.text.now
+    (rw c.to_be_bytes.ensures at c.in_err-rest.ensures))

@@ -6,4 +6,5 @@ use Rattle.row_bytes.proofs.StripLaws.{IsBehind}
 use Rattle.row_bytes.proofs.comparison.strip_versions.Given as goal
 
 abbrev pub invariant-loop-version : goal.invariant-loop-version
-invariant-loop-version l = IsBehind l.text (to_be_bytes w16 (length l.versions) ++ flat_map (version_text l.format) l.versions) l.rest (flat_map (version_text l.format) (drop l.version-index l.versions))
+invariant-loop-version l = IsBehind l.text (to_be_bytes w16 (length l.versions) ++ flat_map (version_text l.format) l.versions) l.rest
+    (flat_map (version_text l.format) (drop l.version-index l.versions))

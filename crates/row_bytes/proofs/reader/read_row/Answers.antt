@@ -14,7 +14,9 @@ returns-in-Ok-clause-only c = λ r rest h e.
     ok_is (c.in-Ok.row, c.in-Ok.rest.now) (r, rest) (sym c.in-Ok.ensures ∙ (ap (row_at c.args.format) e ∙ row_again c.args.format r rest h))
 
 pub returns-in-Err-Left-clause-only : goal.returns-in-Err-Left-clause-only
-returns-in-Err-Left-clause-only c = λ r rest h e. absurd (none_here c.args.format c.args.text.now c.in-Err-Left.left (rw c.in-Err-Left.field-0-is at c.in-Err-Left.ensures) r rest h e)
+returns-in-Err-Left-clause-only c =
+    λ r rest h e. absurd (none_here c.args.format c.args.text.now c.in-Err-Left.left
+    (rw c.in-Err-Left.field-0-is at c.in-Err-Left.ensures) r rest h e)
 
 pub overflow_sub-result : goal.overflow_sub-result
 overflow_sub-result c = broken_within c.args.format c.args.text.now c.in-Err-Left.left (rw c.in-Err-Left.field-0-is at c.in-Err-Left.ensures)

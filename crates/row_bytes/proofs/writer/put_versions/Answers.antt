@@ -16,6 +16,9 @@ returns-in_err-put_version-clause-room c =
     let old = c.args.out.now.items in
     let item = ap (λ (x : Version). length (version_text c.args.format x)) c.version-item.is in
     let all : vec_capacity c.args.out.now < length (old ++ count) + length (flat_map (version_text c.args.format) c.args.versions.now) =
-    lacks_room (version_text c.args.format) c.args.versions.now l.version-index v (old ++ count) l.out.items _ _ c.loop-version-test.true l.invariant.so_far l.invariant.grows (omega (arith, item, c.in_err-put_version.ensures.room)) in
-    let room : vec_capacity c.args.out.now < length old + length (count ++ flat_map (version_text c.args.format) c.args.versions.now) = omega (arith, all, length-append old count, length-append count (flat_map (version_text c.args.format) c.args.versions.now)) in
+    lacks_room (version_text c.args.format) c.args.versions.now l.version-index v
+    (old ++ count) l.out.items _ _ c.loop-version-test.true l.invariant.so_far l.invariant.grows
+    (omega (arith, item, c.in_err-put_version.ensures.room)) in
+    let room : vec_capacity c.args.out.now < length old + length (count ++ flat_map (version_text c.args.format) c.args.versions.now) = omega
+    (arith, all, length-append old count, length-append count (flat_map (version_text c.args.format) c.args.versions.now)) in
     on_err _ room

@@ -6,7 +6,8 @@ pub returns-in_err-row : goal.returns-in_err-row
 returns-in_err-row c =
     λ text read.
     let p = err_from_is_err_and c.from_residual.result c.from_residual.ensures.1 in
-    rw (p.1, p.2) (read_fault c.args.own.now c.args.node text c.in_err-row.field-0.0 (c.in_err-row.ensures text c.rows.rows.items (c.rows.invariant text read)))
+    rw (p.1, p.2) (read_fault c.args.own.now c.args.node text c.in_err-row.field-0.0
+    (c.in_err-row.ensures text c.rows.rows.items (c.rows.invariant text read)))
 
 pub returns-in-None : goal.returns-in-None
 returns-in-None c =

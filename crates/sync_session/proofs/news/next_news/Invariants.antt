@@ -5,7 +5,8 @@ use Rattle.sync_session.proofs.news.next_news.Given as goal
 
 abbrev pub invariant-rows : goal.invariant-rows
 invariant-rows l = record {
-  read : (text : List ℕ) (others : List Row) → IsReadTo l.own l.fn.node text l.initial.last l.initial.rest others l.initial.known → IsReadTo l.own l.fn.node text l.last l.rest others l.known;
+  read : (text : List ℕ) (others : List Row) → IsReadTo l.own l.fn.node text l.initial.last l.initial.rest others l.initial.known
+      → IsReadTo l.own l.fn.node text l.last l.rest others l.known;
   shorter : length l.rest ≤ length l.initial.rest;
 }
 

@@ -7,4 +7,5 @@ use Rattle.sync_session.proofs.news.version_count.Goals as goal
 pub returns : goal.returns
 returns c =
     sum_by_from_yields_List (λ (r : Row). length r.versions) c.args.rows.now c.map.result c.sum.result c.sum.ensures.ran
-    (YieldsList-from_map _ (λ (r : Row). length r.versions) (YieldsList-from_slice c.args.rows.now cc) c.map.ensures.closure (λ x r q k. search rules))
+    (YieldsList-from_map _ (λ (r : Row). length r.versions) (YieldsList-from_slice c.args.rows.now cc) c.map.ensures.closure
+    (λ x r q k. search rules))

@@ -10,4 +10,10 @@ returns-clause-kept c = filter_same _ (λ n. not (is_same_node n c.args.node)) _
 pub returns-clause-fewer : goal.returns-clause-fewer
 returns-clause-fewer c = λ has.
     let left : c.retain.new.self.items ≡ filter (λ n. not (is_same_node n c.args.node)) c.args.nodes.now.items = returns-clause-kept c in
-    omega (arith, fewer c.args.nodes.now.items c.args.node has, ap (λ (xs : List Node). length xs) left, c.retain.new.self.ok.0, c.args.nodes.now.ok.0)
+    omega (
+      arith,
+      fewer c.args.nodes.now.items c.args.node has,
+      ap (λ (xs : List Node). length xs) left,
+      c.retain.new.self.ok.0,
+      c.args.nodes.now.ok.0,
+    )

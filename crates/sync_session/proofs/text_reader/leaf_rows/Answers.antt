@@ -16,7 +16,8 @@ returns-in_default c =
 pub returns-in-Err-RowBroken : goal.returns-in-Err-RowBroken
 returns-in-Err-RowBroken c =
     λ rows is.
-    let body = spelled_body c.args.own.now c.args.node c.args.text.now rows c.format-format.result c.leaf_byte.result c.in-Some.body.now is c.format-format.ensures.format c.leaf_byte.ensures c.in-Some.ensures in
+    let body = spelled_body c.args.own.now c.args.node c.args.text.now rows c.format-format.result c.leaf_byte.result c.in-Some.body.now is
+    c.format-format.ensures.format c.leaf_byte.ensures c.in-Some.ensures in
     let shown = rw c.in-Err-RowBroken.field-0-is at (c.in-Err-RowBroken.ensures.only rows body.0 body.1) in
     absurd (cc)
 
@@ -29,7 +30,8 @@ pub returns-else-are_here : goal.returns-else-are_here
 returns-else-are_here c =
     λ rows is.
     let test : List Row → Bool = λ rs. list_all (is_here c.args.own.now c.args.node.index) rs in
-    let body = spelled_body c.args.own.now c.args.node c.args.text.now rows c.format-format.result c.leaf_byte.result c.in-Some.body.now is c.format-format.ensures.format c.leaf_byte.ensures c.in-Some.ensures in
+    let body = spelled_body c.args.own.now c.args.node c.args.text.now rows c.format-format.result c.leaf_byte.result c.in-Some.body.now is
+    c.format-format.ensures.format c.leaf_byte.ensures c.in-Some.ensures in
     let same : c.in-Ok.rows ≡ rows = c.in-Ok.ensures.only rows body.0 body.1 in
     let off : test c.in-Ok.rows ≡ false = search rules in
     both_ways (test c.in-Ok.rows) off (ap test same ∙ spelled_here c.args.own.now c.args.node c.args.text.now rows is)

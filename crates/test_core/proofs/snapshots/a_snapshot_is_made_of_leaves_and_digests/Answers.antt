@@ -10,5 +10,8 @@ new-requires c =
     let above = λ (child : List ℕ). inner_text One (replicate 16 (sha256 child)) in
     let inner = c.in_ok-inner.ensures ∙ ap above c.deref.ensures.value in
     let root = c.in_ok-root.ensures ∙ ap above c.deref-2.ensures.value in
-    let digests = c.in_ok-digests.ensures ∙ (λ i. sha256 (c.deref-3.ensures.value i) ∷ replicate 16 (sha256 (c.deref-4.ensures.value i)) ++ replicate 256 (sha256 (c.deref-5.ensures.value i))) in
-    empty_snapshot 3 5 c.in_ok-leaves.leaves.items c.in_ok-digests.digests.items c.in_ok-root.root.items c.in_ok-inner.inner.items c.in_ok-leaf.leaf.items (omega arith) (omega arith) c.in_ok-leaves.ensures c.in_ok-leaf.ensures.1 inner root digests
+    let digests = c.in_ok-digests.ensures
+    ∙ (λ i. sha256 (c.deref-3.ensures.value i) ∷ replicate 16 (sha256 (c.deref-4.ensures.value i)) ++ replicate 256
+    (sha256 (c.deref-5.ensures.value i))) in
+    empty_snapshot 3 5 c.in_ok-leaves.leaves.items c.in_ok-digests.digests.items c.in_ok-root.root.items c.in_ok-inner.inner.items
+    c.in_ok-leaf.leaf.items (omega arith) (omega arith) c.in_ok-leaves.ensures c.in_ok-leaf.ensures.1 inner root digests

@@ -19,6 +19,11 @@ returns c = λ own other n salt width rows short format deep few same.
     record {
       shallow = deep;
       body = joined parts;
-      makes = record { steps = patch_for salt (marks_of salt width (parts_at own n)) 0 parts; spelled = refl; forwards = t.forwards; made_is = t.makes };
+      makes = record {
+        steps = patch_for salt (marks_of salt width (parts_at own n)) 0 parts;
+        spelled = refl;
+        forwards = t.forwards;
+        made_is = t.makes;
+      };
       text_is = text_of_parts other n there ∙ ap (λ (f : ℕ). f ∷ joined parts) first;
     }

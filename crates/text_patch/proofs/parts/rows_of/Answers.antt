@@ -23,13 +23,16 @@ loop-rows-init c =
     let fit = leaf_fits m n.index c.format-format.ensures.valid in
     record {
       all = ap (λ (t : List (List ℕ)). t ++ map (row_text c.format-format.result) c.runs-runs.result) none
-          ∙ ap (λ (f : Format). map (row_text f) c.runs-runs.result) format ∙ ap (λ (rs : List Row). map (row_text m.format) rs) rows ∙ sym (leaf_parts m n c.requires);
-      fit = subst (λ (f : Format). AllByRecursion (FitsText f) c.runs-runs.result) (sym format) (subst (λ (rs : List Row). AllByRecursion (FitsText m.format) rs) (sym rows) fit);
+          ∙ ap (λ (f : Format). map (row_text f) c.runs-runs.result) format ∙ ap (λ (rs : List Row). map (row_text m.format) rs) rows
+          ∙ sym (leaf_parts m n c.requires);
+      fit = subst (λ (f : Format). AllByRecursion (FitsText f) c.runs-runs.result) (sym format)
+          (subst (λ (rs : List Row). AllByRecursion (FitsText m.format) rs) (sym rows) fit);
     }
 
 pub put_texts-requires : goal.put_texts-requires
 put_texts-requires c =
-    all-run (FitsText c.format-format.result) [] c.in-Some.rows.now c.next_run.new.self (subst (λ (rs : List Row). AllByRecursion (FitsText c.format-format.result) rs) c.in-Some.ensures.0 c.loop-rows.invariant.fit)
+    all-run (FitsText c.format-format.result) [] c.in-Some.rows.now c.next_run.new.self
+    (subst (λ (rs : List Row). AllByRecursion (FitsText c.format-format.result) rs) c.in-Some.ensures.0 c.loop-rows.invariant.fit)
 
 pub loop-rows-preserved : goal.loop-rows-preserved
 loop-rows-preserved c =
@@ -37,9 +40,11 @@ loop-rows-preserved c =
     let run = c.in-Some.rows.now in
     let rest = c.next_run.new.self in
     let before = c.loop-rows.parts.items in
-    let split : map text c.loop-rows.runs ≡ map text run ++ map text rest = ap (λ (rs : List Row). map text rs) c.in-Some.ensures.0 ∙ map-append text run rest in
+    let split : map text c.loop-rows.runs ≡ map text run ++ map text rest = ap (λ (rs : List Row). map text rs) c.in-Some.ensures.0
+    ∙ map-append text run rest in
     record {
       all = ap (λ (t : List (List ℕ)). t ++ map text rest) c.in_ok-put_texts.ensures.1
           ∙ append_assoc before (map text run) (map text rest) ∙ ap (λ (t : List (List ℕ)). before ++ t) (sym split) ∙ c.loop-rows.invariant.all;
-      fit = all-rest (FitsText c.format-format.result) run rest (subst (λ (rs : List Row). AllByRecursion (FitsText c.format-format.result) rs) c.in-Some.ensures.0 c.loop-rows.invariant.fit);
+      fit = all-rest (FitsText c.format-format.result) run rest
+          (subst (λ (rs : List Row). AllByRecursion (FitsText c.format-format.result) rs) c.in-Some.ensures.0 c.loop-rows.invariant.fit);
     }

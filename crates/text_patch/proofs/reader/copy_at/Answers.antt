@@ -6,4 +6,5 @@ pub returns : goal.returns
 returns c =
     let first = c.in_ok-first in
     let count = c.in_ok-count in
-    copy_begins c.args.from c.args.parts first.first count.count c.args.fields.now first.rest.now count.rest.now first.ensures.0 count.ensures.0 first.ensures.1 count.ensures.1 (omega arith) (omega arith)
+    copy_begins c.args.from c.args.parts first.first count.count c.args.fields.now first.rest.now count.rest.now first.ensures.0 count.ensures.0
+    first.ensures.1 count.ensures.1 (omega arith) (omega arith)

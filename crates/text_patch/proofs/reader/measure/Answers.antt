@@ -12,15 +12,30 @@ steps-preserved c =
     let done = l.invariant.0 in
     let copied = joined (take (s.end - s.first) (drop s.first c.args.parts.now)) in
     let sum : c.in-Some-checked_add.sum ≡ 1 + length ((done ++ copied) ++ s.new.now) =
-    omega (arith, c.in-Some-len_with.ensures, c.in-Some-checked_add.ensures.1, l.invariant.2, length-append (done ++ copied) s.new.now, length-append done copied) in
-    ((done ++ copied) ++ s.new.now, way_more c.args.parts.now l.from l.rest.now c.args.steps.now done s.first s.end s.new.now s.rest.now l.invariant.1 c.in-Some.ensures, sum)
+    omega (
+      arith,
+      c.in-Some-len_with.ensures,
+      c.in-Some-checked_add.ensures.1,
+      l.invariant.2,
+      length-append (done ++ copied) s.new.now,
+      length-append done copied,
+    ) in (
+      (done ++ copied) ++ s.new.now,
+      way_more c.args.parts.now l.from l.rest.now c.args.steps.now done s.first s.end s.new.now s.rest.now l.invariant.1 c.in-Some.ensures,
+      sum,
+    )
 
 pub returns-in_default : goal.returns-in_default
 returns-in_default c =
     let l = c.steps in
-    way_ends c.args.parts.now l.from l.rest.now c.args.steps.now l.invariant.0 l.invariant.1 (some_left c.is_empty.result l.rest.now c.is_empty.ensures c.steps-test.true) c.in_default.ensures
+    way_ends c.args.parts.now l.from l.rest.now c.args.steps.now l.invariant.0 l.invariant.1
+    (some_left c.is_empty.result l.rest.now c.is_empty.ensures c.steps-test.true) c.in_default.ensures
 
 pub returns : goal.returns
 returns c =
-    let l = c.steps in
-    (l.invariant.0, way_done c.args.parts.now l.from l.rest.now c.args.steps.now l.invariant.0 l.invariant.1 (none_left c.is_empty.result l.rest.now c.is_empty.ensures c.steps-test.false), l.invariant.2)
+    let l = c.steps in (
+      l.invariant.0,
+      way_done c.args.parts.now l.from l.rest.now c.args.steps.now l.invariant.0 l.invariant.1
+          (none_left c.is_empty.result l.rest.now c.is_empty.ensures c.steps-test.false),
+      l.invariant.2,
+    )

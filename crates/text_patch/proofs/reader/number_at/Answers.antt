@@ -4,5 +4,8 @@ use Rattle.text_patch.proofs.reader.number_at.Goals as goal
 
 pub returns : goal.returns
 returns c =
-    let parts = c.in_ok-number.ensures.cases in
-    (c.from_be_bytes.type_inv, four_stood c.from_be_bytes.result c.args.bytes.now c.in_ok-number.number.now c.in_ok-number.rest.now (λ i. omega (arith, c.type_inv.bytes i)) (omega (arith, parts.2)) parts.0 parts.1 c.from_be_bytes.ensures)
+    let parts = c.in_ok-number.ensures.cases in (
+      c.from_be_bytes.type_inv,
+      four_stood c.from_be_bytes.result c.args.bytes.now c.in_ok-number.number.now c.in_ok-number.rest.now
+          (λ i. omega (arith, c.type_inv.bytes i)) (omega (arith, parts.2)) parts.0 parts.1 c.from_be_bytes.ensures,
+    )

@@ -6,6 +6,7 @@ use Rattle.text_patch.proofs.writer.write_steps.Given as goal
 
 abbrev pub invariant-parts : goal.invariant-parts
 invariant-parts l = record {
-  so_far : steps_text (patch_for l.salt l.marks 0 l.parts) ≡ l.out.items ++ left_text l.salt l.marks l.run.first l.run.count (drop l.part-index l.parts);
+  so_far : steps_text (patch_for l.salt l.marks 0 l.parts) ≡ l.out.items ++ left_text l.salt l.marks l.run.first l.run.count
+      (drop l.part-index l.parts);
   fits : l.run.first + l.run.count < 2 ^ 32;
 }

@@ -13,7 +13,8 @@ unreachable-requires c =
     both_ways (are_clean (children_of c.args.digests.now c.args.place)) no (clean_children c.args.digests.now c.args.place c.requires.clean)
 
 -- a block of these digests is a copy
-copied : (digests : List (Option (List ℕ))) (place : ℕ) (r : Result (List (List ℕ)) Refusal) (is : List (List ℕ)) → Answers r None (λ block. block ≡ is) → IsCopy digests place is → Answers r None (IsCopy digests place)
+copied : (digests : List (Option (List ℕ))) (place : ℕ) (r : Result (List (List ℕ)) Refusal) (is : List (List ℕ))
+    → Answers r None (λ block. block ≡ is) → IsCopy digests place is → Answers r None (IsCopy digests place)
 copied digests place (Ok block) is made copy = (made.0, subst (IsCopy digests place) (sym made.1) copy)
 copied digests place (Err e) is made copy = made
 

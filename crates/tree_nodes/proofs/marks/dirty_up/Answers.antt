@@ -22,25 +22,38 @@ loop-next-init c = record {
 
 pub bounds-digests-place : goal.bounds-digests-place
 bounds-digests-place c =
-    let before = subst (λ (o : Option Node). IsClearing c.args.format c.args.leaf c.args.digests.now o c.loop-next.count c.loop-next.digests) c.in-Some.is c.loop-next.invariant.clearing in
-    omega (arith, c.place-place.ensures.place, clearing_within c.args.format c.args.leaf c.args.digests.now c.in-Some.node c.loop-next.count c.loop-next.digests c.place-place.ensures.node.within before)
+    let before = subst (λ (o : Option Node). IsClearing c.args.format c.args.leaf c.args.digests.now o c.loop-next.count c.loop-next.digests)
+    c.in-Some.is c.loop-next.invariant.clearing in
+    omega (
+      arith,
+      c.place-place.ensures.place,
+      clearing_within c.args.format c.args.leaf c.args.digests.now c.in-Some.node c.loop-next.count c.loop-next.digests
+          c.place-place.ensures.node.within before,
+    )
 
 pub returns-then-is_none-clause-path : goal.returns-then-is_none-clause-path
 returns-then-is_none-clause-path c =
-    let before = subst (λ (o : Option Node). IsClearing c.args.format c.args.leaf c.args.digests.now o c.loop-next.count c.loop-next.digests) c.in-Some.is c.loop-next.invariant.clearing in
+    let before = subst (λ (o : Option Node). IsClearing c.args.format c.args.leaf c.args.digests.now o c.loop-next.count c.loop-next.digests)
+    c.in-Some.is c.loop-next.invariant.clearing in
     let dirty = dirty_there (kept_digest c.loop-next.digests c.place-place.result) c.is_none.result c.is_none.ensures c.if-is_none.true in
-    clearing_stops c.args.format c.args.leaf c.args.digests.now c.in-Some.node c.loop-next.count c.loop-next.digests c.place-place.ensures.node.within before (subst (λ (p : ℕ). kept_digest c.loop-next.digests p ≡ None) c.place-place.ensures.place dirty)
+    clearing_stops c.args.format c.args.leaf c.args.digests.now c.in-Some.node c.loop-next.count c.loop-next.digests c.place-place.ensures.node.within
+    before (subst (λ (p : ℕ). kept_digest c.loop-next.digests p ≡ None) c.place-place.ensures.place dirty)
 
 pub loop-next-preserved : goal.loop-next-preserved
 loop-next-preserved c =
     let digests = c.loop-next.digests in
-    let before = subst (λ (o : Option Node). IsClearing c.args.format c.args.leaf c.args.digests.now o c.loop-next.count digests) c.in-Some.is c.loop-next.invariant.clearing in
+    let before = subst (λ (o : Option Node). IsClearing c.args.format c.args.leaf c.args.digests.now o c.loop-next.count digests) c.in-Some.is
+    c.loop-next.invariant.clearing in
     let clean = clean_there (kept_digest digests c.place-place.result) c.is_none.result c.is_none.ensures c.if-is_none.false in
     let here = subst (λ (p : ℕ). is_some (kept_digest digests p) ≡ true) c.place-place.ensures.place clean in
     record {
-      clearing = rw (c.place-place.ensures.place, c.parent-next.ensures) (clearing_goes_on c.args.format c.args.leaf c.args.digests.now c.in-Some.node c.loop-next.count digests c.place-place.ensures.node.within before here);
+      clearing = rw (c.place-place.ensures.place, c.parent-next.ensures)
+          (clearing_goes_on c.args.format c.args.leaf c.args.digests.now c.in-Some.node c.loop-next.count digests c.place-place.ensures.node.within
+          before here);
       copies = c.drop_block.ensures digests None c.loop-next.invariant.copies;
     }
 
 pub returns-clause-path : goal.returns-clause-path
-returns-clause-path c = clearing_done c.args.format c.args.leaf c.args.digests.now c.loop-next.count c.loop-next.digests (subst (λ (o : Option Node). IsClearing c.args.format c.args.leaf c.args.digests.now o c.loop-next.count c.loop-next.digests) c.in_default.is c.loop-next.invariant.clearing)
+returns-clause-path c = clearing_done c.args.format c.args.leaf c.args.digests.now c.loop-next.count c.loop-next.digests
+    (subst (λ (o : Option Node). IsClearing c.args.format c.args.leaf c.args.digests.now o c.loop-next.count c.loop-next.digests) c.in_default.is
+    c.loop-next.invariant.clearing)

@@ -33,13 +33,16 @@ pub returns-in-Equal : goal.returns-in-Equal
 returns-in-Equal c =
     let v = c.args.version.now in
     let w = c.args.held.now in
-    let below : is_below v w ≡ false = not_below (at_most v.clock w.clock) (at_most w.clock v.clock) (λ e. let no : clocks.Equal ≡ clocks.Before = sym c.in-Equal.is ∙ c.compare.ensures.order ∙ e in cc) in
+    let below : is_below v w ≡ false = not_below (at_most v.clock w.clock) (at_most w.clock v.clock)
+    (λ e. let no : clocks.Equal ≡ clocks.Before = sym c.in-Equal.is ∙ c.compare.ensures.order ∙ e in cc) in
     rw below (c.eq.ensures ∙ equal_is c.text_order.result ∙ ap is_eq c.text_order.ensures.fields ∙ sym (or-false (is_same v w)))
 
 pub returns-in-After : goal.returns-in-After
 returns-in-After c =
     let v = c.args.version.now in
     let w = c.args.held.now in
-    let same : is_same v w ≡ false = not_same v w (λ e. let no : c.compare.result ≡ clocks.Equal = c.compare.ensures.equal.1 e in elim c.in-After.is [ inl after ↦ cc | inr apart ↦ cc ]) in
-    let below : is_below v w ≡ false = not_below (at_most v.clock w.clock) (at_most w.clock v.clock) (λ e. let no : c.compare.result ≡ clocks.Before = c.compare.ensures.order ∙ e in elim c.in-After.is [ inl after ↦ cc | inr apart ↦ cc ]) in
+    let same : is_same v w ≡ false = not_same v w (λ e. let no : c.compare.result ≡ clocks.Equal = c.compare.ensures.equal.1 e in
+    elim c.in-After.is [ inl after ↦ cc | inr apart ↦ cc ]) in
+    let below : is_below v w ≡ false = not_below (at_most v.clock w.clock) (at_most w.clock v.clock)
+    (λ e. let no : c.compare.result ≡ clocks.Before = c.compare.ensures.order ∙ e in elim c.in-After.is [ inl after ↦ cc | inr apart ↦ cc ]) in
     rw (same, below) refl

@@ -12,5 +12,6 @@ pub returns-in-Moment : goal.returns-in-Moment
 returns-in-Moment c =
     let k = c.args.self.now in
     let right = subst (λ (x : KeptState). IsRight x.state) c.self.view_is c.journal-right.ensures.valid in
-    c.front.ensures ∙ ap (λ (n : ℕ). k.first + n) (moment_front k.state right (subst (λ (l : LocalRows). shown_fault l k.state ≡ None) c.in-Moment.is c.requires))
+    c.front.ensures ∙ ap (λ (n : ℕ). k.first + n)
+    (moment_front k.state right (subst (λ (l : LocalRows). shown_fault l k.state ≡ None) c.in-Moment.is c.requires))
     ∙ ap (λ (l : LocalRows). shown_entries l k) (sym c.in-Moment.is)

@@ -6,4 +6,5 @@ use Rattle.c_calls.proofs.kept_renewal.KeptRenewal.catch_up.Goals as goal
 pub invariant_of-self-2 : goal.invariant_of-self-2
 invariant_of-self-2 c =
     let k = c.args.kept.now in
-    caught_up_within (first_number_fault c.self.inside.first k) c.in-Built.renewal c.catch_up_from-outcome.new.renewal k.state c.args.most c.catch_up_from-outcome.result (subst IsRenewal c.in-Built.is c.self.invariant) c.catch_up_from-outcome.ensures
+    caught_up_within (first_number_fault c.self.inside.first k) c.in-Built.renewal c.catch_up_from-outcome.new.renewal k.state c.args.most
+    c.catch_up_from-outcome.result (subst IsRenewal c.in-Built.is c.self.invariant) c.catch_up_from-outcome.ensures

@@ -1,5 +1,9 @@
 -- Nothing is held at null.
-use Rattle.c_handle.proofs.Steps.{◌≡◌, None, List, [], ◌∷◌, ◌++◌, refl, sym, subst, false, a_type, dcons, dnil, Val, inst_fn, SProp, ent, emp, id⊢, ftrue, flft, WpFn, ‵, raw, ◌⊛◌, ◌$◌, ◌∵◌, !, qed, by, move, keep, split, fsplit, fjoin, suffices, use0, of_opd, lit, false_lit, no_more, and_then, returns, enter, alloc_all, pass_all, free_all, look_at, get, sets, agg, fact, fact_i, tables, no, RattleType, owns, types_at, plain, null_ptr, nothing, param, bounded, param_laws, Stays, stay_dropped, walk_of, Al, Goes-blank, handle_tells, proved_at, leaves}
+use Rattle.c_handle.proofs.Steps.{◌≡◌, None, List, [], ◌∷◌, ◌++◌, refl, sym, subst, false, a_type, dcons, dnil, Val, inst_fn, SProp, ent, emp, id⊢}
+use Rattle.c_handle.proofs.Steps.{ftrue, flft, WpFn, ‵, raw, ◌⊛◌, ◌$◌, ◌∵◌, !, qed, by, move, keep, split, fsplit, fjoin, suffices, use0, of_opd}
+use Rattle.c_handle.proofs.Steps.{lit, false_lit, no_more, and_then, returns, enter, alloc_all, pass_all, free_all, look_at, get, sets, agg, fact}
+use Rattle.c_handle.proofs.Steps.{fact_i, tables, no, RattleType, owns, types_at, plain, null_ptr, nothing, param, bounded, param_laws, Stays}
+use Rattle.c_handle.proofs.Steps.{stay_dropped, walk_of, Al, Goes-blank, handle_tells, proved_at, leaves}
 use Rattle.c_handle.proofs.Words.{word, word_good, handle_in}
 use Rattle.c_handle.specs.contracts.handle.Handle.none as f
 use Rattle.c_handle.proofs.handle.Handle.none.Statement.{statement}
@@ -12,7 +16,8 @@ none_spec 𝓤 𝓛 𝓜 𝓡 wired T A L LA g d dT dA allocator glueT glueA =
     let inst = bounded (a_type ∷ a_type ∷ []) (T, (A, tt)) (dcons d (dcons dT (dcons dA dnil))) in let fn = inst_fn inst code.function in
     let stayed : Stays En.signature.params En.kept = (stay_dropped (plain (λ _. Z)) no, tt) in
     let al : Al = record { row = Z; laws = LZ; g = g; d = d; drops = dA } in
-    proved_at 𝓛 En stayed c 𝓜 𝓡 (Goes-blank 𝓛 2 (plain (λ _. Z)) no (λ κs x w. tt), tt) (f.Key.name inst) fn (code.unfolded 𝓤 𝓛.H 𝓜 𝓡 wired (T, (A, tt)) d dT dA) (λ y are.
+    proved_at 𝓛 En stayed c 𝓜 𝓡 (Goes-blank 𝓛 2 (plain (λ _. Z)) no (λ κs x w. tt), tt) (f.Key.name inst) fn
+    (code.unfolded 𝓤 𝓛.H 𝓜 𝓡 wired (T, (A, tt)) d dT dA) (λ y are.
     let κs = y.0.0 in let qs = y.0.1 in let a = y.0.3.0 in let tokens = ‵ (flft κs.0 qs.0) ⊛ ‵ (flft κs.1.0 qs.1.0) ⊛ ‵ ftrue in
     let Post : Val → SProp 𝓤 = (walk_of 𝓛 En stayed c).post y in let Run : List Val → SProp 𝓤 = λ ws. WpFn 𝓤 𝓛.H 𝓣.C 𝓣.Λ fn ws Post in
     qed 𝓛 ((tokens ⊛ ‵ (owns (types_at En.signature.params κs) y.0.3 y.0.4)) ∷ raw ((c κs y.0.3).requires y.1) ∷ []) ∵
@@ -22,6 +27,7 @@ none_spec 𝓤 𝓛 𝓜 𝓡 wired T A L LA g d dT dA allocator glueT glueA =
     sets ! (of_opd ! (get ! refl)) refl fits $
     sets ! (agg ! (and_then ! (lit ! tt) (and_then ! (false_lit !) (and_then ! (get ! refl) (no_more !))))) refl (word_good Z null_ptr false h fits) $
     nothing ! $ handle_in R Z g ! null_ptr false h a None $
-    use0 𝓛 (raw (fact 𝓤 ((false ≡ false) × (None ≡ None)))) (fact_i 𝓤 ((false ≡ false) × (None ≡ None)) (emp 𝓤) (refl, refl)) $ nothing ! $ nothing ! $ fjoin ! $
+    use0 𝓛 (raw (fact 𝓤 ((false ≡ false) × (None ≡ None))))
+    (fact_i 𝓤 ((false ≡ false) × (None ≡ None)) (emp 𝓤) (refl, refl)) $ nothing ! $ nothing ! $ fjoin ! $
     returns ! (look_at ! 0 refl) $ free_all ! refl $ keep ! (4 ∷ 0 ∷ 2 ∷ 1 ∷ []) $
     by ! (leaves 𝓛 En stayed c y (word null_ptr false h) (record { at = null_ptr; held = false; alloc = a; value = None }) (tt, tt) (tt, tt)))))

@@ -40,24 +40,34 @@ use Rattle.c_handle.proofs.lent.Lent.shown.Code as code
 
 pub shown_spec : {M : Type 1} → statement M
 shown_spec 𝓤 𝓛 𝓜 𝓡 wired X L =
-    let 𝓣 = tables 𝓤 𝓛.H 𝓜 𝓡 𝓡.env in let R : RattleType = param 0 X in let En = ended X in let inst = layouts (a_type ∷ []) (X, tt) in let fn = inst_fn inst code.function in
-    let Row : RattleType = lent.the_row R in let D : RattleType = Data R in let c = clauses X 𝓛 𝓜.mem 𝓡.returns in let laws = (param_laws 0 X L).shr_laws in
+    let 𝓣 = tables 𝓤 𝓛.H 𝓜 𝓡 𝓡.env in let R : RattleType = param 0 X in let En = ended X in let inst = layouts (a_type ∷ []) (X, tt) in
+    let fn = inst_fn inst code.function in
+    let Row : RattleType = lent.the_row R in let D : RattleType = Data R in let c = clauses X 𝓛 𝓜.mem 𝓡.returns in
+    let laws = (param_laws 0 X L).shr_laws in
     let self = RefOf (0 ∷ []) tt (plain (λ _. Row)) (λ _. tt) in let hs : Stays En.signature.params En.kept = (stay_dropped self yes, tt) in
     proved 𝓛 En hs c 𝓜 𝓡 (Goes-dropped 𝓛 2 self yes (λ κs x f. refl), tt) (#self inst) fn (code.unfolded 𝓤 𝓛.H 𝓜 𝓡 wired (X, tt))
     (λ κs. (shr_vals, tt)) (λ κs. (shr_Tells (named 0) κs.0 Row, tt)) (λ κs qs bounds a gh are.
-    let b : ℕ = a.0.ref_ptr.0 in let o : ℕ = a.0.ref_ptr.1 in let κ : Lft = κs.0 in let d : Row.Denot = a.0.now in let p : Ptr = d.at in let others : Fml = fsep (flft κs.1.0 qs.1.0) ftrue in
-    let y : (walk_of 𝓛 En hs c).Ghost = ((κs, qs, bounds, a, (vptr b o ∷ [], tt)), gh) in let Post : Val → SProp 𝓤 = (walk_of 𝓛 En hs c).post y in let there : Val = vptr (block_of p) (count_of p) in
+    let b : ℕ = a.0.ref_ptr.0 in let o : ℕ = a.0.ref_ptr.1 in let κ : Lft = κs.0 in let d : Row.Denot = a.0.now in let p : Ptr = d.at in
+    let others : Fml = fsep (flft κs.1.0 qs.1.0) ftrue in
+    let y : (walk_of 𝓛 En hs c).Ghost = ((κs, qs, bounds, a, (vptr b o ∷ [], tt)), gh) in let Post : Val → SProp 𝓤 = (walk_of 𝓛 En hs c).post y in
+    let there : Val = vptr (block_of p) (count_of p) in
     qed 𝓛 (((‵ (flft κ qs.0) ⊛ ‵ others) ⊛ ‵ (owns (types_at En.signature.params κs) a y.0.4)) ∷ raw (fact 𝓤 _) ∷ raw (fact 𝓤 (d.held ≡ true)) ∷ []) ∵
     keep ! (2 ∷ 0 ∷ []) $ heard ! (d.held ≡ true) (λ held. split ! $ split ! $ move ! (2 ∷ []) $ fsplit ! $ fsplit ! $ keep ! (1 ∷ 3 ∷ 4 ∷ []) $
     enter ! 𝓣.C 𝓣.Λ fn (vptr b o ∷ []) Post $ alloc_all ! (λ l. pass_all ! refl ((tt, tt), tt) $ let Ev = env fn.locals l in
-    use1 𝓛 (‵ (hidden_shr D κ (p, (d.held, tt)) b o) ⊛ ‵ (fhide (share_shares R d.held p d.value d.round κ))) (lent_out 𝓛 (lent.struct R) (lent.the_codes X.Denot R.coded) (lent.the_heap R) (lent.the_lent R) κ d b o) $
+    use1 𝓛 (‵ (hidden_shr D κ (p, (d.held, tt)) b o) ⊛ ‵ (fhide (share_shares R d.held p d.value d.round κ)))
+    (lent_out 𝓛 (lent.struct R) (lent.the_codes X.Denot R.coded) (lent.the_heap R) (lent.the_lent R) κ d b o) $
     split ! $ move ! (1 ∷ []) $ unhide ! $ seen_out R ! d.held p d.value d.round κ held (λ x is.
     use1 𝓛 (‵ (lent_at R p x κ)) (part_sees (lent_at R p x) (lent_at_shr_laws R laws p x) 𝓛 d.round κ) $ fsplit ! $
     use1 𝓛 (raw (fact 𝓤 (InBlock p))) (in_block_says 𝓛 p) $ heard ! (InBlock p) (λ inb. hide ! $ move ! (1 ∷ 2 ∷ []) $
     looks ! tt D (opened R 𝓛) (p, (d.held, tt)) b o (λ q vs. move ! (1 ∷ []) $ peeks ! D (Is D) (shows 𝓛 D) (p, (d.held, tt)) vs (λ so.
-    let ev : vs ≡ word (block_ptr (block_of p) (count_of p)) d.held ∷ [] = told R p d.held vs so ∙ ap (λ (r : Ptr). word r d.held ∷ []) (at_block p inb) in
+    let ev : vs ≡ word (block_ptr (block_of p) (count_of p)) d.held ∷ [] = told R p d.held vs so
+    ∙ ap (λ (r : Ptr). word r d.held ∷ []) (at_block p inb) in
     rewrite ! 1 (λ (ws : List Val). ‵ (cell_at q D.mir ws b o)) ev refl $ first ! $ blocks ! $
-    sets_last ! (addr ! (through ! refl (fld ! refl (hop ! (look_in ! 1 (sub ! 0 refl (whole !))) (stop !))))) refl (tt, tt) $ exec ! 𝓣.C 𝓣.Λ Ev (tail fn.body) (at_ret Ev Post) $ sets ! (of_opd ! (get ! refl)) refl (tt, tt) $
-    rewrite ! 1 (λ (ws : List Val). ‵ (cell_at q D.mir ws b o)) (sym ev) refl $ move ! (1 ∷ 0 ∷ 2 ∷ []) $ shuts ! tt D q (p, (d.held, tt)) vs b o $ move ! (0 ∷ 3 ∷ []) $ join ! $
-    move ! (2 ∷ []) $ feq_i ! (List Val) (there ∷ []) (there ∷ []) refl $ fjoin ! $ use0 𝓛 (raw (fact 𝓤 (d.value ≡ Some x))) (fact_i 𝓤 (d.value ≡ Some x) (emp 𝓤) is) $ nothing ! $ nothing ! $ fjoin ! $
-    returns ! (look_at ! 0 refl) $ free_all ! refl $ keep ! (3 ∷ 0 ∷ 2 ∷ 1 ∷ []) $ by ! (leaves 𝓛 En hs c y there (record { ref_ptr = (block_of p, count_of p); now = x }) (tt, tt) (tt, tt)))))))))
+    sets_last ! (addr ! (through ! refl (fld ! refl (hop ! (look_in ! 1 (sub ! 0 refl (whole !))) (stop !))))) refl (tt, tt) $ exec ! 𝓣.C 𝓣.Λ Ev
+    (tail fn.body) (at_ret Ev Post) $ sets ! (of_opd ! (get ! refl)) refl (tt, tt) $
+    rewrite ! 1 (λ (ws : List Val). ‵ (cell_at q D.mir ws b o)) (sym ev) refl $ move ! (1 ∷ 0 ∷ 2 ∷ []) $ shuts ! tt D q
+    (p, (d.held, tt)) vs b o $ move ! (0 ∷ 3 ∷ []) $ join ! $
+    move ! (2 ∷ []) $ feq_i ! (List Val) (there ∷ []) (there ∷ []) refl $ fjoin ! $ use0 𝓛 (raw (fact 𝓤 (d.value ≡ Some x)))
+    (fact_i 𝓤 (d.value ≡ Some x) (emp 𝓤) is) $ nothing ! $ nothing ! $ fjoin ! $
+    returns ! (look_at ! 0 refl) $ free_all ! refl $ keep ! (3 ∷ 0 ∷ 2 ∷ 1 ∷ []) $ by !
+    (leaves 𝓛 En hs c y there (record { ref_ptr = (block_of p, count_of p); now = x }) (tt, tt) (tt, tt)))))))))

@@ -6,7 +6,8 @@ use Rattle.caller_pass.proofs.locked_range.LockedRange.install_moment.Goals as g
 
 pub invariant_of-self : goal.invariant_of-self
 invariant_of-self g c =
-    let same = hashed_beside c.self.inside.state c.install_moment-installed.new.self c.args.node c.args.hashed.now c.install_moment-installed.result c.install_moment-installed.ensures in
+    let same = hashed_beside c.self.inside.state c.install_moment-installed.new.self c.args.node c.args.hashed.now c.install_moment-installed.result
+    c.install_moment-installed.ensures in
     record {
       right = c.journal-right.ensures.valid;
       counted = c.self.invariant.counted ∙ ap length (sym same);

@@ -17,7 +17,8 @@ returns-in_err-rows g c =
       refl,
       elim c.in_err-rows.ensures [
         | inl memory ↦ inl memory
-        | inr fault ↦ inr (unread c.args.self.now c.args.pass.now text e (subst (λ (x : Config). read_fault x (length text) (rows_in x.format text) ≡ Some e) config fault))
+        | inr fault ↦ inr (unread c.args.self.now c.args.pass.now text e
+            (subst (λ (x : Config). read_fault x (length text) (rows_in x.format text) ≡ Some e) config fault))
       ],
     )
 
@@ -27,4 +28,5 @@ returns g c =
     let rows = c.in_ok-rows.rows.rows in
     let config = c.config.ensures ∙ ap (λ (s : Store). s.config) c.store.ensures.store in
     let read = ap (λ (x : Config). rows_in x.format text) (sym config) ∙ c.in_ok-rows.ensures.1.2 in
-    subst (λ o. DoesOrNoMemory c.load_read.result (c.args.self.now, c.args.pass.now) (c.load_read.new.self, c.load_read.new.pass) o) (sym (was_read c.args.self.now c.args.pass.now text rows read)) c.load_read.ensures
+    subst (λ o. DoesOrNoMemory c.load_read.result (c.args.self.now, c.args.pass.now) (c.load_read.new.self, c.load_read.new.pass) o)
+    (sym (was_read c.args.self.now c.args.pass.now text rows read)) c.load_read.ensures

@@ -6,7 +6,8 @@ use Rattle.caller_pass.proofs.locked_range.LockedRange.open_session.Goals as goa
 
 pub invariant_of-self : goal.invariant_of-self
 invariant_of-self g c =
-    let same = opened_beside c.self.inside.state c.open_session-id.new.self c.args.partner c.args.offer c.open_session-id.result c.open_session-id.ensures in
+    let same = opened_beside c.self.inside.state c.open_session-id.new.self c.args.partner c.args.offer c.open_session-id.result
+    c.open_session-id.ensures in
     record {
       right = c.journal-right.ensures.valid;
       counted = c.self.invariant.counted ∙ ap (λ (s : Store). length s.entries) (sym same);

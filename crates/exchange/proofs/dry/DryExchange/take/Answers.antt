@@ -10,12 +10,14 @@ use Rattle.exchange.proofs.dry.DryExchange.take.Goals as goal
 
 pub returns-then-is_over : goal.returns-then-is_over
 returns-then-is_over c =
-    subst (λ (s : Shown). Shows c.args.self.now c.args.answer.now s.verdict s.news c.args.self.now) (sym c.nothing.ensures) (shows_late c.args.self.now c.args.answer.now (sym c.is_over.ensures ∙ c.if-is_over.true))
+    subst (λ (s : Shown). Shows c.args.self.now c.args.answer.now s.verdict s.news c.args.self.now) (sym c.nothing.ensures)
+    (shows_late c.args.self.now c.args.answer.now (sym c.is_over.ensures ∙ c.if-is_over.true))
 
 pub returns-in-Err : goal.returns-in-Err
 returns-in-Err c =
     let d = c.in-Err.ensures in
-    subst (λ (s : Shown). Shows c.args.self.now c.args.answer.now s.verdict s.news (record { session = c.args.self.now.session; course = c.sort.new.self })) (sym c.nothing-in-Err.ensures)
+    subst (λ (s : Shown). Shows c.args.self.now c.args.answer.now s.verdict s.news
+    (record { session = c.args.self.now.session; course = c.sort.new.self })) (sym c.nothing-in-Err.ensures)
     (shows_verdict c.args.self.now c.args.answer.now d.0 c.in-Err.verdict c.sort.new.self (sym c.is_over.ensures ∙ c.if-is_over.false) d.1 d.2)
 
 pub returns-in-Ok-take_news : goal.returns-in-Ok-take_news
@@ -23,13 +25,20 @@ returns-in-Ok-take_news c =
     let own : c.deref.result.now ≡ c.args.self.now.session.own = c.deref.ensures ∙ c.own.ensures in
     let d = c.in-Ok.ensures in
     let taken : AnswerTaken = record { receipts = c.new.result; known = c.in-Ok-take_news.news.known; state = c.state.result } in
-    shows_due c.args.self.now c.args.answer.now d.0 (c.in-Ok.due.0, c.in-Ok.due.1.now) c.sort.new.self c.judge-verdict.new.self (Ok c.in-Ok-take_news.news) c.take_news.new.session (Ok taken) c.is_leaf-is_leaf.result c.judge-verdict.result
-    (sym c.is_over.ensures ∙ c.if-is_over.false) d.1 d.2 c.in-Ok-take_news.ensures (c.new.ensures.items, refl, c.state.ensures) (c.is_leaf-is_leaf.ensures ∙ ap (λ (m : RowMap). is_leaf m c.in-Ok.due.0) own) c.judge-verdict.ensures.verdict c.judge-verdict.ensures.counts
+    shows_due c.args.self.now c.args.answer.now d.0 (c.in-Ok.due.0, c.in-Ok.due.1.now) c.sort.new.self c.judge-verdict.new.self
+    (Ok c.in-Ok-take_news.news) c.take_news.new.session (Ok taken) c.is_leaf-is_leaf.result c.judge-verdict.result
+    (sym c.is_over.ensures ∙ c.if-is_over.false) d.1 d.2 c.in-Ok-take_news.ensures (c.new.ensures.items, refl, c.state.ensures)
+    (c.is_leaf-is_leaf.ensures ∙ ap (λ (m : RowMap). is_leaf m c.in-Ok.due.0) own) c.judge-verdict.ensures.verdict c.judge-verdict.ensures.counts
 
 pub returns-in-Err-take_news : goal.returns-in-Err-take_news
 returns-in-Err-take_news c =
     let own : c.deref.result.now ≡ c.args.self.now.session.own = c.deref.ensures ∙ c.own.ensures in
     let d = c.in-Ok.ensures in
-    subst (λ (s : Shown). Shows c.args.self.now c.args.answer.now s.verdict s.news (record { session = c.take_news.new.session; course = c.judge-verdict-in-Err-take_news.new.self })) (sym c.nothing-in-Err-take_news.ensures)
-    (shows_due c.args.self.now c.args.answer.now d.0 (c.in-Ok.due.0, c.in-Ok.due.1.now) c.sort.new.self c.judge-verdict-in-Err-take_news.new.self (Err c.in-Err-take_news.refusal) c.take_news.new.session (Err c.in-Err-take_news.refusal) c.is_leaf-is_leaf.result c.judge-verdict-in-Err-take_news.result
-    (sym c.is_over.ensures ∙ c.if-is_over.false) d.1 d.2 c.in-Err-take_news.ensures refl (c.is_leaf-is_leaf.ensures ∙ ap (λ (m : RowMap). is_leaf m c.in-Ok.due.0) own) c.judge-verdict-in-Err-take_news.ensures.verdict c.judge-verdict-in-Err-take_news.ensures.counts)
+    subst (λ (s : Shown). Shows c.args.self.now c.args.answer.now s.verdict s.news
+    (record { session = c.take_news.new.session; course = c.judge-verdict-in-Err-take_news.new.self })) (sym c.nothing-in-Err-take_news.ensures)
+    (shows_due c.args.self.now c.args.answer.now d.0 (c.in-Ok.due.0, c.in-Ok.due.1.now) c.sort.new.self c.judge-verdict-in-Err-take_news.new.self
+    (Err c.in-Err-take_news.refusal) c.take_news.new.session
+    (Err c.in-Err-take_news.refusal) c.is_leaf-is_leaf.result c.judge-verdict-in-Err-take_news.result
+    (sym c.is_over.ensures ∙ c.if-is_over.false) d.1 d.2 c.in-Err-take_news.ensures refl
+    (c.is_leaf-is_leaf.ensures ∙ ap (λ (m : RowMap). is_leaf m c.in-Ok.due.0) own) c.judge-verdict-in-Err-take_news.ensures.verdict
+    c.judge-verdict-in-Err-take_news.ensures.counts)

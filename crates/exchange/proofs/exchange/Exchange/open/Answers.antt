@@ -14,5 +14,8 @@ pub returns-in_err-session : goal.returns-in_err-session
 returns-in_err-session c =
     let refused : c.from_residual-in_err-session.result ≡ Err c.in_err-session.field-0.0 = search rules in
     let other : bytes_eq c.args.offer.root (root_of (shown_rows Moment c.args.state.now)) ≡ false = search rules in
-    subst (λ (r : Result Exchange Refusal). OpensUnless (foreign_fault c.args.state.now.store.config c.args.offer) r c.args.state.now c.open_session_at_moment.new.self (opening c.args.state.now c.args.partner c.args.offer c.args.bounds)) (sym refused)
-    (opens_refused c.args.state.now c.open_session_at_moment.new.self c.args.partner c.args.offer c.args.bounds c.in_ok-check_offer.ensures.0 c.in_ok-own.ensures.0 other c.in_err-session.field-0.0 c.in_err-session.ensures)
+    subst (λ (r : Result Exchange Refusal). OpensUnless
+    (foreign_fault c.args.state.now.store.config c.args.offer) r c.args.state.now c.open_session_at_moment.new.self
+    (opening c.args.state.now c.args.partner c.args.offer c.args.bounds)) (sym refused)
+    (opens_refused c.args.state.now c.open_session_at_moment.new.self c.args.partner c.args.offer c.args.bounds c.in_ok-check_offer.ensures.0
+    c.in_ok-own.ensures.0 other c.in_err-session.field-0.0 c.in_err-session.ensures)

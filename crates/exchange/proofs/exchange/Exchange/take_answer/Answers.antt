@@ -7,7 +7,10 @@ use Rattle.exchange.proofs.exchange.Exchange.take_answer.Goals as goal
 
 pub returns : goal.returns
 returns c =
-    let own : c.deref.result.now ≡ c.in-Some.record.now.session.own = c.deref.ensures ∙ (c.own.ensures ∙ ap (λ (w : Walk). w.own) c.session.ensures) in
+    let own : c.deref.result.now ≡ c.in-Some.record.now.session.own = c.deref.ensures
+    ∙ (c.own.ensures ∙ ap (λ (w : Walk). w.own) c.session.ensures) in
     let due = c.in-Ok.ensures in
-    takes_due c.args.self.now c.conclude.new.self c.args.state.now c.take_text-said.new.state c.args.seat c.args.answer.now c.in-Some.record.now due.0 (c.in-Ok.due.0, c.in-Ok.due.1.now) c.sort.new.self c.is_leaf-is_leaf.result c.take_text-said.result c.conclude.result
-    (sym c.in-Some.ensures) due.1 due.2 c.take_text-said.ensures (c.is_leaf-is_leaf.ensures ∙ ap (λ (m : RowMap). is_leaf m c.in-Ok.due.0) own) c.conclude.ensures.verdict c.conclude.ensures.exchange
+    takes_due c.args.self.now c.conclude.new.self c.args.state.now c.take_text-said.new.state c.args.seat c.args.answer.now c.in-Some.record.now due.0
+    (c.in-Ok.due.0, c.in-Ok.due.1.now) c.sort.new.self c.is_leaf-is_leaf.result c.take_text-said.result c.conclude.result
+    (sym c.in-Some.ensures) due.1 due.2 c.take_text-said.ensures
+    (c.is_leaf-is_leaf.ensures ∙ ap (λ (m : RowMap). is_leaf m c.in-Ok.due.0) own) c.conclude.ensures.verdict c.conclude.ensures.exchange

@@ -8,7 +8,8 @@ use Rattle.exchange.proofs.standings.Standings.send.Goals as goal
 pub invariant_of-self : goal.invariant_of-self
 invariant_of-self c =
     let xs : List Standing = c.self.inside.list.items in let v : Standing = OnWay c.args.bytes in
-    let s : Sending xs c.args.node c.args.bytes = sending xs c.args.node c.args.bytes (subst (λ (l : List Standing). may_ask (standing_of l c.args.node) ≡ true) (sym c.self.view_is) c.requires.may) in (
+    let s : Sending xs c.args.node c.args.bytes = sending xs c.args.node c.args.bytes
+    (subst (λ (l : List Standing). may_ask (standing_of l c.args.node) ≡ true) (sym c.self.view_is) c.requires.may) in (
       omega (arith, c.self.invariant.0, s.way, ap (λ (i : ℕ). ways (set xs i v)) c.place.ensures.place),
       omega (arith, c.self.invariant.1, s.bytes_are, ap (λ (i : ℕ). ways_bytes (set xs i v)) c.place.ensures.place),
     )

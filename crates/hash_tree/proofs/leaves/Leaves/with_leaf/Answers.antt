@@ -14,5 +14,6 @@ returns c =
     let is : block ≡ get_or v.items (leaf / 64) block = rw same at c.index_mut.ensures.value in
     let new : c.set.new.self ≡ set block (leaf % 64) c.args.new = search rules in (
       refl,
-      ap (λ (x : Vec (List Bucket) Global). joined x.items) c.in_ok-new.ensures.ok ∙ (λ i. joined (set (same i) (leaf / 64) (new i))) ∙ set_at v.items c.args.self.now leaf block c.args.new c.self.view_is c.self.invariant c.requires is,
+      ap (λ (x : Vec (List Bucket) Global). joined x.items) c.in_ok-new.ensures.ok ∙ (λ i. joined (set (same i) (leaf / 64) (new i)))
+          ∙ set_at v.items c.args.self.now leaf block c.args.new c.self.view_is c.self.invariant c.requires is,
     )

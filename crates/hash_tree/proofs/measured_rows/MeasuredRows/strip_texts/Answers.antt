@@ -10,4 +10,5 @@ returns-then-count-len c =
     let s = c.self.inside in
     let is : StripsRows s.format s.rows.items c.args.text.now c.strip_rows-count.result.0 c.strip_rows-count.result.1.now = search rules in
     let less : c.strip_rows-count.result.0 < length s.rows.items = search rules in
-    rw (← ap (λ (b : Bucket). Lacks (chunk_text b) c.args.text.now) c.self.view_is) (strips_not_all s.format s.rows.items c.args.text.now c.strip_rows-count.result.0 c.strip_rows-count.result.1.now is less)
+    rw (← ap (λ (b : Bucket). Lacks (chunk_text b) c.args.text.now) c.self.view_is)
+    (strips_not_all s.format s.rows.items c.args.text.now c.strip_rows-count.result.0 c.strip_rows-count.result.1.now is less)

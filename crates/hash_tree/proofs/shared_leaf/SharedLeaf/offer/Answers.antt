@@ -15,7 +15,8 @@ invariant_of-self-in-Some c =
     let rows = rw (unshared _ _ c.in_ok-chunks-in-Some.ensures.value) at c.offer_to_key.ensures.rows in
     let ok : IsOk c.make_mut.result = search rules in
     rw c.make_mut.follows.holds (
-      does_keep (λ (rs : List Row). IsBucket (record { format = s.format; rows = rs })) c.offer_to_key.result _ _ _ tt was (IsBucket-with_offer s.format c.args.key.now c.args.version _ c.requires.key value was) rows,
+      does_keep (λ (rs : List Row). IsBucket (record { format = s.format; rows = rs })) c.offer_to_key.result _ _ _ tt was
+          (IsBucket-with_offer s.format c.args.key.now c.args.version _ c.requires.key value was) rows,
       c.offer_to_key.ensures.chunks,
     )
 

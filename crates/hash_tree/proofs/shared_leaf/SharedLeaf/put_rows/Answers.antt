@@ -12,7 +12,14 @@ overflow_sub-text_len c = omega (arith, some_text c.args.self.now, c.text_len.en
 pub returns-in_err-put_chunks : goal.returns-in_err-put_chunks
 returns-in_err-put_chunks c =
     let text = text_of_chunks c.args.self.now c.args.self.now.format c.chunks.result.now c.chunks.ensures.rows c.chunks.ensures.chunks in
-    absurd (omega (arith, c.in_err-put_chunks.ensures.room, c.in_ok-reserve.ensures.room, some_text c.args.self.now, c.text_len.ensures, ap (λ (t : List ℕ). length t) text))
+    absurd (omega (
+      arith,
+      c.in_err-put_chunks.ensures.room,
+      c.in_ok-reserve.ensures.room,
+      some_text c.args.self.now,
+      c.text_len.ensures,
+      ap (λ (t : List ℕ). length t) text,
+    ))
 
 pub returns : goal.returns
 returns c =

@@ -9,7 +9,8 @@ pub returns-then-not-awaits-clause-fact : goal.returns-then-not-awaits-clause-fa
 returns-then-not-awaits-clause-fact c = answered_fact false c.args.self.now c.args.id c.args.delivery c.if-not-awaits.ensures
 
 pub close-requires : goal.close-requires
-close-requires c = found_open c.args.self.now c.args.id c.args.delivery (found_at c.args.self.now c.args.id c.args.delivery c.pending-valid.ensures.valid.numbered (sym c.if-not-awaits.ensures))
+close-requires c = found_open c.args.self.now c.args.id c.args.delivery
+    (found_at c.args.self.now c.args.id c.args.delivery c.pending-valid.ensures.valid.numbered (sym c.if-not-awaits.ensures))
 
 pub returns-clause-fact : goal.returns-clause-fact
 returns-clause-fact c = answered_fact true c.args.self.now c.args.id c.args.delivery c.if-not-awaits.ensures

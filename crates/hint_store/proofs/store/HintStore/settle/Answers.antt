@@ -17,4 +17,5 @@ returns-in_err-owner c =
 pub returns : goal.returns
 returns c =
     let owner = open_owner c.args.self.now c.args.id c.in_ok-owner.owner (sym c.waiting_owner.ensures ∙ c.in_ok-owner.ensures.ok_part) in
-    settle_open c.args.self.now c.args.id c.in_ok-owner.owner c.args.known c.pending-valid.ensures.valid.numbered owner ∙ ap (gives tt) (sym c.close.ensures)
+    settle_open c.args.self.now c.args.id c.in_ok-owner.owner c.args.known c.pending-valid.ensures.valid.numbered owner
+    ∙ ap (gives tt) (sym c.close.ensures)

@@ -4,7 +4,8 @@ use Rattle.key_ring.proofs.Cuts.{range_is, range_below, range_fits, leaf_is, mas
 use Rattle.key_ring.proofs.hashed_key.HashedKey.place.Goals as goal
 
 -- what is left of the first bits is the range
-is_range : (c : goal.After-leaf_bits-leaf_bits) → c.first_bits-first.result / 2 ^ (24 - c.from-below_range.result) ≡ range_at c.args.bits c.args.self.now
+is_range : (c : goal.After-leaf_bits-leaf_bits)
+    → c.first_bits-first.result / 2 ^ (24 - c.from-below_range.result) ≡ range_at c.args.bits c.args.self.now
 is_range c =
     let is = range_is c.args.bits c.args.self.now c.requires in
     cc

@@ -24,5 +24,7 @@ returns c =
     let e : slice_get s.hints i ≡ Some hs = got s.hints i hs inside here in
     let is : round_of s hs ≡ r = search rules in
     let many_ranges : c.self.inside.ranges.len ≡ length c.deliver_all.new.ranges = search rules in
-    let ranges : take c.self.inside.ranges.len (c.deliver_all.new.ranges ++ drop (length c.deliver_all.new.ranges) c.self.inside.ranges.items) ≡ c.deliver_all.new.ranges = front _ _ _ many_ranges in
+    let ranges : take c.self.inside.ranges.len
+    (c.deliver_all.new.ranges ++ drop (length c.deliver_all.new.ranges) c.self.inside.ranges.items) ≡ c.deliver_all.new.ranges =
+    front _ _ _ many_ranges in
     rw (delivered_at s c.args.node i hs r p e is) (rw (c.pending.ensures.count, ← c.self.view_is, ranges) refl)

@@ -25,10 +25,18 @@ returns-in_err-done c =
     rw (p.1, p.2) (elim c.in_err-done.ensures.answers [
       | inl memory ↦ inl memory
       | inr cause ↦
-          let kept : c.sync.new.self ≡ reps = c.in_err-done.ensures.err (λ m. walk_is_no_memory (home from.node reps) (replica_at own.node reps) (cause ∙ ap Some m)) in
+          let kept : c.sync.new.self ≡ reps = c.in_err-done.ensures.err
+          (λ m. walk_is_no_memory (home from.node reps) (replica_at own.node reps) (cause ∙ ap Some m)) in
           let back : set items i c.sync.new.self ≡ items = ap (set items i) (kept ∙ here) ∙ set-get_or items i reps in
           inr (
-            ap (λ (xs : List (List Replica)). record { ring = c.self.inside.ring; format = c.self.inside.format; down = c.self.inside.down.items; hints = c.self.inside.carriers.items; replicas = xs }) back ∙ c.self.view_is,
-            sync_refused own.node from.node i s e (subst (λ (rs : List Replica). walk_fault (home from.node rs) (replica_at own.node rs) ≡ Some e) at cause),
+            ap (λ (xs : List (List Replica)). record {
+              ring = c.self.inside.ring;
+              format = c.self.inside.format;
+              down = c.self.inside.down.items;
+              hints = c.self.inside.carriers.items;
+              replicas = xs;
+            }) back ∙ c.self.view_is,
+            sync_refused own.node from.node i s e
+                (subst (λ (rs : List Replica). walk_fault (home from.node rs) (replica_at own.node rs) ≡ Some e) at cause),
           )
     ])

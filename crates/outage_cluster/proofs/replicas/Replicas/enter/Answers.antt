@@ -17,5 +17,7 @@ returns c =
     let here = subst (λ (rs : List Replica). IsHome n rs i) (sym c.self.view_is) c.requires in
     let is : own ≡ get_or reps i own = search rules in
     let node : own.node ≡ n = ap (λ (r : Replica). r.node) is ∙ here.node own in
-    let puts = subst (λ (m : ℕ). DoesOrNoMemory c.put.result own new (in_replica own (range.put own.range 0 m c.args.key.now c.args.context.now c.args.kind c.args.value))) node c.put.ensures.puts in
-    subst (λ (rs : List Replica). DoesOrNoMemory c.put.result rs (slice_set reps i new) (at_home n call rs)) c.self.view_is (homed n reps i own new call c.put.result here is puts)
+    let puts = subst (λ (m : ℕ). DoesOrNoMemory c.put.result own new
+    (in_replica own (range.put own.range 0 m c.args.key.now c.args.context.now c.args.kind c.args.value))) node c.put.ensures.puts in
+    subst (λ (rs : List Replica). DoesOrNoMemory c.put.result rs (slice_set reps i new) (at_home n call rs)) c.self.view_is
+    (homed n reps i own new call c.put.result here is puts)

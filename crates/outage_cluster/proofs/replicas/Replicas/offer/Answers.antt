@@ -14,5 +14,7 @@ returns c =
     let own = c.index_mut.result.now in
     let here = subst (λ (rs : List Replica). IsHome c.args.node rs i) c.deref.ensures.value c.in-Some.ensures.some in
     let is : own ≡ get_or reps i own = search rules in
-    subst (λ (rs : List Replica). DoesOrNoMemory c.accept.result rs (slice_set reps i c.accept.new.self) (at_home c.args.node (λ h. accept h 0 Sources.Hint c.args.key.now c.args.version) rs)) c.self.view_is
-    (homed c.args.node reps i own c.accept.new.self (λ h. accept h 0 Sources.Hint c.args.key.now c.args.version) c.accept.result here is c.accept.ensures.accepts)
+    subst (λ (rs : List Replica). DoesOrNoMemory c.accept.result rs (slice_set reps i c.accept.new.self)
+    (at_home c.args.node (λ h. accept h 0 Sources.Hint c.args.key.now c.args.version) rs)) c.self.view_is
+    (homed c.args.node reps i own c.accept.new.self
+    (λ h. accept h 0 Sources.Hint c.args.key.now c.args.version) c.accept.result here is c.accept.ensures.accepts)

@@ -36,13 +36,15 @@ pub invariant_of-self : goal.invariant_of-self
 invariant_of-self c =
     let config = c.self-2.inside.config in
     let mid = c.self-2.inside.replicas.items in
-    of_sent config c.send_to.new.replicas mid c.self-2.inside.replicas.len (c.in_err-copied.ensures.config config (subst (λ (rs : List Replica). AreOf config rs) (search rules) c.self-2.invariant)) c.self-2.invariant
+    of_sent config c.send_to.new.replicas mid c.self-2.inside.replicas.len
+    (c.in_err-copied.ensures.config config (subst (λ (rs : List Replica). AreOf config rs) (search rules) c.self-2.invariant)) c.self-2.invariant
 
 pub invariant_of-self-2 : goal.invariant_of-self-2
 invariant_of-self-2 c =
     let config = c.self-2.inside.config in
     let mid = c.self-2.inside.replicas.items in
-    of_sent config c.send_to.new.replicas mid c.self-2.inside.replicas.len (c.in_ok-copied.ensures.config config (subst (λ (rs : List Replica). AreOf config rs) (search rules) c.self-2.invariant)) c.self-2.invariant
+    of_sent config c.send_to.new.replicas mid c.self-2.inside.replicas.len
+    (c.in_ok-copied.ensures.config config (subst (λ (rs : List Replica). AreOf config rs) (search rules) c.self-2.invariant)) c.self-2.invariant
 
 pub returns-clause-puts : goal.returns-clause-puts
 returns-clause-puts c =
@@ -57,4 +59,5 @@ returns-clause-puts c =
     let count : c.in_ok-copied.copied ≡ length (filter (takes c.args.down.now put.node put.lose receipt) mid) = search rules in
     let all : c.send_to.new.replicas ≡ map (after_copy c.args.down.now put.node put.lose receipt) mid = search rules in
     let many : c.self-2.inside.replicas.len ≡ length c.send_to.new.replicas = search rules in
-    made ∙ ap (λ n. gives (receipt, n) (map (after_copy c.args.down.now put.node put.lose receipt) mid)) (sym count) ∙ ap (gives (receipt, c.in_ok-copied.copied)) (sym all ∙ sym (front _ _ _ many))
+    made ∙ ap (λ n. gives (receipt, n) (map (after_copy c.args.down.now put.node put.lose receipt) mid)) (sym count)
+    ∙ ap (gives (receipt, c.in_ok-copied.copied)) (sym all ∙ sym (front _ _ _ many))

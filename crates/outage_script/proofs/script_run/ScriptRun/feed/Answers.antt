@@ -13,7 +13,8 @@ returns-in-Some-take_line-clause-feeds g c =
     let p = script_place c.loop-at.self.number c.loop-at.self.world c.loop-at.self.line.items c.loop-at.self.too_long in
     fed_stop
     (script_place c.args.self.now.number c.args.self.now.world c.args.self.now.line.items c.args.self.now.too_long)
-    p (script_place c.take_line.new.self.number c.take_line.new.self.world c.take_line.new.self.line.items c.take_line.new.self.too_long) c.args.piece.now rest (take c.in-Some.at rest ++ 10 ∷ []) _ c.in-Some-take_line.end _ _ _
+    p (script_place c.take_line.new.self.number c.take_line.new.self.world c.take_line.new.self.line.items c.take_line.new.self.too_long)
+    c.args.piece.now rest (take c.in-Some.at rest ++ 10 ∷ []) _ c.in-Some-take_line.end _ _ _
     c.loop-at.invariant found.whole c.in-Some-take_line.ensures.feeds
 
 pub loop-at-preserved : goal.loop-at-preserved
@@ -25,7 +26,8 @@ loop-at-preserved g c =
     (script_place c.loop-at.self.number c.loop-at.self.world c.loop-at.self.line.items c.loop-at.self.too_long)
     (script_place c.take_line.new.self.number c.take_line.new.self.world c.take_line.new.self.line.items c.take_line.new.self.too_long)
     c.args.piece.now rest (take c.in-Some.at rest ++ 10 ∷ []) _ _ _ _
-    c.loop-at.invariant (rest_after rest c.in-Some.at _ found refl) (omega (arith, length-append (take c.in-Some.at rest) (10 ∷ []))) c.take_line.ensures.number c.in_default-take_line.ensures.feeds
+    c.loop-at.invariant (rest_after rest c.in-Some.at _ found refl)
+    (omega (arith, length-append (take c.in-Some.at rest) (10 ∷ []))) c.take_line.ensures.number c.in_default-take_line.ensures.feeds
 
 pub take_part-requires : goal.take_part-requires
 take_part-requires g c = none_found c.loop-at.rest.now c.in_default.ensures

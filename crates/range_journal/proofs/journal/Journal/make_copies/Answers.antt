@@ -16,5 +16,6 @@ invariant_of-self c =
     let log = copies_log (record { entries = es; limit = c.self.inside.limit; room = c.self.inside.room }) c.self.invariant.0 in (
       subst (λ (xs : List Entry). IsLog (record { entries = xs; limit = c.self.inside.limit; room = c.self.inside.room })) (sym made) log,
       omega (arith, c.self.invariant.1, ap length made, length-map es as_copy, c.make_copies.ensures.room),
-      c.self.invariant.2 ∙ ap (λ n. min n (2 ^ 64 - 1)) (sym (copies_len es)) ∙ ap (λ (xs : List Entry). min (entries_len xs) (2 ^ 64 - 1)) (sym made),
+      c.self.invariant.2 ∙ ap (λ n. min n (2 ^ 64 - 1)) (sym (copies_len es))
+          ∙ ap (λ (xs : List Entry). min (entries_len xs) (2 ^ 64 - 1)) (sym made),
     )

@@ -16,7 +16,14 @@ Broken r = (t : TakenText) × IsDue r.session t × (IsCanonical r.session.own t.
 
 -- the state before, by its fields
 abbrev state : After-self → State
-state c = record { store = c.self.inside.store; records = c.self.inside.records.items; moment = c.self.inside.moment; whole_before = c.self.inside.whole_before; next_session = c.self.inside.next_session; settled = c.self.inside.settled }
+state c = record {
+  store = c.self.inside.store;
+  records = c.self.inside.records.items;
+  moment = c.self.inside.moment;
+  whole_before = c.self.inside.whole_before;
+  next_session = c.self.inside.next_session;
+  settled = c.self.inside.settled;
+}
 
 asked : (c : After-self) → MatchOption (slice_get c.self.inside.records.items c.args.place) ⊥ Broken
 asked c = subst (λ (u : State). MatchOption (slice_get u.records c.args.place) ⊥ Broken) (sym c.self.view_is) c.requires
@@ -33,7 +40,8 @@ pub invariant_of-self : goal.invariant_of-self
 invariant_of-self c =
     let start = (goal.at.invariant_of-self c).After-self in
     let r : Record = c.index_mut.result.now in
-    subst (λ (w : Walk). IsRight (walked_to (state start) c.args.place r w)) (sym c.fail.ensures) (failed_right (state start) c.args.place r c.self.invariant (within start) c.index_mut.ensures.value)
+    subst (λ (w : Walk). IsRight (walked_to (state start) c.args.place r w)) (sym c.fail.ensures)
+    (failed_right (state start) c.args.place r c.self.invariant (within start) c.index_mut.ensures.value)
 
 pub returns : goal.returns
 returns c =
@@ -42,4 +50,5 @@ returns c =
     let new : State = walked_to (state start) c.args.place r c.fail.new.self in
     let here = got_record c.self.inside.records.items c.args.place r (within start) c.index_mut.ensures.value in
     subst (λ (u : State). MatchOption (slice_get u.records c.args.place) ⊥ (λ x. new ≡ walked_to u c.args.place x (failed x.session))) c.self.view_is
-    (subst (λ (o : Option Record). MatchOption o ⊥ (λ x. new ≡ walked_to (state start) c.args.place x (failed x.session))) (sym here) (ap (walked_to (state start) c.args.place r) c.fail.ensures))
+    (subst (λ (o : Option Record). MatchOption o ⊥ (λ x. new ≡ walked_to (state start) c.args.place x (failed x.session))) (sym here)
+    (ap (walked_to (state start) c.args.place r) c.fail.ensures))

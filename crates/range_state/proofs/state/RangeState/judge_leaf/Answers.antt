@@ -17,7 +17,8 @@ returns-in_err-row c =
     λ text seat read.
     let so_far = c.rows.invariant text read in
     let p = err_from_is_err_and c.from_residual.result c.from_residual.ensures.1 in
-    rw (p.1, p.2) (judge_fault c.args.self.now.store seat c.args.session.now.own c.args.node text c.in_err-row.field-0.0 (c.in_err-row.ensures text so_far.others so_far.read))
+    rw (p.1, p.2) (judge_fault c.args.self.now.store seat c.args.session.now.own c.args.node text c.in_err-row.field-0.0
+    (c.in_err-row.ensures text so_far.others so_far.read))
 
 pub returns-in_err-news-in-Some : goal.returns-in_err-news-in-Some
 returns-in_err-news-in-Some c =
@@ -52,4 +53,5 @@ returns-in-None c =
     let step = rw c.in-None.is at c.in_ok-row.ensures text so_far.others so_far.read in
     let whole = read_done step.0 step.1 in
     let same = news_stand c.args.self.now.store seat c.args.session.now.own.rows whole.0 so_far.others _ c.requires.own whole.2 in
-    judged c.args.self.now.store seat c.args.session.now.own c.args.node text whole.0 so_far.others _ c.judge.result whole.1 same (c.judge.ensures seat so_far.others (so_far.counted seat))
+    judged c.args.self.now.store seat c.args.session.now.own c.args.node text whole.0 so_far.others _ c.judge.result whole.1 same
+    (c.judge.ensures seat so_far.others (so_far.counted seat))

@@ -27,7 +27,8 @@ returns c =
       | in-Some+in_ok-judge_leaf w ↦
           let begun = rw w.in-Some.is at c.in_ok-first.ensures in
           let format = format_now s.store.config s.store.entries r t c.requires begun.0 in
-          text_shown s seat r t c.news_of.result c.news_of.ensures (leaf_takable s seat r t begun.0 begun.1 format (w.in_ok-judge_leaf.ensures t.text seat begun.2))
+          text_shown s seat r t c.news_of.result c.news_of.ensures
+          (leaf_takable s seat r t begun.0 begun.1 format (w.in_ok-judge_leaf.ensures t.text seat begun.2))
       | in_default w ↦
           let begun = rw w.in_default.is at c.in_ok-first.ensures in
           let format = format_now s.store.config s.store.entries r t c.requires begun.0 in

@@ -2,7 +2,8 @@ use Rattle.std.proofs.Common.{rules, ◌+◌, length, sym, ap, ◌∙◌, inr, a
 use Rattle.std.specs.Prelude.{Result, Ok, Err, OnErr}
 use Rattle.range_state.specs.State.{State}
 use Rattle.range_state.specs.Sessions.{unknown_at}
-use Rattle.range_state.proofs.SyncLaws.{IsNext, IsDone, open_ok, begun, known_session, next_is, done_is, is_shown, shallow, fewer_left, answered, stopped, finished, refused_at, all_asked, all_asked_at, stopped_before, stopped_after}
+use Rattle.range_state.proofs.SyncLaws.{IsNext, IsDone, open_ok, begun, known_session, next_is, done_is, is_shown, shallow, fewer_left, answered}
+use Rattle.range_state.proofs.SyncLaws.{stopped, finished, refused_at, all_asked, all_asked_at, stopped_before, stopped_after}
 use Rattle.range_state.proofs.state.RangeState.sync_with.Goals as goal
 use Rattle.range_state.proofs.state.RangeState.sync_with.Goals.{In-Some, In_default}
 
@@ -22,15 +23,20 @@ loop-node-init c =
     }
 
 pub returns-in_err-node : goal.returns-in_err-node
-returns-in_err-node c = absurd (let known = known_session c.loop-node.invariant.under c.loop-node.invariant.at in let clash = sym known ∙ c.in_err-node.ensures.first in cc)
+returns-in_err-node c = absurd (let known = known_session c.loop-node.invariant.under c.loop-node.invariant.at in let clash = sym known
+    ∙ c.in_err-node.ensures.first in cc)
 
 -- the next node
-next : (c : In-Some) → IsNext c.args.self.now c.loop-node.self c.args.seat c.len-place.result c.loop-node.known c.args.other.now c.loop-node.invariant.under c.in-Some.node
-next c = next_is c.loop-node.invariant.under c.loop-node.invariant.at c.outstanding_at.ensures.valid c.requires c.format-format.ensures.valid c.in_ok-node.ensures.first.1 c.in-Some.is
+next : (c : In-Some) → IsNext c.args.self.now c.loop-node.self c.args.seat c.len-place.result c.loop-node.known c.args.other.now
+    c.loop-node.invariant.under c.in-Some.node
+next c = next_is c.loop-node.invariant.under c.loop-node.invariant.at c.outstanding_at.ensures.valid c.requires c.format-format.ensures.valid
+    c.in_ok-node.ensures.first.1 c.in-Some.is
 
 -- there is none
-done : (c : In_default) → IsDone c.args.self.now c.loop-node.self c.args.seat c.len-place.result c.loop-node.known c.args.other.now c.loop-node.invariant.under
-done c = done_is c.loop-node.invariant.under c.loop-node.invariant.at c.outstanding_at.ensures.valid c.requires c.format-format.ensures.valid (rw c.in_default.is at c.in_ok-node.ensures.first.1)
+done : (c : In_default) → IsDone c.args.self.now c.loop-node.self c.args.seat c.len-place.result c.loop-node.known c.args.other.now
+    c.loop-node.invariant.under
+done c = done_is c.loop-node.invariant.under c.loop-node.invariant.at c.outstanding_at.ensures.valid c.requires c.format-format.ensures.valid
+    (rw c.in_default.is at c.in_ok-node.ensures.first.1)
 
 pub answer_from-requires : goal.answer_from-requires
 answer_from-requires c = shallow (next (goal.at.answer_from-requires c).In-Some)
@@ -64,7 +70,8 @@ returns-in-Err c =
     let stop = stopped at (search rules) c.in-Err.ensures in
     record {
       answers = (search rules, tt);
-      ok = refused_at at stop (is_shown c.loop-node.invariant.before c.synced.ensures.accepted c.synced.ensures.known c.synced.ensures.asked c.synced.ensures.fault);
+      ok = refused_at at stop (is_shown c.loop-node.invariant.before c.synced.ensures.accepted c.synced.ensures.known c.synced.ensures.asked
+          c.synced.ensures.fault);
       session = all_asked_at at stop c.loop-node.invariant.partner;
       err = tt;
       late = tt;
@@ -74,7 +81,8 @@ pub synced-requires-2-clause-there : goal.synced-requires-2-clause-there
 synced-requires-2-clause-there c = known_session c.loop-node.invariant.under c.loop-node.invariant.at
 
 pub returns-clause-ok : goal.returns-clause-ok
-returns-clause-ok c = finished (done (goal.at.returns-clause-ok c).In_default) (is_shown c.loop-node.invariant.before c.synced-2.ensures.accepted c.synced-2.ensures.known c.synced-2.ensures.asked c.synced-2.ensures.fault)
+returns-clause-ok c = finished (done (goal.at.returns-clause-ok c).In_default)
+    (is_shown c.loop-node.invariant.before c.synced-2.ensures.accepted c.synced-2.ensures.known c.synced-2.ensures.asked c.synced-2.ensures.fault)
 
 pub returns-clause-session : goal.returns-clause-session
 returns-clause-session c = all_asked (done (goal.at.returns-clause-session c).In_default) c.loop-node.invariant.partner
@@ -82,8 +90,10 @@ returns-clause-session c = all_asked (done (goal.at.returns-clause-session c).In
 pub returns-in_err-known-in-Ok-clause-late : goal.returns-in_err-known-in-Ok-clause-late
 returns-in_err-known-in-Ok-clause-late c =
     let at = next (goal.at.returns-in_err-known-in-Ok-clause-late c).In-Some in
-    on_err c.from_residual-in_err-known-in-Ok.result _ (inr (stopped_after at (answered {count = c.loop-node.known + c.in-Ok.taken.known} at refl c.in-Ok.ensures) c.loop-node.invariant.partner))
+    on_err c.from_residual-in_err-known-in-Ok.result _
+    (inr (stopped_after at (answered {count = c.loop-node.known + c.in-Ok.taken.known} at refl c.in-Ok.ensures) c.loop-node.invariant.partner))
 
 pub returns-in-Err-NoMemory-clause-late : goal.returns-in-Err-NoMemory-clause-late
 returns-in-Err-NoMemory-clause-late c =
-    inr (stopped_before (next (goal.at.returns-in-Err-NoMemory-clause-late c).In-Some) (rw c.in-Err-NoMemory.field-0-is at c.in-Err-NoMemory.ensures) c.loop-node.invariant.partner)
+    inr (stopped_before (next (goal.at.returns-in-Err-NoMemory-clause-late c).In-Some)
+    (rw c.in-Err-NoMemory.field-0-is at c.in-Err-NoMemory.ensures) c.loop-node.invariant.partner)

@@ -31,15 +31,23 @@ at_number c P is = subst (λ (o : Option Record). MatchOption o ⊥ P) (sym (her
 pub take_leaf-requires : goal.take_leaf-requires
 take_leaf-requires c =
     let at = (goal.at.take_leaf-requires c).In_ok-kept in
-    let deep = ap (λ (n : Node). n.depth) (sym c.node.view_is) ∙ c.if-node-tree_depth.true ∙ c.tree_depth.ensures ∙ ap (λ (f : Format). tree_depth f) c.format.ensures ∙ ap (λ (x : Config). tree_depth x.format) c.config.ensures ∙ ap (λ (u : State). tree_depth u.store.config.format) c.self.view_is in
-    at_number at (λ x. IsNewsRead c.args.self.now x (text at) c.in-Ok.news) (leaf_read c.args.self.now c.args.place (kept at) (text at) c.in-Ok.news c.in_ok-kept.ensures.valid (here at) (c.in-Ok.ensures 0).0.0 (c.in-Ok.ensures 0).0.1 deep)
+    let deep = ap (λ (n : Node). n.depth) (sym c.node.view_is) ∙ c.if-node-tree_depth.true ∙ c.tree_depth.ensures
+    ∙ ap (λ (f : Format). tree_depth f) c.format.ensures ∙ ap (λ (x : Config). tree_depth x.format) c.config.ensures
+    ∙ ap (λ (u : State). tree_depth u.store.config.format) c.self.view_is in
+    at_number at (λ x. IsNewsRead c.args.self.now x (text at) c.in-Ok.news)
+    (leaf_read c.args.self.now c.args.place (kept at) (text at) c.in-Ok.news c.in_ok-kept.ensures.valid (here at) (c.in-Ok.ensures 0).0.0
+    (c.in-Ok.ensures 0).0.1 deep)
 
 pub take_inner-requires : goal.take_inner-requires
 take_inner-requires c =
     let at = (goal.at.take_inner-requires c).In_ok-kept in
-    let depth = c.tree_depth.ensures ∙ ap (λ (f : Format). tree_depth f) c.format.ensures ∙ ap (λ (x : Config). tree_depth x.format) c.config.ensures ∙ ap (λ (u : State). tree_depth u.store.config.format) c.self.view_is in
-    let other : c.args.node.depth ≡ tree_depth c.args.self.now.store.config.format → ⊥ = λ e. c.if-node-tree_depth.false (ap (λ (n : Node). n.depth) c.node.view_is ∙ e ∙ sym depth) in
-    at_number at (λ x. IsInnerRead c.args.self.now x (text at)) (inner_read c.args.self.now c.args.place (kept at) (text at) c.in-Ok.news c.in_ok-kept.ensures.valid (here at) (c.in-Ok.ensures 0).0.0 (c.in-Ok.ensures 0).0.1 other)
+    let depth = c.tree_depth.ensures ∙ ap (λ (f : Format). tree_depth f) c.format.ensures ∙ ap (λ (x : Config). tree_depth x.format) c.config.ensures
+    ∙ ap (λ (u : State). tree_depth u.store.config.format) c.self.view_is in
+    let other : c.args.node.depth ≡ tree_depth c.args.self.now.store.config.format
+    → ⊥ = λ e. c.if-node-tree_depth.false (ap (λ (n : Node). n.depth) c.node.view_is ∙ e ∙ sym depth) in
+    at_number at (λ x. IsInnerRead c.args.self.now x (text at))
+    (inner_read c.args.self.now c.args.place (kept at) (text at) c.in-Ok.news c.in_ok-kept.ensures.valid (here at) (c.in-Ok.ensures 0).0.0
+    (c.in-Ok.ensures 0).0.1 other)
 
 pub fail_session-requires : goal.fail_session-requires
 fail_session-requires c =
@@ -52,7 +60,8 @@ returns-in-Err-NotCanonical-clause-answers c =
     let at = (goal.at.returns-in-Err-NotCanonical-clause-answers c).In_ok-kept in
     let new = c.fail_session.new.self in
     let cause = rw c.in-Err-NotCanonical.field-0-is at c.in-Err-NotCanonical.ensures 0 in
-    let is = subst (λ (o : Option Record). MatchOption o ⊥ (λ x. new ≡ walked_to c.args.self.now c.args.place x (failed x.session))) (here at) c.fail_session.ensures in
+    let is = subst (λ (o : Option Record). MatchOption o ⊥ (λ x. new ≡ walked_to c.args.self.now c.args.place x (failed x.session)))
+    (here at) c.fail_session.ensures in
     refused_for_good c.args.self.now new c.args.seat c.args.place (kept at) (text at) (here at) cause is
 
 pub returns-clause-answers : goal.returns-clause-answers

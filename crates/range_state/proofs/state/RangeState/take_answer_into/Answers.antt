@@ -11,7 +11,8 @@ returns c =
     let a : ℕ → AnswerCounted = λ n. record { receipts = n; known = taken.known; state = taken.state } in
     record {
       taken = taken;
-      takes = subst (λ (place : ℕ). TakesAt c.args.self.now c.args.seat place (record { node = c.args.node; text = c.args.text }) (Ok taken) c.take_answer_beside.new.self) c.place-place.ensures c.in_ok-added.ensures.answers;
+      takes = subst (λ (place : ℕ). TakesAt c.args.self.now c.args.seat place (record { node = c.args.node; text = c.args.text })
+          (Ok taken) c.take_answer_beside.new.self) c.place-place.ensures c.in_ok-added.ensures.answers;
       count = ap a count;
       appended = c.move_to.ensures ∙ ap (λ (xs : List Entry). xs ++ taken.receipts.items) c.in_ok-added.ensures.same;
     }

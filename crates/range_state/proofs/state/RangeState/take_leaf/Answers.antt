@@ -20,7 +20,8 @@ use Rattle.range_state.specs.declared.«record».Record.{Record}
 use Rattle.range_state.specs.declared.event.AnswerTaken.{AnswerTaken}
 use Rattle.range_state.specs.State.{State, IsRight}
 use Rattle.range_state.specs.Sessions.{IsNewsRead, TakesFor}
-use Rattle.range_state.proofs.AnswerLaws.{NewsRead, news_read, not_prepared, no_memory, not_accepted, AreTaken, are_taken, leaf_at, leaf_inside, leaf_taken}
+use Rattle.range_state.proofs.AnswerLaws.{NewsRead, news_read, not_prepared, no_memory, not_accepted, AreTaken, are_taken, leaf_at, leaf_inside}
+use Rattle.range_state.proofs.AnswerLaws.{leaf_taken}
 use Rattle.range_state.proofs.NewsLaws.{IsSame, news_stand, news_ready, news_homes}
 use Rattle.range_state.proofs.JudgementLaws.{whole}
 use Rattle.range_state.proofs.TakenLaws.{leaf_right}
@@ -29,21 +30,32 @@ use Rattle.range_state.proofs.state.RangeState.take_leaf.Goals.{After-self, In_o
 
 -- the state before, by its fields, and the text
 abbrev state : After-self → State
-state c = record { store = c.self.inside.store; records = c.self.inside.records.items; moment = c.self.inside.moment; whole_before = c.self.inside.whole_before; next_session = c.self.inside.next_session; settled = c.self.inside.settled }
+state c = record {
+  store = c.self.inside.store;
+  records = c.self.inside.records.items;
+  moment = c.self.inside.moment;
+  whole_before = c.self.inside.whole_before;
+  next_session = c.self.inside.next_session;
+  settled = c.self.inside.settled;
+}
 
 abbrev text : After-self → TakenText
 text c = entry c.args.node c.args.text
 
 -- what was read
 seen : (c : After-self) → NewsRead (state c) c.args.place (text c) c.args.news.now
-seen c = news_read c.args.place (text c) c.args.news.now refl c.self.invariant (subst (λ (u : State). MatchOption (slice_get u.records c.args.place) ⊥ (λ r. IsNewsRead u r (text c) c.args.news.now)) (sym c.self.view_is) c.requires)
+seen c = news_read c.args.place (text c) c.args.news.now refl c.self.invariant
+    (subst (λ (u : State). MatchOption (slice_get u.records c.args.place) ⊥ (λ r. IsNewsRead u r (text c) c.args.news.now))
+    (sym c.self.view_is) c.requires)
 
 -- the news stand for all rows
 same : (c : After-self) → IsSame c.self.inside.store c.args.seat (seen c).rows c.args.news.now.rows.items c.args.news.now.known
-same c = news_stand c.self.inside.store c.args.seat (seen c).own (seen c).rows c.args.news.now.rows.items c.args.news.now.known (seen c).held (seen c).parted
+same c = news_stand c.self.inside.store c.args.seat (seen c).own (seen c).rows c.args.news.now.rows.items c.args.news.now.known (seen c).held
+    (seen c).parted
 
 -- a refusal by the state before
-back : (c : After-self) (e : Refusal) → TakesFor (state c) c.args.seat c.args.place (slice_get (state c).records c.args.place) (text c) (Err e) (state c) → TakesFor c.args.self.now c.args.seat c.args.place (slice_get c.args.self.now.records c.args.place) (text c) (Err e) c.args.self.now
+back : (c : After-self) (e : Refusal) → TakesFor (state c) c.args.seat c.args.place (slice_get (state c).records c.args.place) (text c) (Err e)
+    (state c) → TakesFor c.args.self.now c.args.seat c.args.place (slice_get c.args.self.now.records c.args.place) (text c) (Err e) c.args.self.now
 back c e is = subst (λ (u : State). TakesFor u c.args.seat c.args.place (slice_get u.records c.args.place) (text c) (Err e) u) c.self.view_is is
 
 pub prepare-requires-clause-here : goal.prepare-requires-clause-here
@@ -53,13 +65,27 @@ prepare-requires-clause-here c =
     (subst (λ (n : Node). AllByRecursion (IsRowFor c.self.inside.store.config n.index) c.args.news.now.rows.items) (sym c.node.view_is) ready.0)
 
 pub prepare-requires-clause-few : goal.prepare-requires-clause-few
-prepare-requires-clause-few c = omega (arith, (news_ready (seen (goal.at.prepare-requires-clause-few c).After-self)).1, c.text-bytes.type_inv.0, ap length c.text-bytes.ensures, ap (λ (rows : List Row). length (offers_of rows)) c.deref.ensures.value)
+prepare-requires-clause-few c =
+    omega (
+      arith,
+      (news_ready (seen (goal.at.prepare-requires-clause-few c).After-self)).1,
+      c.text-bytes.type_inv.0,
+      ap length c.text-bytes.ensures,
+      ap (λ (rows : List Row). length (offers_of rows)) c.deref.ensures.value,
+    )
 
 pub returns-in_err-batch-clause-answers : goal.returns-in_err-batch-clause-answers
 returns-in_err-batch-clause-answers c =
     let start = (goal.at.returns-in_err-batch-clause-answers c).After-self in
     let p = err_from_is_err_and c.from_residual.result c.from_residual.ensures.1 in
-    rw (p.1, p.2) (back start c.in_err-batch.field-0.0 (not_prepared c.args.seat (seen start) (elim c.in_err-batch.ensures [ inl memory ↦ inl memory | inr crowd ↦ inr ((same start).crowded ∙ ap (λ (rows : List Row). crowded_in c.self.inside.store c.args.seat Partner (offers_of rows)) (sym c.deref.ensures.value) ∙ crowd) ])))
+    rw (p.1, p.2) (back start c.in_err-batch.field-0.0
+    (not_prepared c.args.seat (seen start)
+    (elim c.in_err-batch.ensures [
+      | inl memory ↦ inl memory
+      | inr crowd ↦ inr
+          ((same start).crowded ∙ ap (λ (rows : List Row). crowded_in c.self.inside.store c.args.seat Partner (offers_of rows))
+          (sym c.deref.ensures.value) ∙ crowd)
+    ])))
 
 pub returns-in_err-receipts-clause-answers : goal.returns-in_err-receipts-clause-answers
 returns-in_err-receipts-clause-answers c =
@@ -73,7 +99,17 @@ abbrev offers : After-self → Offers
 offers c = offers_of c.args.news.now.rows.items
 
 -- the batch of them can be accepted
-acceptable : (c : In_ok-batch) → NewsRead (record { store = c.self.inside.store; records = c.self.inside.records.items; moment = c.self.inside.moment; whole_before = c.self.inside.whole_before; next_session = c.self.inside.next_session; settled = c.self.inside.settled }) c.args.place (entry c.args.node c.args.text) c.args.news.now → IsAcceptable c.self.inside.store c.args.seat Partner c.node.inside.index (offers_of c.args.news.now.rows.items) c.in_ok-batch.batch
+acceptable : (c : In_ok-batch)
+    → NewsRead (record {
+      store = c.self.inside.store;
+      records = c.self.inside.records.items;
+      moment = c.self.inside.moment;
+      whole_before = c.self.inside.whole_before;
+      next_session = c.self.inside.next_session;
+      settled = c.self.inside.settled;
+    }) c.args.place
+    (entry c.args.node c.args.text) c.args.news.now
+    → IsAcceptable c.self.inside.store c.args.seat Partner c.node.inside.index (offers_of c.args.news.now.rows.items) c.in_ok-batch.batch
 acceptable c read =
     let s = c.self.inside.store in
     let b = c.in_ok-batch.batch in
@@ -81,9 +117,11 @@ acceptable c read =
     let within = (subst (IsNode 3) c.node.view_is c.node.invariant).within in
     record {
       inside = subst (λ (n : Node). n.index < leaf_count s.config) node (leaf_inside read within);
-      homes = subst (λ (n : Node). AllByRecursion (λ o. IsOfferFor s.config n.index o.0 o.1) (offers_of c.args.news.now.rows.items)) node (news_homes read);
+      homes = subst (λ (n : Node). AllByRecursion (λ o. IsOfferFor s.config n.index o.0 o.1) (offers_of c.args.news.now.rows.items)) node
+          (news_homes read);
       fits = ap (λ (rows : List Row). crowded_in s c.args.seat Partner (offers_of rows)) (sym c.deref.ensures.value) ∙ c.in_ok-batch.ensures.0;
-      batch = subst (λ (rows : List Row). IsBatchOf s c.args.seat Partner c.node.inside.index (offers_of rows) b) c.deref.ensures.value c.in_ok-batch.ensures.1;
+      batch = subst (λ (rows : List Row). IsBatchOf s c.args.seat Partner c.node.inside.index (offers_of rows) b) c.deref.ensures.value
+          c.in_ok-batch.ensures.1;
     }
 
 pub accept_batch-requires : goal.accept_batch-requires
@@ -95,7 +133,15 @@ pub invariant_of-self : goal.invariant_of-self
 invariant_of-self c =
     let at = goal.at.invariant_of-self c in
     let did = c.in_err-loaded.ensures c.args.seat Partner (offers_of c.args.news.now.rows.items) (acceptable at.In_ok-batch (seen at.After-self)) in
-    subst (λ (u : Store). IsRight (record { store = u; records = c.self.inside.records.items; moment = c.self.inside.moment; whole_before = c.self.inside.whole_before; next_session = c.self.inside.next_session; settled = c.self.inside.settled })) (sym did.0) c.self.invariant
+    subst (λ (u : Store). IsRight
+    (record {
+      store = u;
+      records = c.self.inside.records.items;
+      moment = c.self.inside.moment;
+      whole_before = c.self.inside.whole_before;
+      next_session = c.self.inside.next_session;
+      settled = c.self.inside.settled;
+    })) (sym did.0) c.self.invariant
 
 pub returns-in_err-loaded-clause-answers : goal.returns-in_err-loaded-clause-answers
 returns-in_err-loaded-clause-answers c =
@@ -107,8 +153,17 @@ returns-in_err-loaded-clause-answers c =
     let p = err_from_is_err_and c.from_residual-in_err-loaded.result c.from_residual-in_err-loaded.ensures.1 in
     let e = c.in_err-loaded.field-0.0 in
     let shown = not_accepted c.args.seat read (offers start) (same start).taken (same start).crowded can.fits did.1 in
-    rw (p.1, p.2) (subst (λ (u : Store). TakesFor c.args.self.now c.args.seat c.args.place (slice_get c.args.self.now.records c.args.place) (text start) (Err e) (record { store = u; records = c.self.inside.records.items; moment = c.self.inside.moment; whole_before = c.self.inside.whole_before; next_session = c.self.inside.next_session; settled = c.self.inside.settled })) (sym did.0)
-    (subst (λ (u : State). TakesFor u c.args.seat c.args.place (slice_get u.records c.args.place) (text start) (Err e) (state start)) c.self.view_is shown))
+    rw (p.1, p.2) (subst (λ (u : Store). TakesFor c.args.self.now c.args.seat c.args.place (slice_get c.args.self.now.records c.args.place)
+    (text start) (Err e) (record {
+      store = u;
+      records = c.self.inside.records.items;
+      moment = c.self.inside.moment;
+      whole_before = c.self.inside.whole_before;
+      next_session = c.self.inside.next_session;
+      settled = c.self.inside.settled;
+    })) (sym did.0)
+    (subst (λ (u : State). TakesFor u c.args.seat c.args.place (slice_get u.records c.args.place) (text start) (Err e) (state start)) c.self.view_is
+    shown))
 
 pub index_mut-requires : goal.index_mut-requires
 index_mut-requires c = omega (arith, (seen (goal.at.index_mut-requires c).After-self).within, c.self.inside.records.ok)
@@ -129,19 +184,23 @@ record IsDone (c : In_ok-loaded) (rows : List Row) : Type 0 where
   same : IsSame c.self.inside.store c.args.seat rows c.args.news.now.rows.items c.args.news.now.known
 
 done : (c : In_ok-loaded) (start : After-self) (rows : List Row)
-    → IsAcceptable c.self.inside.store c.args.seat Partner c.node.inside.index (offers_of c.args.news.now.rows.items) c.in_ok-batch.batch → IsSame c.self.inside.store c.args.seat rows c.args.news.now.rows.items c.args.news.now.known → IsDone c rows
+    → IsAcceptable c.self.inside.store c.args.seat Partner c.node.inside.index (offers_of c.args.news.now.rows.items) c.in_ok-batch.batch
+    → IsSame c.self.inside.store c.args.seat rows c.args.news.now.rows.items c.args.news.now.known → IsDone c rows
 done c start rows can same = record {
   can = can;
-  is = are_taken c.self.inside.store c.args.seat (offers_of c.args.news.now.rows.items) c.in_ok-loaded.loaded c.accept_batch.new.self (c.in_ok-loaded.ensures c.args.seat Partner (offers_of c.args.news.now.rows.items) can);
+  is = are_taken c.self.inside.store c.args.seat (offers_of c.args.news.now.rows.items) c.in_ok-loaded.loaded c.accept_batch.new.self
+      (c.in_ok-loaded.ensures c.args.seat Partner (offers_of c.args.news.now.rows.items) can);
   same = same;
 }
 
 -- as many versions were known, or are entries, as the rows have
-counted : (c : In_ok-loaded) (rows : List Row) → IsDone c rows → length c.in_ok-batch.batch.entries.items + (c.in_ok-loaded.loaded.known + c.args.news.now.known) ≡ length (offers_of rows)
+counted : (c : In_ok-loaded) (rows : List Row) → IsDone c rows
+    → length c.in_ok-batch.batch.entries.items + (c.in_ok-loaded.loaded.known + c.args.news.now.known) ≡ length (offers_of rows)
 counted c rows done =
     let s = c.self.inside.store in
     let entries : length s.entries + length c.in_ok-batch.batch.entries.items ≡ length c.accept_batch.new.self.entries =
-    sym (length-append s.entries c.in_ok-batch.batch.entries.items) ∙ ap length done.can.batch.entries ∙ ap (λ (u : Store). length u.entries) (sym done.is.is) in
+    sym (length-append s.entries c.in_ok-batch.batch.entries.items) ∙ ap length done.can.batch.entries
+    ∙ ap (λ (u : Store). length u.entries) (sym done.is.is) in
     omega (arith, entries, ap (λ (a : Loaded). a.known) done.is.counts, done.can.batch.count, done.same.count)
 
 pub overflow_add-result : goal.overflow_add-result
@@ -158,9 +217,20 @@ invariant_of-self-2 c =
     let read = seen start in
     let all = done at.In_ok-loaded start read.rows (acceptable at.In_ok-batch read) (same start) in
     let leaf = leaf_at read refl c.index_mut.ensures.value in
-    let right = leaf_right (state start) c.args.seat c.args.place c.index_mut.result.now (text start) read.rows read.right leaf.within leaf.was leaf.read (all.same.crowded ∙ all.can.fits) in
+    let right = leaf_right (state start) c.args.seat c.args.place c.index_mut.result.now
+    (text start) read.rows read.right leaf.within leaf.was leaf.read (all.same.crowded ∙ all.can.fits) in
     let store = all.is.is ∙ sym all.same.taken in
-    subst IsRight (λ i. record { store = sym store i; records = set c.self.inside.records.items c.args.place (record { number = c.index_mut.result.now.number; partner = c.index_mut.result.now.partner; session = sym c.take_leaf.ensures i }); moment = c.self.inside.moment; whole_before = c.self.inside.whole_before; next_session = c.self.inside.next_session; settled = c.self.inside.settled }) right
+    subst IsRight (λ i. record {
+      store = sym store i;
+      records = set c.self.inside.records.items c.args.place
+          (record { number = c.index_mut.result.now.number; partner = c.index_mut.result.now.partner; session = sym c.take_leaf.ensures i });
+      moment =
+          c.self.inside.moment;
+      whole_before = c.self.inside.whole_before;
+      next_session = c.self.inside.next_session;
+      settled = c.self.inside.settled;
+    })
+    right
 
 pub returns-clause-answers : goal.returns-clause-answers
 returns-clause-answers c =
@@ -170,11 +240,35 @@ returns-clause-answers c =
     let all = done at.In_ok-loaded start read.rows (acceptable at.In_ok-batch read) (same start) in
     let leaf = leaf_at read refl c.index_mut.ensures.value in
     let copies : c.in_ok-receipts.receipts.items ≡ c.in_ok-batch.batch.entries.items = c.in_ok-receipts.ensures.copies.1 ∙ c.entries.ensures in
-    let a : AnswerTaken = record { receipts = c.in_ok-receipts.receipts; known = c.in_ok-loaded.loaded.known + c.args.news.now.known; state = c.state.result } in
-    let receipts = ap (λ (es : List Entry). c.self.inside.store.entries ++ es) copies ∙ all.can.batch.entries ∙ ap (λ (u : Store). u.entries) (sym all.same.taken) in
+    let a : AnswerTaken = record {
+      receipts = c.in_ok-receipts.receipts;
+      known = c.in_ok-loaded.loaded.known + c.args.news.now.known;
+      state = c.state.result;
+    } in
+    let receipts = ap (λ (es : List Entry). c.self.inside.store.entries ++ es) copies ∙ all.can.batch.entries
+    ∙ ap (λ (u : Store). u.entries) (sym all.same.taken) in
     let fault = whole c.self.inside.store c.args.seat read.rows c.args.news.now.rows.items c.args.news.now.known all.same ∙ all.is.fault in
-    let known = ap (λ (es : List Entry). length es + (c.in_ok-loaded.loaded.known + c.args.news.now.known)) copies ∙ counted at.In_ok-loaded read.rows all in
-    let took = leaf_taken c.args.seat a leaf fault (all.is.is ∙ sym all.same.taken) receipts known (c.state.ensures ∙ ap (λ (w : Walk). w.state) c.take_leaf.ensures) in
-    let records : Walk → List Record = λ w. set c.self.inside.records.items c.args.place (record { number = c.index_mut.result.now.number; partner = c.index_mut.result.now.partner; session = w }) in
-    subst (λ (u : State). TakesFor u c.args.seat c.args.place (slice_get u.records c.args.place) (text start) (Ok a) (record { store = c.accept_batch.new.self; records = records c.take_leaf.new.self; moment = c.self.inside.moment; whole_before = c.self.inside.whole_before; next_session = c.self.inside.next_session; settled = c.self.inside.settled })) c.self.view_is
-    (subst (λ (w : Walk). TakesFor (state start) c.args.seat c.args.place (slice_get c.self.inside.records.items c.args.place) (text start) (Ok a) (record { store = c.accept_batch.new.self; records = records w; moment = c.self.inside.moment; whole_before = c.self.inside.whole_before; next_session = c.self.inside.next_session; settled = c.self.inside.settled })) (sym c.take_leaf.ensures) took)
+    let known = ap (λ (es : List Entry). length es + (c.in_ok-loaded.loaded.known + c.args.news.now.known)) copies
+    ∙ counted at.In_ok-loaded read.rows all in
+    let took = leaf_taken c.args.seat a leaf fault (all.is.is ∙ sym all.same.taken) receipts known
+    (c.state.ensures ∙ ap (λ (w : Walk). w.state) c.take_leaf.ensures) in
+    let records : Walk → List Record = λ w. set c.self.inside.records.items c.args.place
+    (record { number = c.index_mut.result.now.number; partner = c.index_mut.result.now.partner; session = w }) in
+    subst (λ (u : State). TakesFor u c.args.seat c.args.place (slice_get u.records c.args.place) (text start) (Ok a)
+    (record {
+      store = c.accept_batch.new.self;
+      records = records c.take_leaf.new.self;
+      moment = c.self.inside.moment;
+      whole_before = c.self.inside.whole_before;
+      next_session = c.self.inside.next_session;
+      settled = c.self.inside.settled;
+    })) c.self.view_is
+    (subst (λ (w : Walk). TakesFor (state start) c.args.seat c.args.place (slice_get c.self.inside.records.items c.args.place) (text start) (Ok a)
+    (record {
+      store = c.accept_batch.new.self;
+      records = records w;
+      moment = c.self.inside.moment;
+      whole_before = c.self.inside.whole_before;
+      next_session = c.self.inside.next_session;
+      settled = c.self.inside.settled;
+    })) (sym c.take_leaf.ensures) took)

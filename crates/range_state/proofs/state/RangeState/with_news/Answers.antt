@@ -7,13 +7,17 @@ use Rattle.range_state.proofs.JudgementLaws.{counted_more, counted_crowds, count
 use Rattle.range_state.proofs.state.RangeState.with_news.Goals as goal
 
 pub returns-in_default : goal.returns-in_default
-returns-in_default c = λ seat others counted apart. (refl, counted_stays c.args.self.now.store seat others c.args.row.now (rw c.in_default.is at counted) apart)
+returns-in_default c = λ seat others counted apart.
+    (refl, counted_stays c.args.self.now.store seat others c.args.row.now (rw c.in_default.is at counted) apart)
 
 pub returns-in_ok-sum-in-Ok : goal.returns-in_ok-sum-in-Ok
 returns-in_ok-sum-in-Ok c =
     λ seat others counted apart.
-    let one = c.in-Ok.ensures seat in
-    (refl, counted_more c.args.self.now.store seat others c.args.row.now c.in-Some.count c.in-Ok.more c.in_ok-sum-in-Ok.field-0 (rw c.in-Some.is at counted) apart one.0 one.1 c.in_ok-sum-in-Ok.ensures.1)
+    let one = c.in-Ok.ensures seat in (
+      refl,
+      counted_more c.args.self.now.store seat others c.args.row.now c.in-Some.count c.in-Ok.more c.in_ok-sum-in-Ok.field-0
+          (rw c.in-Some.is at counted) apart one.0 one.1 c.in_ok-sum-in-Ok.ensures.1,
+    )
 
 pub returns-in-Err-Crowded : goal.returns-in-Err-Crowded
 returns-in-Err-Crowded c =

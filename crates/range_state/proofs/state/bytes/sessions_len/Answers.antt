@@ -17,8 +17,10 @@ loop-at-preserved c =
     ∙ ap (λ (w : Walk). min (session_len t w (drop at records)) (2 ^ 64 - 1)) c.session.ensures in
     record {
       short = omega (arith, c.saturating_add-len.ensures);
-      all = next_session t records c.loop-at.at c.index-records-at.result c.loop-at.len _ _ c.loop-at-test.true c.index-records-at.is c.loop-at.invariant.all one c.saturating_add-len.ensures;
+      all = next_session t records c.loop-at.at c.index-records-at.result c.loop-at.len _ _ c.loop-at-test.true c.index-records-at.is
+          c.loop-at.invariant.all one c.saturating_add-len.ensures;
     }
 
 pub returns : goal.returns
-returns c = no_session c.args.tree.now c.args.records.now c.loop-at.at c.loop-at.len (omega (arith, c.loop-at-test.false)) c.loop-at.invariant.short c.loop-at.invariant.all
+returns c = no_session c.args.tree.now c.args.records.now c.loop-at.at c.loop-at.len
+    (omega (arith, c.loop-at-test.false)) c.loop-at.invariant.short c.loop-at.invariant.all

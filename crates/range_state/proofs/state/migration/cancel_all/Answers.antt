@@ -11,4 +11,5 @@ loop-record-preserved c =
     let i = c.loop-record.record-index in
     let r : Record = c.record-item.result in
     let within : i < length xs = omega (arith, c.loop-record-test.true) in
-    next_changed cancelled xs items i r _ within c.loop-record.invariant (λ j. record { number = (get_or items i r).number; partner = (get_or items i r).partner; session = c.cancel.ensures j })
+    next_changed cancelled xs items i r _ within c.loop-record.invariant
+    (λ j. record { number = (get_or items i r).number; partner = (get_or items i r).partner; session = c.cancel.ensures j })

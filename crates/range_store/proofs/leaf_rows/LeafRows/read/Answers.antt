@@ -18,7 +18,8 @@ invariant_of-result c =
     let config = c.args.config in
     let rows = c.in_ok-rows.rows in
     leaf_rows config c.format.result c.in_ok-leaf.leaf rows c.format.ensures c.in_ok-rows.ensures.found.0 c.in_ok-leaf.ensures.inside
-    (c.in_ok-leaf.ensures.leaf.1 ∙ ap (first_leaf config) c.as_slice.ensures) (ap (apart_fault config) (sym c.as_slice.ensures) ∙ c.in_ok-leaf.ensures.leaf.0)
+    (c.in_ok-leaf.ensures.leaf.1 ∙ ap (first_leaf config) c.as_slice.ensures)
+    (ap (apart_fault config) (sym c.as_slice.ensures) ∙ c.in_ok-leaf.ensures.leaf.0)
 
 pub returns : goal.returns
 returns c =

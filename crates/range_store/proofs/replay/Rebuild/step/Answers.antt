@@ -8,13 +8,16 @@ use Rattle.range_store.proofs.replay.Rebuild.step.Goals as goal
 use Rattle.range_store.proofs.replay.Rebuild.step.Goals.{After-leaf_of-leaf}
 
 -- the key and the version that are offered
-next : (c : After-leaf_of-leaf) → IsNext c.self.inside.tree c.leaf_of-leaf.result (get_or c.self.inside.entries.now c.self.inside.front c.index-self-self.result).key c.in_ok-version.version
+next : (c : After-leaf_of-leaf)
+    → IsNext c.self.inside.tree c.leaf_of-leaf.result
+    (get_or c.self.inside.entries.now c.self.inside.front c.index-self-self.result).key c.in_ok-version.version
 next c =
     let r : Replayed = record { config = c.self.inside.config; entries = c.self.inside.entries.now; front = c.self.inside.front } in
     let e : Entry = c.index-self-self.result in
     let is = c.index-self-self.is in
     let at = c.leaf_of-leaf.ensures ∙ ap (leaf_in c.args.self.now.config) c.as_slice.ensures in
-    next_is c.args.self.now r e c.self.inside.tree c.leaf_of-leaf.result _ c.in_ok-version.version c.self.view_is c.self.invariant.0 c.self.invariant.1 c.requires is at
+    next_is c.args.self.now r e c.self.inside.tree c.leaf_of-leaf.result _ c.in_ok-version.version c.self.view_is c.self.invariant.0
+    c.self.invariant.1 c.requires is at
     (ap (λ (x : Entry). x.key) (sym is)) (c.in_ok-version.ensures.1 ∙ ap (λ (x : Entry). x.version) (sym is))
 
 pub offer-requires-clause-leaf : goal.offer-requires-clause-leaf
@@ -46,5 +49,6 @@ invariant_of-self-2 c =
         within = omega (arith, below);
       },
       next_tree r e c.self.inside.tree _ _ c.in_ok-version.version c.self.invariant.1 below is
-          (ap (λ (x : Entry). x.key) (sym is)) (c.in_ok-version.ensures.1 ∙ ap (λ (x : Entry). x.version) (sym is)) (given _ _ _ _ c.in_ok-offer.ensures).1,
+          (ap (λ (x : Entry). x.key) (sym is)) (c.in_ok-version.ensures.1 ∙ ap (λ (x : Entry). x.version) (sym is))
+          (given _ _ _ _ c.in_ok-offer.ensures).1,
     )

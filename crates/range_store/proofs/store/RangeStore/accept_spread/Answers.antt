@@ -30,8 +30,15 @@ returns-in_err-reserve c =
     let entries = c.args.spread.entries in
     let p = err_from_is_err_and c.from_residual.result c.from_residual.ensures.1 in
     let reserves = c.in_err-reserve.ensures.reserves in
-    let back = ap (λ (l : Log). record { config = c.self.inside.config; entries = l.entries; marks = c.self.inside.tree.marks }) reserves.0 ∙ c.self.view_is in
-    rw (p.1, p.2) (back, load_refused now seat Copy (offers_of rows) entries.items c.args.spread.known c.in_err-reserve.field-0.0 c.self.inside.journal _ (spread_entries now seat rows c.args.spread is) (journal (goal.at.returns-in_err-reserve c).After-self) (omega (arith, c.len-taken.ensures, entries.ok)) reserves.1)
+    let back = ap (λ (l : Log). record { config = c.self.inside.config; entries = l.entries; marks = c.self.inside.tree.marks }) reserves.0
+    ∙ c.self.view_is in
+    rw (p.1, p.2) (
+      back,
+      load_refused now seat Copy
+          (offers_of rows) entries.items c.args.spread.known c.in_err-reserve.field-0.0 c.self.inside.journal _
+          (spread_entries now seat rows c.args.spread is) (journal (goal.at.returns-in_err-reserve c).After-self)
+          (omega (arith, c.len-taken.ensures, entries.ok)) reserves.1,
+    )
 
 -- the tree with the versions is of the range
 spread_config : (c : After-self) → c.args.spread.tree.map ≡ record (rows_now (before c)) { rows = c.args.spread.tree.map.rows }
@@ -46,11 +53,17 @@ pub rows_from_tree-requires-clause-bits : goal.rows_from_tree-requires-clause-bi
 rows_from_tree-requires-clause-bits c = ap (λ (m : RowMap). m.bits) (spread_config (goal.at.rows_from_tree-requires-clause-bits c).After-self)
 
 -- the store afterwards
-whole : (c : After-append_entries) → record { config = c.self.inside.config; entries = c.append_entries.new.self.entries; marks = c.args.spread.tree.marks } ≡ spread_state c.args.self.now c.args.spread
+whole : (c : After-append_entries)
+    → record {
+      config = c.self.inside.config;
+      entries = c.append_entries.new.self.entries;
+      marks = c.args.spread.tree.marks;
+    } ≡ spread_state c.args.self.now c.args.spread
 whole c =
     let log = (reserve_ok c.self.inside.journal _ _ c.in_ok-reserve.ensures.reserves).is in
     let entries = ap (λ (l : Log). l.entries) c.append_entries.ensures ∙ (λ i. (log i).entries ++ c.args.spread.entries.items) in
-    (λ i. record { config = c.self.inside.config; entries = entries i; marks = c.args.spread.tree.marks }) ∙ ap (λ (u : Store). spread_state u c.args.spread) c.self.view_is
+    (λ i. record { config = c.self.inside.config; entries = entries i; marks = c.args.spread.tree.marks })
+    ∙ ap (λ (u : Store). spread_state u c.args.spread) c.self.view_is
 
 pub invariant_of-self-2 : goal.invariant_of-self-2
 invariant_of-self-2 c =
@@ -66,8 +79,10 @@ invariant_of-self-2 c =
     let made = c.in_ok-rows.ensures.1 ∙ ap (map (row_from c.self.inside.config.bits c.args.spread.tree.map.rows)) c.deref.ensures.value in (
       subst IsSound (sym end) (spread_right now seat rows c.args.spread ok is),
       spread_rows now seat rows c.args.spread is ∙ ap rows_now (sym end),
-      ap (λ (l : Log). l.limit) c.append_entries.ensures ∙ ap (λ (l : Log). l.limit) (reserve_ok c.self.inside.journal _ _ c.in_ok-reserve.ensures.reserves).is ∙ c.self.invariant.2,
-      table_spread (before at.After-self) now seat rows c.args.spread c.self.inside.table.rows c.in_ok-rows.rows.items c.reserve-2.new.self c.put_all.new.self c.append_entries.new.self.entries
+      ap (λ (l : Log). l.limit) c.append_entries.ensures
+          ∙ ap (λ (l : Log). l.limit) (reserve_ok c.self.inside.journal _ _ c.in_ok-reserve.ensures.reserves).is ∙ c.self.invariant.2,
+      table_spread (before at.After-self) now seat rows c.args.spread c.self.inside.table.rows c.in_ok-rows.rows.items c.reserve-2.new.self
+          c.put_all.new.self c.append_entries.new.self.entries
           c.self.view_is c.self.invariant.3 is (ap (λ (t : Table). t.rows) reserved) made c.put_all.ensures (ap (λ (u : Store). u.entries) end),
     )
 
@@ -77,7 +92,9 @@ returns c =
     let now = c.args.self.now in
     let at = goal.at.returns c in
     let entries = c.args.spread.entries in
-    let room = room_in now c.self.inside.journal _ _ (journal at.After-self) (reserve_ok c.self.inside.journal _ _ c.in_ok-reserve.ensures.reserves) in
+    let room = room_in now c.self.inside.journal _ _ (journal at.After-self)
+    (reserve_ok c.self.inside.journal _ _ c.in_ok-reserve.ensures.reserves) in
     let len : length entries.items ≡ c.len-taken.result = omega (arith, c.len-taken.ensures, entries.ok) in
     let end = sym (whole at.After-append_entries ∙ spread_is now seat rows c.args.spread is) in
-    load_given now seat Copy (offers_of rows) entries.items c.args.spread.known (spread_entries now seat rows c.args.spread is) (omega (arith, room, len)) ∙ (λ i. gives (record { taken = len i; known = c.args.spread.known }) (end i))
+    load_given now seat Copy (offers_of rows) entries.items c.args.spread.known (spread_entries now seat rows c.args.spread is)
+    (omega (arith, room, len)) ∙ (λ i. gives (record { taken = len i; known = c.args.spread.known }) (end i))

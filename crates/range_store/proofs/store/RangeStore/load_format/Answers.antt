@@ -25,7 +25,8 @@ returns-in_err-spread c =
     let e = c.in_err-spread.field-0.0 in
     let own : c.format.result ≡ s.config.format = c.format.ensures ∙ ap (λ (u : Store). u.config.format) c.self.view_is in
     let older = subst (λ (f : Format). newer_fault f c.args.format ≡ None) own c.in_ok-check_format.ensures.0 in
-    let found : rows_in c.args.format c.args.text.now ≡ Ok rows = rows_read c.args.format c.args.text.now c.in_ok-rows.rows c.in_ok-rows.ensures.found.0 c.in_ok-rows.ensures.found.1 ∙ ap (λ rs. Ok rs) (sym c.as_slice.ensures) in
+    let found : rows_in c.args.format c.args.text.now ≡ Ok rows = rows_read c.args.format c.args.text.now c.in_ok-rows.rows
+    c.in_ok-rows.ensures.found.0 c.in_ok-rows.ensures.found.1 ∙ ap (λ rs. Ok rs) (sym c.as_slice.ensures) in
     let p = err_from_is_err_and c.from_residual-in_err-spread.result c.from_residual-in_err-spread.ensures.1 in
     rw (p.1, p.2) (
       refl,
@@ -41,5 +42,8 @@ returns c =
     let rows = c.as_slice.result.now in
     let own : c.format.result ≡ s.config.format = c.format.ensures ∙ ap (λ (u : Store). u.config.format) c.self.view_is in
     let older = subst (λ (f : Format). newer_fault f c.args.format ≡ None) own c.in_ok-check_format.ensures.0 in
-    let found : rows_in c.args.format c.args.text.now ≡ Ok rows = rows_read c.args.format c.args.text.now c.in_ok-rows.rows c.in_ok-rows.ensures.found.0 c.in_ok-rows.ensures.found.1 ∙ ap (λ rs. Ok rs) (sym c.as_slice.ensures) in
-    or_memory c.accept_spread.result s c.accept_spread.new.self _ _ (format_rows s c.args.seat c.args.format c.args.text.now rows older found ∙ spread_load s c.args.seat rows c.in_ok-spread.spread c.in_ok-spread.ensures.1) (c.accept_spread.ensures c.args.seat rows c.in_ok-spread.ensures.1)
+    let found : rows_in c.args.format c.args.text.now ≡ Ok rows = rows_read c.args.format c.args.text.now c.in_ok-rows.rows
+    c.in_ok-rows.ensures.found.0 c.in_ok-rows.ensures.found.1 ∙ ap (λ rs. Ok rs) (sym c.as_slice.ensures) in
+    or_memory c.accept_spread.result s c.accept_spread.new.self _ _ (format_rows s c.args.seat c.args.format c.args.text.now rows older found
+    ∙ spread_load s c.args.seat rows c.in_ok-spread.spread c.in_ok-spread.ensures.1)
+    (c.accept_spread.ensures c.args.seat rows c.in_ok-spread.ensures.1)

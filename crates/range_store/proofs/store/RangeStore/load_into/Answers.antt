@@ -17,16 +17,19 @@ returns-in_err-batch-clause-loads c =
       refl,
       elim c.in_err-batch.ensures [
         | inl memory ↦ inl memory
-        | inr crowd ↦ inr (load_crowded now c.args.seat rows.config rows.leaf rows.rows c.in_err-batch.field-0.0 c.requires c.leaf-leaf.ensures.valid crowd)
+        | inr crowd ↦ inr (load_crowded now c.args.seat rows.config rows.leaf rows.rows c.in_err-batch.field-0.0 c.requires c.leaf-leaf.ensures.valid
+            crowd)
       ],
     )
 
 -- the batch can be accepted
 acceptable : (c : In_ok-batch) → IsAcceptable c.args.self.now c.args.seat Copy c.leaf-leaf.result (offers_of c.args.rows.now.rows) c.in_ok-batch.batch
-acceptable c = subst (λ (leaf : ℕ). IsAcceptable c.args.self.now c.args.seat Copy leaf (offers_of c.args.rows.now.rows) c.in_ok-batch.batch) (sym c.leaf-leaf.ensures.value) c.in_ok-batch.ensures.1
+acceptable c = subst (λ (leaf : ℕ). IsAcceptable c.args.self.now c.args.seat Copy leaf (offers_of c.args.rows.now.rows) c.in_ok-batch.batch)
+    (sym c.leaf-leaf.ensures.value) c.in_ok-batch.ensures.1
 
 -- a load of the rows accepts their versions
-loads : (c : In_ok-batch) → load c.args.self.now c.args.seat c.args.rows.now.rows ≡ accept_offers c.args.self.now c.args.seat Copy (offers_of c.args.rows.now.rows)
+loads : (c : In_ok-batch) → load c.args.self.now c.args.seat c.args.rows.now.rows ≡ accept_offers c.args.self.now c.args.seat Copy
+    (offers_of c.args.rows.now.rows)
 loads c = load_is c.args.self.now c.args.seat c.args.rows.now.config c.args.rows.now.leaf c.args.rows.now.rows c.requires c.leaf-leaf.ensures.valid
 
 pub returns-in_err-loaded-clause-loads : goal.returns-in_err-loaded-clause-loads
@@ -45,5 +48,6 @@ pub returns-clause-appended : goal.returns-clause-appended
 returns-clause-appended c =
     let can = acceptable (goal.at.returns-clause-appended c).In_ok-batch in
     let offers = offers_of c.args.rows.now.rows in
-    let tells = load_tells c.args.self.now c.accept_batch.new.self c.args.seat Copy c.leaf-leaf.result offers c.in_ok-batch.batch c.in_ok-loaded.loaded can (c.in_ok-loaded.ensures c.args.seat Copy offers can) in
+    let tells = load_tells c.args.self.now c.accept_batch.new.self c.args.seat Copy c.leaf-leaf.result offers c.in_ok-batch.batch
+    c.in_ok-loaded.loaded can (c.in_ok-loaded.ensures c.args.seat Copy offers can) in
     c.move_to.ensures ∙ (λ i. c.in_ok-added.ensures.same i ++ (c.in_ok-added.ensures.copies.1 ∙ c.entries.ensures ∙ sym tells) i)

@@ -11,8 +11,16 @@ pub invariant_of-self : goal.invariant_of-self
 invariant_of-self c =
     let s : Store = record { config = c.self.inside.config; entries = c.self.inside.journal.entries; marks = c.self.inside.tree.marks } in
     let made = ap (λ (log : Log). log.entries) c.make_copies.ensures in
-    let held : (es : List Entry) → es ≡ as_copies s.entries → IsSound (record { config = s.config; entries = es; marks = s.marks }) × (c.self.inside.tree.map ≡ rows_now (record { config = s.config; entries = es; marks = s.marks })) × IsTableOf s.config.bits s.config.range es c.self.inside.table.rows =
-    λ es is. subst (λ (xs : List Entry). IsSound (record { config = s.config; entries = xs; marks = s.marks }) × (c.self.inside.tree.map ≡ rows_now (record { config = s.config; entries = xs; marks = s.marks })) × IsTableOf s.config.bits s.config.range xs c.self.inside.table.rows) (sym is)
-    (copies_sound s c.self.invariant.0, c.self.invariant.1 ∙ copies_rows_now s, copies_table s.config.bits s.config.range s.entries c.self.inside.table.rows c.self.invariant.3) in
+    let held : (es : List Entry) → es ≡ as_copies s.entries → IsSound (record { config = s.config; entries = es; marks = s.marks })
+    × (c.self.inside.tree.map ≡ rows_now (record { config = s.config; entries = es; marks = s.marks }))
+    × IsTableOf s.config.bits s.config.range es c.self.inside.table.rows =
+    λ es is. subst (λ (xs : List Entry). IsSound (record { config = s.config; entries = xs; marks = s.marks })
+    × (c.self.inside.tree.map ≡ rows_now (record { config = s.config; entries = xs; marks = s.marks }))
+    × IsTableOf s.config.bits s.config.range xs c.self.inside.table.rows) (sym is) (
+      copies_sound s c.self.invariant.0,
+      c.self.invariant.1
+          ∙ copies_rows_now s,
+      copies_table s.config.bits s.config.range s.entries c.self.inside.table.rows c.self.invariant.3,
+    ) in
     let now = held c.make_copies.new.self.entries made in
     (now.0, now.1, ap (λ (log : Log). log.limit) c.make_copies.ensures ∙ c.self.invariant.2, now.2)

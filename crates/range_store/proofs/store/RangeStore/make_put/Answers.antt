@@ -12,8 +12,11 @@ returns-clause-made c =
     let s = c.args.self.now in
     let key = c.args.key.now in
     let v : Version = record { clock = c.in_ok-clock.clock; kind = c.args.kind; value = c.args.value } in
-    let here : place_fault s.config key c.args.kind c.args.value ≡ None = ap (place_fault s.config key c.args.kind) (sym c.as_slice.ensures) ∙ c.in_ok-leaf.ensures.0 in
+    let here : place_fault s.config key c.args.kind c.args.value ≡ None = ap (place_fault s.config key c.args.kind) (sym c.as_slice.ensures)
+    ∙ c.in_ok-leaf.ensures.0 in
     let is : v ≡ put_version c.args.at c.args.context.now c.args.kind c.args.value = search rules in
-    let passes = subst (λ (S : List Version). context_fault c.args.test S c.args.at c.args.context.now ≡ None) c.look_up-known.ensures.held c.in_ok-check_context.ensures.0 in
+    let passes = subst (λ (S : List Version). context_fault c.args.test S c.args.at c.args.context.now ≡ None) c.look_up-known.ensures.held
+    c.in_ok-check_context.ensures.0 in
     let fits : offer_fault v (held s.entries key) ≡ None = rw (c.look_up-known.ensures.held, c.if-crowds.false) at c.crowds.ensures in
-    fitting_put c.args.test s c.in_ok-leaf.leaf c.args.at key c.args.context.now c.args.kind c.args.value v c.in_ok-leaf.ensures.1 here c.in_ok-clock.ensures.answers.0 is c.pairs-valid.ensures.valid passes fits
+    fitting_put c.args.test s c.in_ok-leaf.leaf c.args.at key c.args.context.now c.args.kind c.args.value v c.in_ok-leaf.ensures.1 here
+    c.in_ok-clock.ensures.answers.0 is c.pairs-valid.ensures.valid passes fits

@@ -18,5 +18,7 @@ returns c =
     let s = c.args.self.now in
     let rows = c.args.rows.now in
     acceptable s c.args.seat rows.config rows.leaf rows.rows c.prepare.result c.requires c.leaf.ensures.valid
-    (subst (λ (n : ℕ). AnswersOrNoMemory c.prepare.result (crowded_in s c.args.seat Copy (offers_of rows.rows)) (IsBatchOf s c.args.seat Copy n (offers_of rows.rows))) c.leaf.ensures.value
-    (subst (λ (rs : List Row). AnswersOrNoMemory c.prepare.result (crowded_in s c.args.seat Copy (offers_of rs)) (IsBatchOf s c.args.seat Copy c.leaf.result (offers_of rs))) c.as_slice.ensures c.prepare.ensures))
+    (subst (λ (n : ℕ). AnswersOrNoMemory c.prepare.result (crowded_in s c.args.seat Copy (offers_of rows.rows))
+    (IsBatchOf s c.args.seat Copy n (offers_of rows.rows))) c.leaf.ensures.value
+    (subst (λ (rs : List Row). AnswersOrNoMemory c.prepare.result (crowded_in s c.args.seat Copy (offers_of rs))
+    (IsBatchOf s c.args.seat Copy c.leaf.result (offers_of rs))) c.as_slice.ensures c.prepare.ensures))

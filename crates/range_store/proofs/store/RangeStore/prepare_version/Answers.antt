@@ -15,31 +15,42 @@ use Rattle.range_store.proofs.store.RangeStore.prepare_version.Goals.{In_ok-push
 pub returns-then-covers-clause-answers : goal.returns-then-covers-clause-answers
 returns-then-covers-clause-answers c =
     let a = c.args.batch.now in
-    let known : covered c.args.version.now (versions_in c.args.key.now a.leaf.rows) ≡ true = cc (c.covers.ensures, c.if-covers.true, c.new-held.ensures, c.find.ensures.found, c.as_slice.ensures) in
-    let b : Batch = record { leaf = a.leaf; entries = a.entries; known = a.known + 1 } in
-    ((known_next c.args.self.now c.args.seat c.args.source c.args.leaf c.args.key.now c.args.version.now a b c.requires.batch c.requires.leaf known (λ i. b)).0, tt)
+    let known : covered c.args.version.now (versions_in c.args.key.now a.leaf.rows) ≡ true = cc
+    (c.covers.ensures, c.if-covers.true, c.new-held.ensures, c.find.ensures.found, c.as_slice.ensures) in
+    let b : Batch = record { leaf = a.leaf; entries = a.entries; known = a.known + 1 } in (
+      (known_next c.args.self.now c.args.seat c.args.source c.args.leaf c.args.key.now c.args.version.now a b c.requires.batch c.requires.leaf known
+          (λ i. b)).0,
+      tt,
+    )
 
 pub returns-then-covers-clause-ok : goal.returns-then-covers-clause-ok
 returns-then-covers-clause-ok c =
     let a = c.args.batch.now in
-    let known : covered c.args.version.now (versions_in c.args.key.now a.leaf.rows) ≡ true = cc (c.covers.ensures, c.if-covers.true, c.new-held.ensures, c.find.ensures.found, c.as_slice.ensures) in
+    let known : covered c.args.version.now (versions_in c.args.key.now a.leaf.rows) ≡ true = cc
+    (c.covers.ensures, c.if-covers.true, c.new-held.ensures, c.find.ensures.found, c.as_slice.ensures) in
     let b : Batch = record { leaf = a.leaf; entries = a.entries; known = a.known + 1 } in
-    (known_next c.args.self.now c.args.seat c.args.source c.args.leaf c.args.key.now c.args.version.now a b c.requires.batch c.requires.leaf known (λ i. b)).1
+    (known_next c.args.self.now c.args.seat c.args.source c.args.leaf c.args.key.now c.args.version.now a b c.requires.batch c.requires.leaf known
+    (λ i. b)).1
 
 pub returns-then-crowds-clause-answers : goal.returns-then-crowds-clause-answers
 returns-then-crowds-clause-answers c =
     let a = c.args.batch.now in
-    let full : offer_fault c.args.version.now (versions_in c.args.key.now a.leaf.rows) ≡ Some Crowded = rw (c.new-held.ensures, c.find.ensures.found, c.as_slice.ensures, c.if-crowds.true) at c.crowds.ensures in
-    inr (crowded_next c.args.self.now c.args.seat c.args.source c.args.leaf c.args.key.now c.args.version.now a Crowded c.requires.batch c.requires.leaf full)
+    let full : offer_fault c.args.version.now (versions_in c.args.key.now a.leaf.rows) ≡ Some Crowded = rw
+    (c.new-held.ensures, c.find.ensures.found, c.as_slice.ensures, c.if-crowds.true) at c.crowds.ensures in
+    inr (crowded_next c.args.self.now c.args.seat c.args.source c.args.leaf c.args.key.now c.args.version.now a Crowded c.requires.batch
+    c.requires.leaf full)
 
 pub offer-requires-clause-room : goal.offer-requires-clause-room
 offer-requires-clause-room c =
-    let fits : offer_fault c.args.version.now (versions_in c.args.key.now c.args.batch.now.leaf.rows) ≡ None = rw (c.new-held.ensures, c.find.ensures.found, c.as_slice.ensures, c.if-crowds.false) at c.crowds.ensures in
+    let fits : offer_fault c.args.version.now (versions_in c.args.key.now c.args.batch.now.leaf.rows) ≡ None = rw
+    (c.new-held.ensures, c.find.ensures.found, c.as_slice.ensures, c.if-crowds.false) at c.crowds.ensures in
     ap (λ (v : Version). offer_fault v (versions_in c.args.key.now c.args.batch.now.leaf.rows)) c.in_ok-row_version.ensures.1 ∙ fits
 
 -- what a version that is prepared adds to the batch
-added : (c : In_ok-push) → (crowded_in (ahead c.args.self.now c.args.batch.now) c.args.seat c.args.source ((c.args.key.now, c.args.version.now) ∷ []) ≡ None)
-    × IsPrepared c.args.self.now c.args.seat c.args.source c.args.leaf ((c.args.key.now, c.args.version.now) ∷ []) c.args.batch.now (record { leaf = c.offer.new.self; entries = c.push.new.self; known = c.args.batch.now.known })
+added : (c : In_ok-push)
+    → (crowded_in (ahead c.args.self.now c.args.batch.now) c.args.seat c.args.source ((c.args.key.now, c.args.version.now) ∷ []) ≡ None)
+    × IsPrepared c.args.self.now c.args.seat c.args.source c.args.leaf ((c.args.key.now, c.args.version.now) ∷ []) c.args.batch.now
+    (record { leaf = c.offer.new.self; entries = c.push.new.self; known = c.args.batch.now.known })
 added c =
     let s = c.args.self.now in
     let a = c.args.batch.now in
@@ -47,9 +58,17 @@ added c =
     let set = c.new-held.ensures ∙ c.find.ensures.found ∙ ap (λ (k : List ℕ). versions_in k a.leaf.rows) c.as_slice.ensures in
     let fresh : covered c.args.version.now (versions_in c.args.key.now a.leaf.rows) ≡ false = cc (c.covers.ensures, c.if-covers.false, set) in
     let fits : offer_fault c.args.version.now (versions_in c.args.key.now a.leaf.rows) ≡ None = rw (set, c.if-crowds.false) at c.crowds.ensures in
-    let number : c.len.result + c.len-2.result ≡ length s.entries + length a.entries.items = omega (arith, c.len.ensures.count, c.len-2.ensures, ap (λ (t : Store). length t.entries) c.self.view_is) in
-    news_next s c.args.seat c.args.source c.args.leaf c.args.key.now c.args.version.now c.in_ok-row_version.row_version a b _ c.requires.batch c.requires.leaf fresh fits c.in_ok-row_version.ensures.1
-    (λ i. record { number = number i; seat = c.args.seat; source = c.args.source; key = c.in_ok-try_clone.ensures.1 i; version = c.in_ok-try_clone-2.ensures.1 i }) (given _ _ _ _ c.in_ok-offer.ensures).1 c.in_ok-push.ensures.items refl
+    let number : c.len.result + c.len-2.result ≡ length s.entries + length a.entries.items = omega
+    (arith, c.len.ensures.count, c.len-2.ensures, ap (λ (t : Store). length t.entries) c.self.view_is) in
+    news_next s c.args.seat c.args.source c.args.leaf c.args.key.now c.args.version.now c.in_ok-row_version.row_version a b _ c.requires.batch
+    c.requires.leaf fresh fits c.in_ok-row_version.ensures.1
+    (λ i. record {
+      number = number i;
+      seat = c.args.seat;
+      source = c.args.source;
+      key = c.in_ok-try_clone.ensures.1 i;
+      version = c.in_ok-try_clone-2.ensures.1 i;
+    }) (given _ _ _ _ c.in_ok-offer.ensures).1 c.in_ok-push.ensures.items refl
 
 pub returns-clause-answers : goal.returns-clause-answers
 returns-clause-answers c = ((added (goal.at.returns-clause-answers c).In_ok-push).0, tt)

@@ -10,11 +10,13 @@ returns-in_err-home-clause-puts c =
       refl,
       elim c.in_err-home.ensures.made [
         | inl none ↦ inl none
-        | inr fault ↦ inr (put_refused c.args.test c.args.self.now c.args.seat c.args.at c.args.key.now c.args.context.now c.args.kind c.args.value c.in_err-home.field-0.0 fault)
+        | inr fault ↦ inr (put_refused c.args.test c.args.self.now c.args.seat c.args.at c.args.key.now c.args.context.now c.args.kind c.args.value
+            c.in_err-home.field-0.0 fault)
       ],
     )
 
 pub returns-clause-puts : goal.returns-clause-puts
 returns-clause-puts c =
     let admits = rw c.bytes-key.ensures at c.admit.ensures.admits in
-    put_admits c.args.test c.args.self.now c.admit.new.self c.args.seat c.args.at c.args.key.now c.args.context.now c.args.kind c.args.value c.in_ok-home.version c.admit.result c.in_ok-home.ensures.made.0 c.in_ok-home.ensures.made.1.1 admits
+    put_admits c.args.test c.args.self.now c.admit.new.self c.args.seat c.args.at c.args.key.now c.args.context.now c.args.kind c.args.value
+    c.in_ok-home.version c.admit.result c.in_ok-home.ensures.made.0 c.in_ok-home.ensures.made.1.1 admits

@@ -19,12 +19,18 @@ empty-requires-clause-range c = rw (c.bits.ensures, c.range.ensures) (range_fits
 pub invariant_of-result : goal.invariant_of-result
 invariant_of-result c =
     let tree = c.in_ok-empty.ensures.1 ∙ (λ i. bare (c.format.ensures i) (c.bits.ensures i) (c.range.ensures i)) in
-    let all = new_range c.args.config c.new.result.entries c.in_ok-empty.field-0 c.limit.ensures.valid (ap (λ (t : Log). t.entries) c.new.ensures) tree in
-    let none = subst (λ (es : List Entry). IsTableOf c.args.config.bits c.args.config.range es c.new-2.result.rows) (sym (ap (λ (t : Log). t.entries) c.new.ensures))
-    (subst (λ (rows : List TableRow). IsTableOf c.args.config.bits c.args.config.range [] rows) (sym (ap (λ (t : Table). t.rows) c.new-2.ensures)) (table_none c.args.config.bits c.args.config.range)) in
+    let all = new_range c.args.config c.new.result.entries c.in_ok-empty.field-0 c.limit.ensures.valid
+    (ap (λ (t : Log). t.entries) c.new.ensures) tree in
+    let none = subst (λ (es : List Entry). IsTableOf c.args.config.bits c.args.config.range es c.new-2.result.rows)
+    (sym (ap (λ (t : Log). t.entries) c.new.ensures))
+    (subst (λ (rows : List TableRow). IsTableOf c.args.config.bits c.args.config.range [] rows) (sym (ap (λ (t : Table). t.rows) c.new-2.ensures))
+    (table_none c.args.config.bits c.args.config.range)) in
     (all.0, all.1, ap (λ (t : Log). t.limit) c.new.ensures ∙ c.limit.ensures.limit, none)
 
 pub returns : goal.returns
 returns c =
-    let tree = c.in_ok-empty.ensures.1 ∙ (λ i. bare (c.format.ensures i) (c.bits.ensures i) (c.range.ensures i)) in
-    (refl, (new_range c.args.config c.new.result.entries c.in_ok-empty.field-0 c.limit.ensures.valid (ap (λ (t : Log). t.entries) c.new.ensures) tree).2)
+    let tree = c.in_ok-empty.ensures.1 ∙ (λ i. bare (c.format.ensures i) (c.bits.ensures i) (c.range.ensures i)) in (
+      refl,
+      (new_range c.args.config c.new.result.entries c.in_ok-empty.field-0 c.limit.ensures.valid
+          (ap (λ (t : Log). t.entries) c.new.ensures) tree).2,
+    )

@@ -15,4 +15,5 @@ loop-version-preserved c =
     let f : Version → List ℕ × Version = λ w. (c.args.row.now.key, w) in
     c.in_ok-append_version.ensures.1
     ∙ ap (λ (log : Log). with_copies log c.args.seat (f v ∷ [])) c.loop-version.invariant
-    ∙ with_copies_of start c.args.seat (map f (take i vs)) (f v ∷ []) (map f (take (i + 1) vs)) (map_next f vs i v c.loop-version-test.true c.version-item.is)
+    ∙ with_copies_of start c.args.seat (map f (take i vs)) (f v ∷ []) (map f (take (i + 1) vs))
+    (map_next f vs i v c.loop-version-test.true c.version-item.is)

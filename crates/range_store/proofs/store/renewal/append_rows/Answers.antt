@@ -22,4 +22,5 @@ loop-row-preserved c =
     let r = c.row-item.result in
     c.in_ok-append_row.ensures.1
     ∙ ap (λ (log : Log). with_copies log c.args.seat (offers_in r)) c.loop-row.invariant
-    ∙ with_copies_of c.args.journal.now c.args.seat (offers_of (take i rows)) (offers_in r) (offers_of (take (i + 1) rows)) (offers_next rows i r c.loop-row-test.true c.row-item.is)
+    ∙ with_copies_of c.args.journal.now c.args.seat (offers_of (take i rows)) (offers_in r) (offers_of (take (i + 1) rows))
+    (offers_next rows i r c.loop-row-test.true c.row-item.is)

@@ -14,5 +14,7 @@ loop-entry-preserved c =
     let e : Entry = c.entry-item.result in
     let leaf : c.wide_leaf.result ≡ leaf_at Two bits e.key = c.wide_leaf.ensures ∙ ap (leaf_at Two bits) c.as_slice-key.ensures in
     let set = c.find-held.ensures ∙ ap (λ k. versions_in k rows) c.as_slice-key.ensures in
-    let row : c.in_ok-row_with.field-0 ≡ row_from bits rows e = c.in_ok-row_with.ensures.1 ∙ (λ i. record { key = e.key; leaf = leaf i; set = set i }) in
-    c.in_ok-push.ensures.items ∙ (λ i. c.loop-entry.invariant i ++ row i ∷ []) ∙ sym (map_next (row_from bits rows) c.args.entries.now c.loop-entry.entry-index e c.loop-entry-test.true c.entry-item.is)
+    let row : c.in_ok-row_with.field-0 ≡ row_from bits rows e = c.in_ok-row_with.ensures.1
+    ∙ (λ i. record { key = e.key; leaf = leaf i; set = set i }) in
+    c.in_ok-push.ensures.items ∙ (λ i. c.loop-entry.invariant i ++ row i ∷ [])
+    ∙ sym (map_next (row_from bits rows) c.args.entries.now c.loop-entry.entry-index e c.loop-entry-test.true c.entry-item.is)

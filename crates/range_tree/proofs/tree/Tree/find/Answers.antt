@@ -18,4 +18,6 @@ returns c =
     let leaf = c.get.result.now in
     let ok = subst IsRangeTree c.self.view_is c.self.invariant.0 in
     let within : c.args.leaf < 2 ^ leaf_bits m.format = omega (arith, c.requires, leaf_below m.format m.bits c.args.key.now) in
-    c.new.ensures ∙ c.find.ensures.found ∙ versions_here m c.args.leaf c.args.key.now leaf ok.rows c.requires (c.get.ensures leaf ∙ (are (goal.at.returns c).After-self).each c.args.leaf leaf within)
+    c.new.ensures ∙ c.find.ensures.found
+    ∙ versions_here m c.args.leaf c.args.key.now leaf ok.rows c.requires
+    (c.get.ensures leaf ∙ (are (goal.at.returns c).After-self).each c.args.leaf leaf within)

@@ -26,13 +26,16 @@ returns-then-node-tree_depth c =
     let are = subst (λ (t : RangeTree). AreLeaves t.map c.self.inside.leaves) c.self.view_is c.self.invariant.1 in
     let deep = ap (λ (n : Node). n.depth) (sym c.node.view_is) ∙ c.if-node-tree_depth.true ∙ c.tree_depth.ensures ∙ ap tree_depth (format at) in
     let is = c.get.ensures leaf ∙ ap (λ (n : Node). get_or c.self.inside.leaves n.index leaf) c.node.view_is in
-    leaf_current c.args.self.now c.self.inside.leaves c.args.node c.args.text.now leaf c.is_text.result (node at) (right at) are deep is c.is_text.ensures
+    leaf_current c.args.self.now c.self.inside.leaves c.args.node c.args.text.now leaf c.is_text.result (node at)
+    (right at) are deep is c.is_text.ensures
 
 pub returns-in-Some : goal.returns-in-Some
 returns-in-Some c =
     let s = c.args.self.now in
     let at = (goal.at.returns-in-Some c).After-node in
-    let above : c.args.node.depth < tree_depth s.map.format = omega (arith, ap (λ (n : Node). n.depth) c.node.view_is, c.tree_depth-2.ensures, ap tree_depth (format at), c.if-node-tree_depth-2.true) in
+    let above : c.args.node.depth < tree_depth s.map.format = omega
+    (arith, ap (λ (n : Node). n.depth) c.node.view_is, c.tree_depth-2.ensures, ap tree_depth (format at), c.if-node-tree_depth-2.true) in
     let children = ap (λ (t : RangeTree). children_of t.marks (place_of c.args.node)) (sym c.self.view_is) ∙ c.in-Some.ensures in
-    let same = subst (λ (t : List ℕ). IsTrue c.is_inner_text.result ↔ (c.args.text.now ≡ t)) (ap (λ (f : Format). inner_text f c.in-Some.digests) (format at)) c.is_inner_text.ensures in
+    let same = subst (λ (t : List ℕ). IsTrue c.is_inner_text.result ↔ (c.args.text.now ≡ t))
+    (ap (λ (f : Format). inner_text f c.in-Some.digests) (format at)) c.is_inner_text.ensures in
     inner_current s c.args.node c.args.text.now c.in-Some.digests c.is_inner_text.result (node at) (right at) above children same

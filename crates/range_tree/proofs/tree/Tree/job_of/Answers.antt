@@ -25,7 +25,8 @@ returns-then-node-tree_depth c =
     let are = subst (λ (t : RangeTree). AreLeaves t.map c.self.inside.leaves) c.self.view_is c.self.invariant.1 in
     let deep = ap (λ (n : Node). n.depth) (sym c.node.view_is) ∙ c.if-node-tree_depth.true ∙ c.tree_depth.ensures ∙ ap tree_depth (format at) in
     let is = c.get.ensures leaf ∙ ap (λ (n : Node). get_or c.self.inside.leaves n.index leaf) c.node.view_is in
-    let text = ap (λ (b : Bucket). leaf_text b.format b.rows) c.in_ok-leaf.ensures.1 ∙ (leaf_text_here c.args.self.now c.self.inside.leaves c.args.node leaf (node at) are deep is).1 in
+    let text = ap (λ (b : Bucket). leaf_text b.format b.rows) c.in_ok-leaf.ensures.1
+    ∙ (leaf_text_here c.args.self.now c.self.inside.leaves c.args.node leaf (node at) are deep is).1 in
     subst (λ (t : List ℕ). Answers c.of_leaf.result None (λ (job : NodeText). job ≡ record { node = c.args.node; text = t })) text c.of_leaf.ensures
 
 pub returns : goal.returns
@@ -33,7 +34,16 @@ returns c =
     let s = c.args.self.now in
     let at = (goal.at.returns c).After-node in
     let has = has_within s c.args.node c.requires.has in
-    let above : c.args.node.depth < tree_depth s.map.format = omega (arith, has.shallow, c.tree_depth.ensures, ap tree_depth (format at), ap (λ (n : Node). n.depth) c.node.view_is, c.if-node-tree_depth.false) in
+    let above : c.args.node.depth < tree_depth s.map.format = omega (
+      arith,
+      has.shallow,
+      c.tree_depth.ensures,
+      ap tree_depth (format at),
+      ap (λ (n : Node). n.depth) c.node.view_is,
+      c.if-node-tree_depth.false,
+    ) in
     let children = ap (λ (t : RangeTree). children_of t.marks (place_of c.args.node)) (sym c.self.view_is) ∙ c.in-Some.ensures in
-    let text = ap (λ (f : Format). inner_text f c.in-Some.digests) (format at) ∙ inner_text_here s c.args.node c.in-Some.digests (node at) (subst IsRangeTree c.self.view_is c.self.invariant.0) above children in
-    subst (λ (t : List ℕ). Answers c.of_children.result None (λ (job : NodeText). job ≡ record { node = c.args.node; text = t })) text c.of_children.ensures
+    let text = ap (λ (f : Format). inner_text f c.in-Some.digests) (format at)
+    ∙ inner_text_here s c.args.node c.in-Some.digests (node at) (subst IsRangeTree c.self.view_is c.self.invariant.0) above children in
+    subst (λ (t : List ℕ). Answers c.of_children.result None (λ (job : NodeText). job ≡ record { node = c.args.node; text = t })) text
+    c.of_children.ensures

@@ -12,4 +12,5 @@ loop-i-preserved c =
     let back = sym c.index-nodes-i.is in
     let has = subst (λ (n : Node). place_of n < length start.marks) back (c.requires.has i node less) in
     let dirty = subst (λ (n : Node). kept_digest start.marks (place_of n) ≡ None) back (c.requires.dirty i node less) in
-    cleaning_next start c.args.nodes.now c.args.hashed.now i c.loop-i.self c.make_clean.new.self node c.index-hashed-i.result c.loop-i.invariant less (search rules) has dirty c.make_clean.ensures.digest
+    cleaning_next start c.args.nodes.now c.args.hashed.now i c.loop-i.self c.make_clean.new.self node c.index-hashed-i.result c.loop-i.invariant less
+    (search rules) has dirty c.make_clean.ensures.digest

@@ -21,28 +21,38 @@ leaf : (c : After-self) → nth_leaf c.self.inside.leaves c.args.leaf ≡ bucket
 leaf c = nth_is c.args.self.now.map c.self.inside.leaves c.args.leaf c.args.key.now (are c) c.requires.leaf
 
 pub offer-requires-clause-leaf : goal.offer-requires-clause-leaf
-offer-requires-clause-leaf c = key_within c.args.self.now.map c.self.inside.leaves c.args.leaf c.args.key.now (are (goal.at.offer-requires-clause-leaf c).After-self) c.requires.leaf
+offer-requires-clause-leaf c =
+    key_within c.args.self.now.map c.self.inside.leaves c.args.leaf c.args.key.now
+    (are (goal.at.offer-requires-clause-leaf c).After-self) c.requires.leaf
 
 pub offer-requires-clause-value : goal.offer-requires-clause-value
-offer-requires-clause-value c = ap (λ (b : Bucket). value_fault b.format c.args.version.kind c.args.version.value) (leaf (goal.at.offer-requires-clause-value c).After-self) ∙ c.requires.value
+offer-requires-clause-value c =
+    ap (λ (b : Bucket). value_fault b.format c.args.version.kind c.args.version.value) (leaf (goal.at.offer-requires-clause-value c).After-self)
+    ∙ c.requires.value
 
 pub offer-requires-clause-room : goal.offer-requires-clause-room
 offer-requires-clause-room c =
     let ok = subst IsRangeTree c.self.view_is c.self.invariant.0 in
-    ap (offer_fault c.args.version) (versions_here c.args.self.now.map c.args.leaf c.args.key.now (nth_leaf c.self.inside.leaves c.args.leaf) ok.rows c.requires.leaf (leaf (goal.at.offer-requires-clause-room c).After-self)) ∙ c.requires.room
+    ap (offer_fault c.args.version)
+    (versions_here c.args.self.now.map c.args.leaf c.args.key.now (nth_leaf c.self.inside.leaves c.args.leaf) ok.rows c.requires.leaf
+    (leaf (goal.at.offer-requires-clause-room c).After-self)) ∙ c.requires.room
 
 pub dirty-requires : goal.dirty-requires
 dirty-requires c =
     let m = c.args.self.now.map in
     let format = c.self.invariant.2 ∙ ap (λ (t : RangeTree). t.map.format) c.self.view_is in
-    subst (λ (f : Format). c.args.leaf < 16 ^ tree_depth f) (sym format) (omega (arith, c.requires.leaf, leaf_below m.format m.bits c.args.key.now, leaves_of_tree m.format))
+    subst (λ (f : Format). c.args.leaf < 16 ^ tree_depth f) (sym format)
+    (omega (arith, c.requires.leaf, leaf_below m.format m.bits c.args.key.now, leaves_of_tree m.format))
 
-makes : (c : After-dirty) → Makes (offered_to c.args.self.now c.args.key.now c.args.version) c.self.inside.format c.self.inside.bits c.self.inside.range c.offer.new.self c.dirty.new.self
+makes : (c : After-dirty)
+    → Makes (offered_to c.args.self.now c.args.key.now c.args.version) c.self.inside.format c.self.inside.bits c.self.inside.range c.offer.new.self
+    c.dirty.new.self
 makes c =
     let i = c.self.inside in
     offer_makes c.args.self.now i.format i.bits i.range i.leaves i.marks c.args.leaf c.args.key.now c.args.version c.offer.new.self c.dirty.new.self
     (record { view = c.self.view_is; right = c.self.invariant.0; leaves_are = c.self.invariant.1; format_is = c.self.invariant.2 })
-    c.requires.leaf c.requires.here c.requires.key c.requires.value c.pairs-valid.ensures.valid c.requires.room (given _ _ _ _ c.in_ok-offer.ensures).1 c.dirty.ensures.path
+    c.requires.leaf c.requires.here c.requires.key c.requires.value c.pairs-valid.ensures.valid c.requires.room
+    (given _ _ _ _ c.in_ok-offer.ensures).1 c.dirty.ensures.path
 
 pub invariant_of-self-2 : goal.invariant_of-self-2
 invariant_of-self-2 c =

@@ -17,10 +17,12 @@ pub make_all_clean-requires-clause-current : goal.make_all_clean-requires-clause
 make_all_clean-requires-clause-current g c =
     let jobs = c.in_ok-jobs.jobs.items in
     let texts : c.deref-3.result.now ≡ map (λ (job : NodeText). job.text) jobs = search rules in
-    jobs_current c.args.self.now c.args.most jobs c.deref-2.result.now c.deref-3.result.now c.in_ok-jobs.ensures.1 (nodes g (goal.at.make_all_clean-requires-clause-current g c).After-deref-2) texts
+    jobs_current c.args.self.now c.args.most jobs c.deref-2.result.now c.deref-3.result.now c.in_ok-jobs.ensures.1
+    (nodes g (goal.at.make_all_clean-requires-clause-current g c).After-deref-2) texts
 
 dirty : (g : _) (c : After-deref-2 g) (i : ℕ) (node : Node) → i < length c.deref-2.result.now
-    → (place_of (get_or c.deref-2.result.now i node) < length c.args.self.now.marks) × (kept_digest c.args.self.now.marks (place_of (get_or c.deref-2.result.now i node)) ≡ None)
+    → (place_of (get_or c.deref-2.result.now i node) < length c.args.self.now.marks)
+    × (kept_digest c.args.self.now.marks (place_of (get_or c.deref-2.result.now i node)) ≡ None)
 dirty g c = jobs_dirty c.args.self.now c.args.most c.in_ok-jobs.jobs.items c.deref-2.result.now c.in_ok-jobs.ensures.1 (nodes g c)
 
 pub make_all_clean-requires-clause-has : goal.make_all_clean-requires-clause-has
@@ -32,12 +34,15 @@ make_all_clean-requires-clause-dirty g c = λ i node less. (dirty g (goal.at.mak
 pub returns-clause-none : goal.returns-clause-none
 returns-clause-none g c = λ empty some.
     let jobs = c.in_ok-jobs.jobs.items in
-    let len : vec_len c.in_ok-nodes.nodes ≡ 0 = eqb-true (vec_len c.in_ok-nodes.nodes) 0 (sym c.is_empty.ensures ∙ not-false c.is_empty.result empty) in
+    let len : vec_len c.in_ok-nodes.nodes ≡ 0 = eqb-true (vec_len c.in_ok-nodes.nodes) 0
+    (sym c.is_empty.ensures ∙ not-false c.is_empty.result empty) in
     let none : length c.deref-2.result.now ≡ 0 = search rules in
-    let no_job : length jobs ≡ 0 = omega (arith, ap length (nodes g (goal.at.returns-clause-none g c).After-deref-2), length-map jobs (λ (job : NodeText). job.node)) in
+    let no_job : length jobs ≡ 0 = omega
+    (arith, ap length (nodes g (goal.at.returns-clause-none g c).After-deref-2), length-map jobs (λ (job : NodeText). job.node)) in
     subst (λ (s : RangeTree). are_clean s.marks ≡ true) (sym (c.make_all_clean.ensures.none none))
     (no_jobs c.args.self.now c.args.most jobs c.in_ok-jobs.ensures.1 some no_job)
 
 pub returns-clause-ok : goal.returns-clause-ok
 returns-clause-ok g c =
-    jobs_places c.args.self.now c.make_all_clean.new.self c.args.most c.in_ok-jobs.jobs.items c.deref-2.result.now c.in_ok-jobs.ensures.1 (nodes g (goal.at.returns-clause-ok g c).After-deref-2) c.make_all_clean.ensures.hashed
+    jobs_places c.args.self.now c.make_all_clean.new.self c.args.most c.in_ok-jobs.jobs.items c.deref-2.result.now c.in_ok-jobs.ensures.1
+    (nodes g (goal.at.returns-clause-ok g c).After-deref-2) c.make_all_clean.ensures.hashed

@@ -7,6 +7,7 @@ returns-clause-some c =
     let ready = c.in_ok-hashed.ensures in (
       (refl, c.dirty_count-left.ensures.count),
       ready.ok,
-      λ some dirty. fewer c.args.self.now.marks c.rehash_ready-hashed.new.self.marks c.in_ok-hashed.field-0 ready.more (λ none. ready.none none some) dirty,
+      λ some dirty. fewer c.args.self.now.marks c.rehash_ready-hashed.new.self.marks c.in_ok-hashed.field-0 ready.more
+          (λ none. ready.none none some) dirty,
       tt,
     )

@@ -12,4 +12,5 @@ pub returns : goal.returns
 returns c =
     let t = c.args.self.now in
     let are = subst (λ (x : RangeTree). AreLeaves x.map c.self.inside.leaves) c.self.view_is c.self.invariant.1 in
-    c.rows_len.ensures ∙ ap (λ n. min n (2 ^ 64 - 1)) (ap (λ (ls : List Bucket). sum_by leaf_len ls) (leaves_are t.map c.self.inside.leaves are) ∙ leaves_len t.map)
+    c.rows_len.ensures ∙ ap (λ n. min n (2 ^ 64 - 1)) (ap (λ (ls : List Bucket). sum_by leaf_len ls) (leaves_are t.map c.self.inside.leaves are)
+    ∙ leaves_len t.map)

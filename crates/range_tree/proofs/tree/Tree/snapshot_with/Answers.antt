@@ -10,4 +10,5 @@ of_shared-requires c =
     let i = c.self.inside in
     let same = c.in_ok-share.ensures.1 in
     subst (λ (m : RowMap). IsSnapshot m c.in_ok-share.field-0 c.args.digests) (ap (map_of i.format i.bits i.range) (sym same))
-    (snapshot_now (shown i.format i.bits i.range i.leaves i.marks.digests) i.leaves c.in_ok-share.field-0 c.args.digests c.self.invariant.0 c.self.invariant.1 same (c.requires ∙ ap (λ (t : RangeTree). t.marks) (sym c.self.view_is)))
+    (snapshot_now (shown i.format i.bits i.range i.leaves i.marks.digests) i.leaves c.in_ok-share.field-0 c.args.digests c.self.invariant.0
+    c.self.invariant.1 same (c.requires ∙ ap (λ (t : RangeTree). t.marks) (sym c.self.view_is)))

@@ -15,4 +15,5 @@ pub with_leaf-requires : goal.with_leaf-requires
 with_leaf-requires c = omega (arith, (are (goal.at.with_leaf-requires c).After-self).all, c.requires)
 
 pub returns : goal.returns
-returns c = subst (λ (xs : List Bucket). Answers c.with_leaf.result None (λ leaves. leaves ≡ set xs c.args.leaf c.args.new)) (leaves_are c.args.self.now.map c.self.inside.leaves (are (goal.at.returns c).After-self)) c.with_leaf.ensures
+returns c = subst (λ (xs : List Bucket). Answers c.with_leaf.result None (λ leaves. leaves ≡ set xs c.args.leaf c.args.new))
+    (leaves_are c.args.self.now.map c.self.inside.leaves (are (goal.at.returns c).After-self)) c.with_leaf.ensures

@@ -11,7 +11,8 @@ use Rattle.row_table.proofs.table.RowTable.grow.Goals.{then-is_whole+else-len, e
 
 -- the larger index before
 larger : (c : goal.Joined-self) → IsLarger c.self.inside.seed c.self.inside.rows.items c.self.inside.room c.in-Some.larger
-larger c = subst (λ (o : Option Index). IfSome o (IsLarger c.self.inside.seed c.self.inside.rows.items c.self.inside.room)) (sym c.in-Some.ensures.value) c.self.invariant.3
+larger c = subst (λ (o : Option Index). IfSome o (IsLarger c.self.inside.seed c.self.inside.rows.items c.self.inside.room))
+    (sym c.in-Some.ensures.value) c.self.invariant.3
 
 pub invariant_of-self-2 : goal.invariant_of-self-2
 invariant_of-self-2 c = (
@@ -42,7 +43,8 @@ invariant_of-self-2 c = (
         let earlier : x.earlier ≡ old.earlier = w.widen.ensures.kept.1 in
         let size : x.size ≡ old.size = w.widen.ensures.kept.0 in
         subst (IsLarger seed rs c.self.inside.room) (sym w.larger-is) (
-          subst (λ (e : Vec ℕ Global). IsIndex seed rs x.size x.last.items e.items) (sym earlier) (subst (λ n. IsIndex seed rs n x.last.items old.earlier.items) (sym size) wide),
+          subst (λ (e : Vec ℕ Global). IsIndex seed rs x.size x.last.items e.items) (sym earlier)
+              (subst (λ n. IsIndex seed rs n x.last.items old.earlier.items) (sym size) wide),
           omega (arith, was.1, size, w.widen.ensures.room),
           omega (arith, was.2, ap vec_capacity earlier),
         )

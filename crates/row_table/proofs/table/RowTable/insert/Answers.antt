@@ -9,7 +9,8 @@ use Rattle.row_table.proofs.table.RowTable.insert.Goals as goal
 pub add_some-requires-clause-index : goal.add_some-requires-clause-index
 add_some-requires-clause-index c =
     let x = c.self.inside.index in
-    subst (λ (rs : List TableRow). IsIndex c.self.inside.seed rs x.size x.last.items x.earlier.items) (sym (c.deref.ensures.value ∙ c.push_reserved.ensures.items))
+    subst (λ (rs : List TableRow). IsIndex c.self.inside.seed rs x.size x.last.items x.earlier.items)
+    (sym (c.deref.ensures.value ∙ c.push_reserved.ensures.items))
     (of_more c.self.inside.seed c.self.inside.rows.items (c.args.row ∷ []) x.size x.last.items x.earlier.items c.self.invariant.0)
 
 pub invariant_of-self : goal.invariant_of-self
@@ -24,7 +25,8 @@ invariant_of-self c =
       subst (λ (xs : List TableRow). IsIndex s.seed xs x.size x.last.items x.earlier.items) same c.add_some.ensures.index,
       omega (arith, long, ap length same, c.add_some.ensures.more, c.self.invariant.1),
       λ _. c.add_some.ensures.whole.1,
-      larger_of_more s.seed rs s.room r s.larger c.push_reserved.new.self.items (s.room - 1) c.self.invariant.3 c.push_reserved.ensures.items (omega (arith, room)),
+      larger_of_more s.seed rs s.room r s.larger c.push_reserved.new.self.items (s.room - 1) c.self.invariant.3 c.push_reserved.ensures.items
+          (omega (arith, room)),
       omega (arith, room, long, c.self.invariant.4),
       omega (arith, room, long, c.self.invariant.5),
       omega (arith, room, long, c.self.invariant.6),

@@ -11,6 +11,14 @@ loop-row-preserved c =
     let rest = c.pop.new.self.items in
     let items : c.loop-row.rows.items ≡ rest ++ row ∷ [] = c.in-Some.ensures.items in
     record {
-      left = ap (λ (u : Table). with_all u rest) c.put_at.ensures ∙ sym (all_push t rest row) ∙ ap (with_all t) (sym items) ∙ c.loop-row.invariant.left;
-      room = omega (arith, c.loop-row.invariant.room, ap length items, length-append rest (row ∷ []), put_room t (place_of t.rows row.key) row, ap (λ (u : Table). u.room) c.put_at.ensures);
+      left = ap (λ (u : Table). with_all u rest) c.put_at.ensures ∙ sym (all_push t rest row) ∙ ap (with_all t) (sym items)
+          ∙ c.loop-row.invariant.left;
+      room = omega (
+        arith,
+        c.loop-row.invariant.room,
+        ap length items,
+        length-append rest (row ∷ []),
+        put_room t (place_of t.rows row.key) row,
+        ap (λ (u : Table). u.room) c.put_at.ensures,
+      );
     }

@@ -9,7 +9,8 @@ use Rattle.row_table.proofs.table.RowTable.put_at.Goals.{After-self}
 
 -- the row that has the place
 there : (c : After-self) → IsFound c.self.inside.rows.items c.args.row.key c.in-Some.place
-there c = found c.self.inside.rows.items c.args.row.key c.in-Some.place (ap (λ (t : Table). place_of t.rows c.args.row.key) c.self.view_is ∙ sym c.requires.place ∙ c.in-Some.is)
+there c = found c.self.inside.rows.items c.args.row.key c.in-Some.place (ap (λ (t : Table). place_of t.rows c.args.row.key) c.self.view_is
+    ∙ sym c.requires.place ∙ c.in-Some.is)
 
 pub index_mut-requires : goal.index_mut-requires
 index_mut-requires c =

@@ -15,4 +15,5 @@ pub returns : goal.returns
 returns c =
     let s = c.self.inside in
     let is = subst (λ (m : RowMap). IsSnapshot m s.leaves s.digests) c.self.view_is c.self.invariant in
-    ap (inner_text c.args.self.now.format) c.children.ensures ∙ inner_text_at c.args.self.now s.leaves s.digests c.args.node.depth c.args.node.index is c.requires.inner c.requires.node.within
+    ap (inner_text c.args.self.now.format) c.children.ensures
+    ∙ inner_text_at c.args.self.now s.leaves s.digests c.args.node.depth c.args.node.index is c.requires.inner c.requires.node.within

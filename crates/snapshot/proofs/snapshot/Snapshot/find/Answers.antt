@@ -12,7 +12,8 @@ returns-clause-held c =
     let m = c.args.self.now in
     let key = c.args.key.now in
     let at : c.place-leaf.result.leaf ≡ leaf_in m key =
-    c.place-leaf.ensures.leaf ∙ ap (λ (f : Format). leaf_at f c.self.inside.bits key) c.format-format.ensures.format ∙ ap (λ (x : RowMap). leaf_at m.format x.bits key) c.self.view_is in
+    c.place-leaf.ensures.leaf ∙ ap (λ (f : Format). leaf_at f c.self.inside.bits key) c.format-format.ensures.format
+    ∙ ap (λ (x : RowMap). leaf_at m.format x.bits key) c.self.view_is in
     c.new.ensures ∙ c.find.ensures.found ∙ ap (λ (b : Bucket). versions_in key b.rows) c.rows.ensures
     ∙ ap (λ (i : ℕ). versions_in key (rows_in_leaf (leaf_in m) i m.rows)) at
     ∙ versions_in-rows_at (leaf_in m) key m.rows c.format-format.ensures.valid.ascending

@@ -13,4 +13,5 @@ as_many One = refl
 as_many Two = refl
 
 pub from_vec-requires : goal.from_vec-requires
-from_vec-requires c = leaf_count (map_of c.args.format c.args.bits c.args.range c.args.leaves.items) c.args.leaves.items c.args.digests.items c.requires ∙ as_many c.args.format
+from_vec-requires c = leaf_count
+    (map_of c.args.format c.args.bits c.args.range c.args.leaves.items) c.args.leaves.items c.args.digests.items c.requires ∙ as_many c.args.format

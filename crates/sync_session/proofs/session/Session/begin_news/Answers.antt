@@ -41,6 +41,8 @@ returns-in-None c =
     let deep : c.args.node.depth ≡ tree_depth m.format = search rules in
     let other : IsCanonical m n c.args.text.now → ⊥ = λ can. elim can [
       | inl inner ↦ omega (arith, inner.0, deep)
-      | inr leaf ↦ c.in-None.ensures _ (c.text.ensures ∙ (spelled_text m n c.args.text.now leaf.1.0 c.format-format.result c.leaf_byte.result leaf.1.1 format c.leaf_byte.ensures).1)
+      | inr leaf ↦ c.in-None.ensures _
+          (c.text.ensures ∙ (spelled_text m n c.args.text.now leaf.1.0 c.format-format.result c.leaf_byte.result leaf.1.1 format
+          c.leaf_byte.ensures).1)
     ] in
     ((c.in_ok-expects.ensures, other), λ same. cc)

@@ -10,6 +10,7 @@ loop-place-preserved c =
     let mark = take m.width c.args.digest.now in
     let place = c.loop-place.place in
     let width : c.from-width.result ≡ m.width = cc in
-    let here : bytes_eq c.mark_at.result.now (take c.from-width.result c.args.digest.now) ≡ bytes_eq (mark_at m place) mark = λ i. bytes_eq (c.mark_at.ensures i) (take (width i) c.args.digest.now) in
+    let here : bytes_eq c.mark_at.result.now (take c.from-width.result c.args.digest.now) ≡ bytes_eq (mark_at m place) mark = λ i. bytes_eq
+    (c.mark_at.ensures i) (take (width i) c.args.digest.now) in
     let other : bytes_eq (mark_at m place) mark ≡ false = sym here ∙ sym c.eq.ensures ∙ c.if-eq.false in
     c.loop-place.invariant ∙ passed m mark place c.saturating_add-place-end.result c.loop-place-test.true other

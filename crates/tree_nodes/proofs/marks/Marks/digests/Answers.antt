@@ -7,10 +7,13 @@ use Rattle.tree_nodes.proofs.marks.Marks.digests.Goals as goal
 pub share_clean-requires-clause-clean : goal.share_clean-requires-clause-clean
 share_clean-requires-clause-clean c =
     let s = c.self.inside in
-    all_clean (record { format = s.format; digests = s.digests.items }) c.args.self.now s.clean s.blocks.items s.whole c.index.result.now c.in-Some.root c.self.view_is c.self.invariant c.index.ensures c.in-Some.is
+    all_clean (record { format = s.format; digests = s.digests.items }) c.args.self.now s.clean s.blocks.items s.whole c.index.result.now
+    c.in-Some.root c.self.view_is c.self.invariant c.index.ensures c.in-Some.is
 
 pub returns-in-Some : goal.returns-in-Some
 returns-in-Some c =
     let s = c.self.inside in
-    let clean = all_clean (record { format = s.format; digests = s.digests.items }) c.args.self.now s.clean s.blocks.items s.whole c.index.result.now c.in-Some.root c.self.view_is c.self.invariant c.index.ensures c.in-Some.is in
-    subst (λ (b : Bool). Answers c.share_clean.result (cond b None (Some Dirty)) (λ ds. map Some ds ≡ c.args.self.now.digests)) (sym clean) c.share_clean.ensures
+    let clean = all_clean (record { format = s.format; digests = s.digests.items }) c.args.self.now s.clean s.blocks.items s.whole c.index.result.now
+    c.in-Some.root c.self.view_is c.self.invariant c.index.ensures c.in-Some.is in
+    subst (λ (b : Bool). Answers c.share_clean.result (cond b None (Some Dirty)) (λ ds. map Some ds ≡ c.args.self.now.digests))
+    (sym clean) c.share_clean.ensures

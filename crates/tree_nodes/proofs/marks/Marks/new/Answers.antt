@@ -10,5 +10,12 @@ pub invariant_of-result : goal.invariant_of-result
 invariant_of-result c =
     let all : c.loop.counter ≡ node_count c.args.format = omega (arith, c.loop.auto.counter-end, c.loop-test.false, c.count_of-count.ensures) in
     let none : Option (List ℕ) = None in
-    subst (λ (xs : List (Option (List ℕ))). AreMarks c.args.format xs 0 c.in_ok-no_blocks.field-0.items None) (sym (c.loop.invariant ∙ ap (λ (n : ℕ). replicate n none) all))
-    (record { tree = tree_fresh c.args.format; counted = omega (arith, count_fresh (node_count c.args.format), length-replicate (node_count c.args.format) none); copies = c.in_ok-no_blocks.ensures.1; whole = tt })
+    subst (λ (xs : List (Option (List ℕ))). AreMarks c.args.format xs 0 c.in_ok-no_blocks.field-0.items None)
+    (sym (c.loop.invariant ∙ ap (λ (n : ℕ). replicate n none) all))
+    (record {
+      tree = tree_fresh c.args.format;
+      counted = omega (arith, count_fresh (node_count c.args.format), length-replicate (node_count c.args.format) none);
+      copies =
+          c.in_ok-no_blocks.ensures.1;
+      whole = tt;
+    })

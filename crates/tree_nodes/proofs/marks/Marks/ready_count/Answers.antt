@@ -11,14 +11,18 @@ few t now view all = subst (λ (s : Tree). length s.digests ≤ 4369) view (omeg
 
 pub overflow_add-found : goal.overflow_add-found
 overflow_add-found c =
-    let most = few (record { format = c.self.inside.format; digests = c.self.inside.digests.items }) c.args.self.now c.self.view_is c.self.invariant.tree.all in
+    let most = few (record { format = c.self.inside.format; digests = c.self.inside.digests.items }) c.args.self.now c.self.view_is
+    c.self.invariant.tree.all in
     omega (arith, c.loop-next.invariant.all, ready_few c.args.self.now.digests, most)
 
 pub overflow_add-place : goal.overflow_add-place
 overflow_add-place c =
-    let most = few (record { format = c.self.inside.format; digests = c.self.inside.digests.items }) c.args.self.now c.self.view_is c.self.invariant.tree.all in
-    let inside = subst (λ (o : Option ℕ). MatchOption o ⊤ (λ place. place < length c.args.self.now.digests)) c.in-Some.is c.loop-next.invariant.inside in
+    let most = few (record { format = c.self.inside.format; digests = c.self.inside.digests.items }) c.args.self.now c.self.view_is
+    c.self.invariant.tree.all in
+    let inside = subst (λ (o : Option ℕ). MatchOption o ⊤ (λ place. place < length c.args.self.now.digests)) c.in-Some.is
+    c.loop-next.invariant.inside in
     omega (arith, inside, most)
 
 pub first_ready-next-requires-in-Some-clause-few : goal.first_ready-next-requires-in-Some-clause-few
-first_ready-next-requires-in-Some-clause-few c = omega (arith, ap (λ (xs : Digests). length xs) c.deref-in-Some.ensures.value, c.self.invariant.tree.all, few_nodes c.self.inside.format)
+first_ready-next-requires-in-Some-clause-few c =
+    omega (arith, ap (λ (xs : Digests). length xs) c.deref-in-Some.ensures.value, c.self.invariant.tree.all, few_nodes c.self.inside.format)

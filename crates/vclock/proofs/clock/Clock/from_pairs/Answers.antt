@@ -21,11 +21,13 @@ loop-i-preserved c =
     let long : length c.put.new.pairs.items ≤ length c.loop-i.kept.items + 1 = rw is (length-with_counter c.loop-i.kept.items p.0 p.1) in
     record {
       is = is ∙ ap (λ t. with_counter t p.0 p.1) (c.loop-i.invariant.is ∙ ap (λ k. clock_of (drop k c.args.pairs.now)) (sym back)) ∙ sym step;
-      rising = subst (Rises 0) (sym is) (Rises-with_counter 0 c.loop-i.kept.items p.0 p.1 c.loop-i.invariant.rising pair.above pair.below pair.some (omega arith));
+      rising = subst (Rises 0) (sym is)
+          (Rises-with_counter 0 c.loop-i.kept.items p.0 p.1 c.loop-i.invariant.rising pair.above pair.below pair.some (omega arith));
       short = omega arith;
     }
 
 pub returns-clause-counters : goal.returns-clause-counters
 returns-clause-counters c n =
-    let e : c.loop-i.kept.items ≡ clock_of c.args.pairs.now = c.loop-i.invariant.is ∙ ap (λ k. clock_of (drop k c.args.pairs.now)) (let z : c.loop-i.i ≡ 0 = omega arith in z) in
+    let e : c.loop-i.kept.items ≡ clock_of c.args.pairs.now = c.loop-i.invariant.is
+    ∙ ap (λ k. clock_of (drop k c.args.pairs.now)) (let z : c.loop-i.i ≡ 0 = omega arith in z) in
     ap (λ t. counter t n) e ∙ counter-clock_of c.args.pairs.now n

@@ -9,8 +9,10 @@ pub returns-then-len-gt-PAIRS_MAX-clause-answers :
     goal.returns-then-len-gt-PAIRS_MAX-clause-answers
 returns-then-len-gt-PAIRS_MAX-clause-answers c =
     let other : c.as_slice-others.result.now ≡ c.args.other.now = c.as_slice-others.ensures ∙ c.other.view_is in
-    let absent = subst (λ (ps : Pairs). c.count_absent.result ≡ length (filter (λ p. eqb (counter c.args.self.now p.0) 0) ps)) other c.count_absent.ensures.count in
-    inr (merge_fault_over c.args.self.now c.args.other.now (omega (arith, absent, c.if-len-gt-PAIRS_MAX.true, c.len.ensures.value, ap (λ (ps : Pairs). length ps) c.self.view_is)))
+    let absent = subst (λ (ps : Pairs). c.count_absent.result ≡ length (filter (λ p. eqb (counter c.args.self.now p.0) 0) ps)) other
+    c.count_absent.ensures.count in
+    inr (merge_fault_over c.args.self.now c.args.other.now
+    (omega (arith, absent, c.if-len-gt-PAIRS_MAX.true, c.len.ensures.value, ap (λ (ps : Pairs). length ps) c.self.view_is)))
 
 pub loop-i-init : goal.loop-i-init
 loop-i-init c =
@@ -35,7 +37,8 @@ made c =
 few : (c : goal.After-loop-i) → length c.args.self.now + length (filter (λ p. eqb (counter c.args.self.now p.0) 0) c.args.other.now) ≤ 32
 few c =
     let other : c.as_slice-others.result.now ≡ c.args.other.now = c.as_slice-others.ensures ∙ c.other.view_is in
-    let absent = subst (λ (ps : Pairs). c.count_absent.result ≡ length (filter (λ p. eqb (counter c.args.self.now p.0) 0) ps)) other c.count_absent.ensures.count in
+    let absent = subst (λ (ps : Pairs). c.count_absent.result ≡ length (filter (λ p. eqb (counter c.args.self.now p.0) 0) ps)) other
+    c.count_absent.ensures.count in
     omega (arith, absent, c.if-len-gt-PAIRS_MAX.false, c.len.ensures.value, ap (λ (ps : Pairs). length ps) c.self.view_is)
 
 pub invariant_of-result : goal.invariant_of-result

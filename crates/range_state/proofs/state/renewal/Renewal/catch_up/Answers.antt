@@ -11,5 +11,6 @@ accept_all-requires-clause-own c =
     let es = c.entries.result.now in
     let old = c.args.old.now in
     let same = ap (λ (x : Renewing). stranger_fault x old) c.self.view_is ∙ c.in_ok-check_old.ensures.0 in
-    subst (λ (x : Renewing). AllByRecursion (IsOwn x.state.store.config) (take c.min-count.result (take (length es - r.front) (drop r.front es)))) c.self.view_is
+    subst (λ (x : Renewing). AllByRecursion (IsOwn x.state.store.config) (take c.min-count.result (take (length es - r.front) (drop r.front es))))
+    c.self.view_is
     (owns_later r old (length es - r.front) c.min-count.result es c.journal.ensures.valid same (c.entries.ensures.value ∙ c.journal.ensures.entries))

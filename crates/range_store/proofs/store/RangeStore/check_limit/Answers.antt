@@ -3,7 +3,7 @@ use Rattle.snapshot.specs.RowMaps.{RowMap}
 use Rattle.range_store.specs.Renewals.{offers_by_leaf}
 use Rattle.range_store.specs.Store.{Store}
 use Rattle.range_store.proofs.RenewLaws.{held_bounded}
-use Rattle.range_store.proofs.store.RangeStore.new_limit.Goals as goal
+use Rattle.range_store.proofs.store.RangeStore.check_limit.Goals as goal
 
 pub limited-requires-clause-few : goal.limited-requires-clause-few
 limited-requires-clause-few c =

@@ -9,7 +9,7 @@ use std::io::{Read, Write};
 use std::test::Fail;
 use std::thread::Threads;
 
-/// The call of a device that fails.
+/// A failing call of a device.
 #[derive(Clone, Copy, Debug, PartialEq, Eq)]
 enum Fault {
     /// A read.
@@ -22,7 +22,7 @@ enum Fault {
     Flush,
 }
 
-/// Calls of which one fails, and the later ones succeed.
+/// A series of calls: one fails, and the later ones succeed.
 #[derive(Drop)]
 struct Calls {
     before: u64,
@@ -41,7 +41,7 @@ impl Calls {
     }
 }
 
-/// A reader that gives a few bytes a call.
+/// A reader that returns a few bytes a call.
 #[derive(Drop)]
 struct Source<'a> {
     rest: &'a [u8],
@@ -70,7 +70,7 @@ struct Sink {
 }
 
 impl Sink {
-    /// Returns true if none of its calls can fail any more.
+    /// Returns true if its calls can no longer fail.
     fn has_failed(&self) -> bool {
         self.writes.failed && self.nothings.failed && self.flushes.failed
     }
@@ -97,7 +97,7 @@ impl Write for Sink {
     }
 }
 
-/// Returns the calls of a kind. The call after the first `before` fails if it is of the fault's kind.
+/// Returns the calls of a kind. The call after the first `before` fails if it has the fault's kind.
 fn calls_before(before: u64, kind: Fault, fault: Fault) -> Calls {
     Calls {
         before,
@@ -105,9 +105,9 @@ fn calls_before(before: u64, kind: Fault, fault: Fault) -> Calls {
     }
 }
 
-/// Runs the script with a fault after more and more calls of its kind, up to the run that meets no fault; that run has
-/// the right output and end. The others end as a device's fault does, and their output is a prefix of the right one.
-/// Returns the number of those runs. Reads and writes have at most `size` bytes.
+/// Runs the script with a fault after more and more calls of its kind, up to a run without a fault, which has the
+/// expected output and end. The other runs end like a device's fault, and their output is a prefix of the expected one.
+/// Returns the number of these runs. Reads and writes have at most `size` bytes.
 fn count_faults(
     rt: &(impl AllocGlobal + Threads + Sync),
     (input, output, end): (&str, &str, ScriptEnd),
@@ -194,7 +194,7 @@ fn each_fault_of_a_device_ends_the_script(rt: HostRuntime) -> Result<(), Fail> {
 /// The maximum length of a read and of a write in a script of many lines, in bytes.
 const SIZE: usize = 64;
 
-/// Runs the script with each call of a device failing in turn, and then with one byte a call. The run without a fault
+/// Runs the script with each call of a device failing in turn, then with one byte a call. The run without a fault
 /// flushes after each read, and writes each answer at least once.
 fn expect_faults(
     rt: &(impl AllocGlobal + Threads + Sync),
@@ -240,7 +240,7 @@ fn expect_whole(
     )
 }
 
-/// Returns calls of which none fails.
+/// Returns calls that don't fail.
 fn no_fault() -> Calls {
     Calls {
         before: 0,

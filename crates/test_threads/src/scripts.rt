@@ -22,7 +22,7 @@ pub(crate) const FORK_ANSWERS: &str = r#"{"nodes":3,"ranges":1}
 {"versions":[{"clock":[[1,3],[2,1],[3,1]],"value":"35"}]}
 "#;
 
-/// Syncs of two replicas, one of which has a key that the other lacks.
+/// Syncs of two replicas; one has a key that the other doesn't have.
 pub(crate) const ONE_KEY: &str = r#"{"ring":{"bits":0,"copies":2,"nodes":[1,2]}}
 {"put":{"node":1,"key":"61","context":[],"value":"78","lose":[2]}}
 {"rehash":{"node":1,"range":0}}
@@ -48,7 +48,7 @@ pub(crate) const ONE_KEY_ANSWERS: &str = r#"{"nodes":2,"ranges":1}
 {"versions":[{"clock":[[1,1]],"value":"78"}]}
 "#;
 
-/// A hint whose owner is down and then up.
+/// A hint whose owner is down, then up.
 pub(crate) const WAITING: &str = r#"{"ring":{"bits":0,"copies":2,"nodes":[1,2,3]}}
 {"down":{"node":2}}
 {"put":{"node":1,"key":"61","context":[],"value":"78"}}
