@@ -1,12 +1,13 @@
-/* Syncs two replicas that differ in some keys, and prints what the sync sends.
+/* Syncs two replicas that differ in some keys, and prints the size of the sync's messages.
  *
  *     bytes KEYS KEY_BYTES VALUE_BYTES FORMAT DIFFERENT ROOM
  *
- * The keys and values are those of entries.h. Two replicas hold each key. DIFFERENT keys, drawn at random, are rewritten
- * at node 2. Then node 1 gets them by one exchange: in each round it sends all asks that it may, with ROOM bytes for each
- * (8: plain asks alone), and takes the answers. The line has the bytes of the offer and the asks, those of the answers, the
- * rounds, the number of plain asks that the exchange counts, that of patches, and the milliseconds of processor time of
- * both sides. The status is 1 if a call is refused, or the exchange isn't finished. */
+ * The keys and values are defined in entries.h. Two replicas hold each key. DIFFERENT keys, drawn at random, are
+ * rewritten at node 2. Then node 1 gets them by one exchange: in each round it sends all asks that it may, with ROOM
+ * bytes for each (8: only plain asks), and takes the answers. The output is the bytes of the offer and the asks, the
+ * bytes of the answers, the rounds, the number of plain asks that the exchange counts, the number of patches, and the
+ * milliseconds of processor time of both sides. The status is 1 if a call is refused, or the exchange isn't
+ * finished. */
 #include "entries.h"
 
 enum { LIMIT = ANTIENTROPY_ENTRIES_MAX, ANSWER_ROOM = 64 << 20, OFFER = 1, ASKS = 8192 };
@@ -17,14 +18,15 @@ static uint8_t asks[ASKS][ANTIENTROPY_ASK_ROOM];
 static uint64_t lens[ASKS];
 static uint64_t state = 1;
 
-/* A number below `most`, drawn at random. */
+/* Returns a random number below `most`. */
 static unsigned long draw(unsigned long most)
 {
     state = state * UINT64_C(6364136223846793005) + UINT64_C(1442695040888963407);
     return (state >> 33) % most;
 }
 
-/* Puts a key at node 2 with the context of so many puts at node 1, and sends a copy to node 1, if `copied`. */
+/* Puts a key at node 2: for the first time, with a copy to node 1, if `copied`, otherwise in place of its first
+ * version. */
 static void put(unsigned long number, bool copied)
 {
     static uint8_t value[ANTIENTROPY_VALUE_MAX_2];

@@ -1,13 +1,13 @@
-/* Measures how many calls of the C library one thread makes in a second, for bench/c, bench/crdts and bench/bindings.
+/* Measures the number of calls of the C library that one thread makes in a second, for bench/c and bench/crdts.
  *
  *     calls [KEYS [KEY_BYTES VALUE_BYTES [FORMAT]]]
  *     calls KEYS FORMAT
  *
- * The first prints a line of JSON, with members named as in the yardstick's `calls`. By default there are 20000 keys
+ * The first prints a line of JSON, with members named as in the peer's `calls`. By default there are 20000 keys
  * `key-N` with values of 32 bytes, in format 1. With KEY_BYTES over 0 the keys are in no order: see entries.h. Three
- * members are measured in a process of their own, which runs first: `longest_put_us`, `bytes_per_key` (the growth of
- * resident memory over the puts) and `rehash_peak_bytes_per_key` (that of its peak over the first full rehash).
- * If a journal has no room for two versions of each key, no key is put again.
+ * members are measured in a separate process, which runs first: `longest_put_us`, `bytes_per_key` (the growth of
+ * resident memory over the puts) and `rehash_peak_bytes_per_key` (the growth of its peak over the first full rehash).
+ * If a journal is too small for two versions of each key, no key is put again.
  *
  * The second measures the memory that sessions keep, for bench/sessions. */
 #include "entries.h"
@@ -17,7 +17,7 @@
 #include <time.h>
 #include <unistd.h>
 
-/* (the greatest leaf has some 4200 rows of 4096 bytes in format 1, and 320 of 65536 in format 2) */
+/* (the largest leaf has some 4200 rows of 4096 bytes in format 1, and 320 of 65536 in format 2) */
 enum { ROOM = 1 << 25, TURNS = 200, SESSIONS = 500 };
 
 static uint8_t offer[64], ask[64], answer[ROOM], value[ANTIENTROPY_VALUE_MAX_2];
@@ -73,7 +73,7 @@ static void copy(struct antientropy *replica, unsigned long i, unsigned long of,
     must("accept", antientropy_accept(replica, key, len, clock, 1, ANTIENTROPY_LIVE, value, shape.value_bytes, &taken));
 }
 
-/* Takes over the one key that a partner's snapshot has and this replica lacks. */
+/* Takes over the one key of a partner's snapshot that this replica is missing. */
 static void sync_one(struct antientropy *replica, struct antientropy_snapshot *snapshot)
 {
     struct antientropy_taken taken = {0, 0, 0};
@@ -97,7 +97,7 @@ static size_t used(void)
     return now.uordblks + now.hblkhd;
 }
 
-/* Puts a key at one replica, and brings it to the other, by a session or as a copy. Both are rehashed. */
+/* Puts a key at one replica, and sends it to the other, by a session or as a copy. Both are rehashed. */
 static void bring(struct antientropy *a, struct antientropy *b, unsigned long i, int by_session)
 {
     struct antientropy_snapshot snapshot = {0};
@@ -112,8 +112,8 @@ static void bring(struct antientropy *a, struct antientropy *b, unsigned long i,
     antientropy_snapshot_free(&snapshot);
 }
 
-/* Prints the bytes that a session keeps: one whose roots are equal, and one that takes a key, in addition to the
- * entries and rows of that key. Sessions of each kind follow one another. */
+/* Prints the bytes that a session keeps: one with equal roots, and one that takes a key, in addition to the entries and
+ * rows of that key. Sessions of each kind follow one another. */
 static void sessions(unsigned long keys)
 {
     struct antientropy a = {0}, b = {0};
@@ -211,7 +211,7 @@ static void print_growth(unsigned long keys)
            grown / (double)keys, (peak() - before) / (double)keys);
 }
 
-/* Prints the growth from a process of its own, so that the other calls begin with an empty heap. */
+/* Prints the growth from a separate process, so that the other calls begin with an empty heap. */
 static void print_growth_apart(unsigned long keys)
 {
     int status;
@@ -224,7 +224,7 @@ static void print_growth_apart(unsigned long keys)
     must("the process for the growth", child < 0 || waitpid(child, &status, 0) != child || status != 0);
 }
 
-/* Makes all calls that are made for each key, and prints how many were made in a second. */
+/* Makes the calls that are made for each key, and prints the number of each in a second. */
 static void print_phases(struct antientropy *a, struct antientropy *b, unsigned long keys)
 {
     bool twice = keys <= (ANTIENTROPY_ENTRIES_MAX - TURNS) / 2;
@@ -253,8 +253,8 @@ static void print_phases(struct antientropy *a, struct antientropy *b, unsigned 
            twice ? keys / (at[4] - at[3]) : 0.0, keys / (at[5] - at[4]));
 }
 
-/* Runs the turns, in each of which one more key goes from a replica to the other, and prints how many of each of their
- * calls were made in a second. */
+/* Runs the turns, and prints the number of each of their calls in a second. In each turn one more key goes from one
+ * replica to the other. */
 static void print_turns(struct antientropy *a, struct antientropy *b, unsigned long keys)
 {
     double parts[4] = {0, 0, 0, 0};

@@ -1,5 +1,5 @@
-/* What the programs of this folder share: the keys and values that they put through the C library, which are those of the
- * yardstick's `calls`, refusals and times. */
+/* Helpers of the programs in this folder: the keys and values that they put through the C library, equal to those of
+ * the peer's `calls`, refusals and times. */
 #ifndef BENCH_ENTRIES_H
 #define BENCH_ENTRIES_H
 
@@ -16,15 +16,15 @@ enum { KEY_ROOM = ANTIENTROPY_KEY_MAX + 1, SCRAMBLED_KEY_MIN = 13, FIRST_BYTES =
 
 #define SCRAMBLE UINT64_C(0x9e3779b97f4a7c15)
 
-/* The format of the replicas, and the lengths of keys and values. Keys of 0 bytes are `key-` and a number. The words of
- * the program set it once. */
+/* The format of the replicas, and the lengths of keys and values. Keys of 0 bytes are `key-` and a number. The
+ * program's arguments set it once. */
 static struct {
     uint64_t format;
     size_t key_bytes, value_bytes;
 } shape = {1, 0, FIRST_BYTES};
 
-/* Sets the shape by two or three words: the lengths of keys and of values, and the format. Returns true if no length is
- * over the format's limit. */
+/* Sets the shape by two or three arguments: the lengths of keys and of values, and the format. Returns true if no
+ * length is over the format's limit. */
 static bool read_shape(int count, char **words)
 {
     shape.key_bytes = strtoul(words[0], NULL, 10);
@@ -46,8 +46,7 @@ static size_t key_of(unsigned long number, uint8_t *key)
     return len;
 }
 
-/* Writes the value of a number into ANTIENTROPY_VALUE_MAX_2 bytes. Its first 32 bytes differ from those of each other
- * number. */
+/* Writes the value of a number into ANTIENTROPY_VALUE_MAX_2 bytes. Its first 32 bytes differ for each number. */
 static void value_of(unsigned long number, uint8_t *value)
 {
     uint64_t x = number;
@@ -71,7 +70,7 @@ static inline void must(const char *call, uint32_t number)
     }
 }
 
-/* The time in milliseconds. */
+/* Returns the time in milliseconds. */
 static inline double now_ms(void)
 {
     struct timespec at;

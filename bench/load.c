@@ -1,19 +1,19 @@
-/* Puts at a pace beside a worker that makes snapshots, and prints how long both wait.
+/* Puts at a pace alongside a worker that makes snapshots, and prints the times that both wait.
  *
  *     load KEYS KEY_BYTES VALUE_BYTES FORMAT PUTS_PER_S WORKER
  *
- * The keys and values are those of entries.h. First each key is put, and all nodes are hashed. Then, for six seconds, a
- * thread rewrites keys drawn at random, and another one works. It begins a snapshot each half second, or when the one
- * before is made:
+ * The keys and values are defined in entries.h. First each key is put, and all nodes are hashed. Then, for six seconds,
+ * a thread rewrites keys drawn at random, and another one works. It begins a snapshot each half second, or when the
+ * previous one is made:
  *
  *     nothing   it does nothing
- *     moments   it holds a moment, hashes it in portions beside the puts, and makes its snapshot
+ *     moments   it holds a moment, hashes it in portions alongside the puts, and makes its snapshot
  *     rounds    it hashes some nodes under the lock, again and again, and makes a snapshot when each has a digest
  *     whole     it hashes all nodes and makes a snapshot under the lock
  *
- * The line has the milliseconds of hashing all nodes alone; the number of snapshots, and the median and the longest of
- * the milliseconds from one's begin to its end; the number of puts a second, and of their microseconds the 99.99th
- * percentile and the longest. The status is 1 if a call is refused. */
+ * The output is the milliseconds of hashing all nodes without puts; the number of snapshots, and the median and the
+ * maximum of the milliseconds from a snapshot's start to its end; the number of puts a second, and the 99.99th
+ * percentile and the maximum of their microseconds. The status is 1 if a call is refused. */
 #include "entries.h"
 
 #include <pthread.h>
@@ -51,7 +51,7 @@ static void wait_until(double time)
     clock_nanosleep(CLOCK_MONOTONIC, TIMER_ABSTIME, &at, NULL);
 }
 
-/* Rewrites keys at the pace, and keeps how long each put takes with its wait for the lock. */
+/* Rewrites keys at the pace, and keeps the time that each put takes, with its wait for the lock. */
 static void *write_keys(void *unused)
 {
     uint64_t random = 1;
@@ -73,8 +73,8 @@ static void *write_keys(void *unused)
     return unused;
 }
 
-/* Holds a moment, hashes it beside the puts, and makes its snapshot. Then it drops the moment, so that its rows are freed
- * with the snapshot, and not under the lock by the next hold. */
+/* Holds a moment, hashes it alongside the puts, and makes its snapshot. Then it drops the moment, so that its rows are
+ * freed with the snapshot, not by the next hold under the lock. */
 static void snapshot_moment(struct antientropy_snapshot *snapshot)
 {
     uint64_t left = 1;
@@ -119,7 +119,7 @@ static void snapshot_whole(struct antientropy_snapshot *snapshot)
     pthread_mutex_unlock(&lock);
 }
 
-/* Makes snapshots until the puts end, and keeps how long each takes. */
+/* Makes snapshots until the puts end, and keeps the time that each takes. */
 static void make_snapshots(void (*make)(struct antientropy_snapshot *))
 {
     while (!atomic_load(&is_over) && snapshots < SNAPSHOTS) {
@@ -139,7 +139,7 @@ static int compare(const void *a, const void *b)
     return (x > y) - (x < y);
 }
 
-/* The time at a part of the sorted times, or 0 if there are none. */
+/* Returns the time at a part of the sorted times, or 0 if `count` is 0. */
 static double at_part(double *times, size_t count, double part)
 {
     size_t place = (size_t)((double)count * part);

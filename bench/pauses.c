@@ -1,13 +1,14 @@
-/* Renews a replica while another thread puts into it, and prints how long the puts waited.
+/* Renews a replica while another thread puts into it, and prints the times that the puts waited.
  *
  *     pauses KEYS KEY_BYTES VALUE_BYTES FORMAT stopped|beside
  *
- * The keys and values are those of entries.h. The writer rewrites keys in turn, 10,000 a second, and notes how long each
- * put takes from the time at which it is due. The other thread renews the replica: with the writer stopped
- * (antientropy_renew), or beside its puts (antientropy_renewal_begin and those after it). The line has the milliseconds
- * of the renewal, with the old replica freed; those of its thread's processor; the number of puts from the beginning of
- * the renewal to a tenth of a second after its end; the microseconds that one of 10,000 puts took at least, and the
- * longest; and the number of entries that the new replica caught up with. The status is 1 if a call is refused. */
+ * The keys and values are defined in entries.h. The writer rewrites keys in turn, 10,000 a second, and notes the time
+ * that each put takes from the time at which it is due. The other thread renews the replica: with the writer stopped
+ * (antientropy_renew), or alongside its puts (antientropy_renewal_begin and the calls after it). The output is the
+ * milliseconds of the renewal, with the old replica freed; the milliseconds of its thread's processor time; the number
+ * of puts from the start of the renewal to a tenth of a second after its end; the microseconds that one of 10,000 puts
+ * took at least, and the maximum; and the number of entries that the new replica caught up with. The status is 1 if a
+ * call is refused. */
 #include "entries.h"
 
 #include <pthread.h>
@@ -83,7 +84,7 @@ static unsigned renew_stopped(void)
     return 0;
 }
 
-/* Renews the replica beside the puts. Returns the number of entries that it caught up with. */
+/* Renews the replica alongside the puts. Returns the number of entries that it caught up with. */
 static unsigned renew_beside(void)
 {
     struct antientropy_renewal renewal = {0};
@@ -112,7 +113,7 @@ static unsigned renew_beside(void)
     return (unsigned)(after.entries - before.entries);
 }
 
-/* The time of this thread's processor in milliseconds. */
+/* Returns this thread's processor time in milliseconds. */
 static double processor_ms(void)
 {
     struct timespec at;

@@ -1,9 +1,9 @@
-/* Gets rows of one snapshot in threads, each by a handle of its own, and prints how many.
+/* Gets rows of one snapshot in threads, each through a handle of its own, and prints the number of gets.
  *
  *     readers KEYS KEY_BYTES VALUE_BYTES FORMAT THREADS
  *
- * The keys and values are those of entries.h. For two seconds each thread gets the rows of keys that it draws at random.
- * The line has the number of thousands of gets a second, of all threads together. The status is 1 if a call is refused
+ * The keys and values are defined in entries.h. For two seconds each thread gets the rows of keys that it draws at
+ * random. The output is the thousands of gets a second, of all threads together. The status is 1 if a call is refused
  * or a row is missing. */
 #include "entries.h"
 

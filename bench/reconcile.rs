@@ -1,6 +1,6 @@
-//! Reconciles two ranges of the yardstick, turn by turn: a sync each way over memory, on snapshots that were taken
-//! before both. `bench/reconcile` builds this file into a copy of the yardstick. The words, the keys and the standard
-//! output are those of the program of the crate `bench_costs`.
+//! Reconciles two ranges, turn by turn: a sync each way over memory, on snapshots that were taken before both.
+//! `bench/reconcile` builds this file into a copy of the program of `YARDSTICK`, if that has no such command. The
+//! words, the keys and the standard output are those of the program of the crate `bench_costs`.
 use crate::shared::*;
 use crate::*;
 use std::sync::Mutex;

@@ -1,8 +1,8 @@
-/* Renews a replica, saves it, and loads it again, and prints the times.
+/* Renews a replica, saves it, loads it, and prints the times.
  *
  *     renewals KEYS KEY_BYTES VALUE_BYTES FORMAT
  *
- * The keys and values are those of entries.h. Each key has one version, whose clock has one pair. The line has the
+ * The keys and values are defined in entries.h. Each key has one version, whose clock has one pair. The output is the
  * milliseconds of the renewal, of writing all rows into memory, and of loading them into a new replica, and the bytes
  * of the rows. The status is 1 if a call is refused or the rows differ in the end. */
 #include "entries.h"

@@ -1,18 +1,18 @@
-/* Syncs a replica many times with puts between, and prints what it keeps and how long it takes to free.
+/* Syncs a replica many times with puts in between, and prints the memory that it keeps and the time to free it.
  *
  *     syncs KEYS KEY_BYTES VALUE_BYTES FORMAT ROUNDS REWRITES NEWS WAY
  *
- * The keys and values are those of entries.h. Two replicas hold each key. In each round, node 1 rewrites REWRITES keys
- * drawn at random and sends copies to node 2; then node 2 rewrites NEWS keys, which node 1 gets:
+ * The keys and values are defined in entries.h. Two replicas hold each key. In each round, node 1 rewrites REWRITES
+ * keys drawn at random and sends copies to node 2; then node 2 rewrites NEWS keys, which node 1 gets:
  *
  *     copies    as copies, without a session
  *     syncs     by a sync, which drops its session at its end
  *     keeps     by a sync that keeps its session
  *
- * In each way both trees are hashed after each round, and node 2 makes a snapshot. The line has the bytes that malloc
- * lends at the end, with those of blocks that it maps, the number of sessions kept, the milliseconds of freeing node 1's
- * replica, and those of a round's session, as a mean; then the bytes of node 1's rows, journal and sessions, and the
- * milliseconds of asking for them. The status is 1 if a call is refused, or the roots differ at the end. */
+ * In each way both trees are hashed after each round, and node 2 makes a snapshot. The output is the bytes that malloc
+ * has allocated at the end, including mapped blocks, the number of sessions kept, the milliseconds of freeing node 1's
+ * replica, and the mean milliseconds of a round's session; then the bytes of node 1's rows, journal and sessions, and
+ * the milliseconds of asking for them. The status is 1 if a call is refused, or the roots differ at the end. */
 #include "entries.h"
 
 #include <malloc.h>
@@ -26,7 +26,7 @@ static unsigned long keys;
 static uint64_t (*counters)[2];
 static uint64_t state = 1;
 
-/* A key drawn at random. */
+/* Draws the number of a key at random. */
 static unsigned long draw(void)
 {
     state = state * UINT64_C(6364136223846793005) + UINT64_C(1442695040888963407);
@@ -43,7 +43,7 @@ static size_t clock_of(unsigned long number, struct antientropy_pair *pairs)
     return len;
 }
 
-/* Puts a key at a node, and sends a copy to another replica, if there is one. */
+/* Puts a key at a node, and sends a copy to another replica unless it is NULL. */
 static void put(struct antientropy_replica *at, unsigned node, struct antientropy_replica *to, unsigned long number)
 {
     static uint8_t value[ANTIENTROPY_VALUE_MAX_2];
@@ -82,7 +82,7 @@ static void sync_with(const struct antientropy_snapshot *snapshot, enum way way)
         must("drop_sessions", antientropy_drop_sessions(&here));
 }
 
-/* Hashes both trees, and returns the milliseconds of a session, if there is one. */
+/* Hashes both trees, and returns the milliseconds of the round's session, if any. */
 static double end_round(enum way way)
 {
     struct antientropy_snapshot snapshot = {0};
