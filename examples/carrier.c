@@ -1,15 +1,15 @@
-/* Hints for a node that is down, delivered when it is back; and slots, which admit background work while the foreground
- * is fast.
+/* Hints for a node that is down, delivered when it is up again; and slots, which admit background work while the
+ * foreground is fast.
  *
  *     carrier FOLDER
  *
  * The hints are the second copies of their versions, so a log in FOLDER keeps them. The carrier is killed, and keeps
- * its pending hints again. Then each bit of the log's files flips, one at a time: that takes 1,700 starts, so a folder
+ * its pending hints again. Then each bit of the log's files flips, one at a time. That takes 1,700 starts, so a folder
  * in memory is faster. The program prints what happens, and ends with status 1 if a call returns another number than
  * the one wanted. Build it with disk.c.
  *
  * The log is the file hints.N. Each start and each renewal begins the next one, with the pending hints, in one step.
- * Its places, and the numbers that a start gives to hints, begin at N * 2^40. So no number names two hints, even if a
+ * Its places, and the numbers that a start gives to hints, begin at N * 2^40, so no number names two hints, even if a
  * log is damaged. */
 #define _POSIX_C_SOURCE 200809L
 #include "antientropy.h"
@@ -60,7 +60,7 @@ static struct version version_of(struct antientropy_hints *hints, uint64_t id)
     return of;
 }
 
-/* Appends the record of a kept hint: its number, kind, clock, key and value. All are for one owner here. */
+/* Appends the record of a kept hint: its number, kind, clock, key and value. All hints here are for one owner. */
 static void add_kept(struct carrier *carrier, struct bytes *log, uint64_t id)
 {
     struct version version = version_of(&carrier->hints, id);
@@ -96,7 +96,7 @@ static struct version logged_version(const uint8_t *record)
     return version;
 }
 
-/* Writes a record at the end of the log. Nothing of it may go out before. */
+/* Writes a record at the end of the log. Its contents may not go out before. */
 static void log_record(struct carrier *carrier, struct bytes *record)
 {
     append_record(carrier->log, record);
@@ -125,7 +125,7 @@ static void begin_log(struct carrier *carrier)
 
 /* ---- the start */
 
-/* Returns true if a log has the confirm of a hint. */
+/* Returns true if a log has the confirmation of a hint. */
 static bool is_confirmed(const uint8_t *log, size_t len, uint64_t id)
 {
     for (size_t at = 0; at < len; at += record_len(log + at, len - at))
@@ -142,7 +142,7 @@ static uint64_t keep_version(struct antientropy_hints *hints, const struct versi
     return id;
 }
 
-/* Keeps the hints of an old log again that weren't confirmed. They get new numbers. */
+/* Keeps the unconfirmed hints of an old log again, under new numbers. */
 static void keep_again(struct antientropy_hints *hints, const uint8_t *log, size_t len)
 {
     for (size_t at = 0; at < len; at += record_len(log + at, len - at)) {
@@ -153,9 +153,8 @@ static void keep_again(struct antientropy_hints *hints, const uint8_t *log, size
     }
 }
 
-/* Starts the carrier with the hints that are in the log, and not confirmed there. A first start has no log, and no
- * synced place above 0. Returns false if the log is damaged: then hints are lost behind the damage, and their owners
- * get the versions by a sync alone. */
+/* Starts the carrier with the log's unconfirmed hints. A first start has no log, and no synced place above 0. Returns
+ * false if the log is damaged: hints after the damage are lost, and their owners get the versions only by a sync. */
 static bool start(struct carrier *carrier)
 {
     struct bytes log = {0};
@@ -195,7 +194,8 @@ static void end(struct carrier *carrier)
 
 /* ---- hints */
 
-/* Puts a value at node 1, and keeps it as a hint for the owner, which is down. The put may be acknowledged then. */
+/* Puts a value at node 1, and keeps it as a hint for the owner, which is down. Afterwards the put may be
+ * acknowledged. */
 static uint64_t put(struct antientropy_replica *replica, struct carrier *carrier, const char *key, const char *value)
 {
     struct version version = {.kind = ANTIENTROPY_LIVE, .key_len = strlen(key), .len = strlen(value), .pairs = 1};
@@ -213,8 +213,8 @@ static uint64_t put(struct antientropy_replica *replica, struct carrier *carrier
     return id;
 }
 
-/* Confirms a hint after the owner has its version on its disk, and logs that. A hint whose confirm isn't in the log is
- * sent once more, and is known then. */
+/* Confirms a hint after the owner has its version on disk, and logs the confirmation. A hint whose confirmation isn't
+ * in the log is sent once more, and the owner knows it. */
 static void confirm(struct carrier *carrier, uint64_t id, bool known)
 {
     struct bytes record = {0};
@@ -226,7 +226,7 @@ static void confirm(struct carrier *carrier, uint64_t id, bool known)
     show_hint(id, known ? "known" : "taken");
 }
 
-/* Hands a hint to its owner. Returns true if the owner knew the version. */
+/* Sends a hint to its owner. Returns true if the owner knew the version. */
 static bool send(struct antientropy_hints *hints, uint64_t id, struct antientropy_replica *owner)
 {
     struct version of = version_of(hints, id);
@@ -259,7 +259,8 @@ static void restart(struct carrier *carrier, bool whole)
     want("a restart", start(carrier), whole);
 }
 
-/* Starts the carrier with other bytes in the first of two files of its log, or without it, and with the second one. */
+/* Starts the carrier with other bytes in the first of two files of its log, or without that file, and with the
+ * second. */
 static void try_start(struct carrier *carrier, const char *name, const struct bytes *file, const char *other_name,
                       const struct bytes *other, bool whole)
 {
@@ -271,8 +272,8 @@ static void try_start(struct carrier *carrier, const char *name, const struct by
     restart(carrier, whole);
 }
 
-/* Flips each bit of a file of the log, cuts it at each byte, and removes it, one at a time. Each start must see the
- * damage, and its numbers must be above those that were used. Then both files are as before. */
+/* Flips each bit of a file of the log, cuts it at each byte, and removes it, one at a time. Each start must detect the
+ * damage, and its numbers must be above the used ones. Afterwards both files are unchanged. */
 static void damage(struct carrier *carrier, const char *name, const char *other_name)
 {
     struct bytes file = {0}, other = {0};
@@ -332,7 +333,7 @@ static void carry(struct carrier *carrier)
     confirm(carrier, cart, send(&carrier->hints, cart, &owner));
     send(&carrier->hints, order, &owner);
 
-    /* The owner has taken the order, but its response arrives after a kill: the number names no other hint then. */
+    /* The owner has taken the order, but its response arrives after a kill. By then the number names no other hint. */
     if (write(carrier->log, "\0\0\1\0", 4) != 4)
         fail("write");
     restart(carrier, true);

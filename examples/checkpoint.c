@@ -102,7 +102,7 @@ const char *load_checkpoint(struct antientropy_replica *replica, struct range ra
         if (memcmp(root, file->at + CHECKPOINT_ROOT_AT, sizeof root) != 0)
             wrong = "its root differs";
     }
-    /* The root is that of the file's format, so the migration comes after it. */
+    /* The root belongs to the file's format, so the migration follows its comparison. */
     if (wrong == NULL && format < range.format)
         want("migrate", antientropy_migrate(replica), ANTIENTROPY_OK);
     if (wrong != NULL)

@@ -1,10 +1,9 @@
-/* How keys that nobody can put any more are removed from a range.
+/* Removes keys that can no longer be put from a range.
  *
- * A partner, hostile or at fault, brought two versions: one with 32 nodes that nobody uses, so that a put of its key
- * would need a clock of 33 pairs, and one with the greatest counter of node 1. Both keys can't be put any more, and a
- * renewal keeps them. So each replica is made anew from its rows, without those of the two keys. As long as one replica
- * has them, a sync brings them back. The program prints each step, and ends with status 1 if a call returns another
- * number than the one wanted. */
+ * A partner, hostile or at fault, sent two versions: one with 32 unused nodes, so that a put of its key would need a
+ * clock of 33 pairs, and one with the maximum counter of node 1. Both keys can no longer be put, and a renewal keeps
+ * them. Each replica is rebuilt from its rows without the two keys. As long as one replica has them, a sync restores
+ * them. The program prints each step, and ends with status 1 if a call returns another number than the one wanted. */
 #include "antientropy.h"
 
 #include <stdbool.h>
@@ -25,7 +24,7 @@ static void want(const char *call, uint32_t got, uint32_t wanted)
     }
 }
 
-/* Accepts a version that a partner brought. */
+/* Accepts a version from a partner. */
 static void accept(struct antientropy_replica *replica, const char *key, const struct antientropy_pair *clock,
                    size_t pairs, const char *value)
 {
@@ -34,8 +33,8 @@ static void accept(struct antientropy_replica *replica, const char *key, const s
                                       (const uint8_t *)value, strlen(value), &taken), ANTIENTROPY_OK);
 }
 
-/* Puts a value at a node, with the clock of the version that is held as the context, and prints what the call returns.
- * No key here has two versions. */
+/* Puts a value at a node, with the held version's clock as the context, and prints the result. No key here has two
+ * versions. */
 static void put(struct antientropy_replica *replica, unsigned node, const char *key, const char *value)
 {
     struct antientropy_pair context[ANTIENTROPY_CLOCK_MAX];
@@ -75,7 +74,7 @@ static void sync(struct antientropy_replica *replica, unsigned node, struct anti
     printf("  node %u syncs from node %u: %llu new\n", node, partner_node, (unsigned long long)accepted);
 }
 
-/* Makes a replica anew by a renewal. */
+/* Rebuilds a replica by a renewal. */
 static void renew(struct antientropy_replica *replica)
 {
     struct antientropy_replica renewed = {0};
@@ -84,7 +83,7 @@ static void renew(struct antientropy_replica *replica)
     *replica = renewed;
 }
 
-/* Returns true if a key can't be put any more. */
+/* Returns true if a key can no longer be put. */
 static bool is_unwritable(const uint8_t *key, size_t len)
 {
     for (size_t at = 0; at < sizeof unwritable / sizeof *unwritable; at++)
@@ -93,7 +92,7 @@ static bool is_unwritable(const uint8_t *key, size_t len)
     return false;
 }
 
-/* Makes a replica anew by a load of its rows, without those of the unwritable keys. */
+/* Rebuilds a replica by a load of its rows, without the unwritable keys. */
 static void clean(struct antientropy_replica *replica, unsigned node)
 {
     static uint8_t key[ANTIENTROPY_KEY_MAX], row[ROOM];

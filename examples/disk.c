@@ -10,7 +10,7 @@
 #include <string.h>
 #include <unistd.h>
 
-/* The file of a synced place has the place and a checksum. */
+/* The file of a synced place: the place and a checksum. */
 enum { PATH_ROOM = 4096, SYNCED_LEN = 16 };
 
 void want(const char *call, uint32_t got, uint32_t wanted)
@@ -121,7 +121,7 @@ struct name name_of(const char *kind, uint64_t number)
     return name;
 }
 
-/* Returns the number of a file of a kind, or 0 if the name isn't one. `end` is what follows the number. */
+/* Returns the number of a file of a kind, or 0 if the name isn't one. `end` points after the number. */
 static uint64_t number_of(const char *name, const char *kind, char **end)
 {
     size_t len = strlen(kind);

@@ -1,4 +1,4 @@
-/* Two replicas of a range: one is away while the other takes writes, and they are brought together by messages.
+/* Two replicas of a range: one is away while the other takes writes, and messages bring them together.
  *
  * It prints what happens, and ends with status 1 if a call returns another number than the one wanted. */
 #include "antientropy.h"
@@ -7,13 +7,13 @@
 #include <stdlib.h>
 #include <string.h>
 
-/* A session takes each of the 4,369 nodes of a tree of format 2 at most once. Bad answers are counted apart: more than
- * a few mean that the link or the partner is at fault. */
+/* A session takes each of the 4,369 nodes of a tree of format 2 at most once. Bad answers are counted separately: more
+ * than a few mean that the link or the partner is at fault. */
 enum { OFFER = 7, MOST_ASKS = 10000, MOST_BAD = 8, PORTION = 64, MARK_WIDTH = 3 };
 
 static uint8_t offer[ANTIENTROPY_OFFER_LEN], ask[ANTIENTROPY_ASK_ROOM], text[ANTIENTROPY_VALUE_MAX_2];
 
-/* The room of an answer, which grows: the answer of a leaf has no fixed limit. */
+/* The buffer of an answer, which grows: the answer of a leaf has no fixed limit. */
 static uint8_t *answer;
 static size_t room;
 
@@ -26,7 +26,7 @@ static void want(const char *call, uint32_t got, uint32_t wanted)
     }
 }
 
-/* Makes room for an answer of this length. */
+/* Grows the buffer to the length of an answer. */
 static void make_room(uint64_t len)
 {
     free(answer);
@@ -47,7 +47,7 @@ static void put(struct antientropy_replica *replica, uint64_t node, const char *
     want("put", got, ANTIENTROPY_OK);
 }
 
-/* The versions of a key. */
+/* Returns the number of versions of a key. */
 static unsigned long long versions(const struct antientropy_replica *replica, const char *key)
 {
     uint64_t count;
@@ -55,8 +55,8 @@ static unsigned long long versions(const struct antientropy_replica *replica, co
     return (unsigned long long)count;
 }
 
-/* Holds a replica's rows now as its moment, and hashes them in portions. Puts may come between the portions: they don't
- * change the moment. */
+/* Holds a replica's current rows as its moment, and hashes them in portions. Puts may be made between the portions:
+ * they don't change the moment. */
 static void hold(struct antientropy_replica *replica)
 {
     uint64_t left;
@@ -66,7 +66,7 @@ static void hold(struct antientropy_replica *replica)
     while (left > 0);
 }
 
-/* The message of the offer of a replica's rows now, under a number. */
+/* Writes the message that offers a replica's current rows under a number, and returns its length. */
 static uint64_t offer_now(struct antientropy_replica *replica, struct antientropy_snapshot *snapshot, uint32_t number)
 {
     uint64_t len;
@@ -76,7 +76,7 @@ static uint64_t offer_now(struct antientropy_replica *replica, struct antientrop
     return len;
 }
 
-/* Returns the root of a replica's rows now. */
+/* Writes the root of a replica's current rows. */
 static void root_of(struct antientropy_replica *replica, uint8_t *root)
 {
     struct antientropy_snapshot snapshot = {0};
@@ -96,14 +96,14 @@ static bool equal_roots(struct antientropy_replica *a, struct antientropy_replic
     return memcmp(first, second, sizeof first) == 0;
 }
 
-/* Returns whether an answer was refused without harm: the next ask is for the same node. */
+/* Returns true if an answer was refused without harm: the next ask is for the same node. */
 static bool is_bad_answer(uint32_t got)
 {
     return got == ANTIENTROPY_BAD_MESSAGE || got == ANTIENTROPY_NOT_ASKED || got == ANTIENTROPY_WRONG_DIGEST;
 }
 
 /* Writes the message for the outstanding node at a place, and returns the number of its bytes: an outline, so that the
- * partner sends only what is lacking, or the ask, if the outline doesn't fit or the answer before was bad. */
+ * partner sends only the missing parts, or the ask, if the outline doesn't fit or the answer before was bad. */
 static uint64_t message_for(const struct antientropy_replica *replica, uint64_t session, uint64_t place,
                             uint32_t number, bool was_bad)
 {
@@ -115,8 +115,8 @@ static uint64_t message_for(const struct antientropy_replica *replica, uint64_t 
     return len;
 }
 
-/* Answers the ask from a snapshot, and returns the number of bytes. If they don't fit, it makes room and serves
- * again. */
+/* Answers the ask from a snapshot, and returns the number of bytes. If they don't fit, the buffer grows and the ask is
+ * served again. */
 static uint64_t serve(const struct antientropy_snapshot *offered, uint64_t ask_len)
 {
     uint64_t len;
@@ -130,7 +130,8 @@ static uint64_t serve(const struct antientropy_snapshot *offered, uint64_t ask_l
 }
 
 /* Syncs a replica from a partner, and prints the numbers of asks and of new versions. The second answer is forged, and
- * is refused. A leaf with a crowded key is left, and the nodes after it are asked. The session is dropped at the end. */
+ * is refused. A leaf with a crowded key is left, and the nodes after it are asked. The session is dropped at the
+ * end. */
 static void sync(struct antientropy_replica *replica, struct antientropy_replica *partner)
 {
     struct antientropy_snapshot offered = {0};
@@ -170,7 +171,7 @@ static void sync(struct antientropy_replica *replica, struct antientropy_replica
            state == ANTIENTROPY_FINISHED ? "finished" : "not finished");
 }
 
-/* Prints the entries of a replica's journal from a number on: what calls since then have brought. */
+/* Prints the entries of a replica's journal from a number on: the results of the calls since then. */
 static void follow(const struct antientropy_replica *replica, uint64_t from)
 {
     static const char *const sources[] = {"a put", "a copy", "a hint", "a partner"};
@@ -222,7 +223,7 @@ static void merge(struct antientropy_replica *replica, uint64_t node, const char
          ANTIENTROPY_NO_VERSION);
 }
 
-/* Brings a replica a hint that was kept for it while it was away, twice, and compares its clock with another one. */
+/* Sends a replica twice a hint that was kept for it while it was away, and compares its clock with another one. */
 static void deliver(struct antientropy_replica *replica)
 {
     const struct antientropy_pair clock[] = {{3, 1}}, other[] = {{1, 1}};
@@ -236,7 +237,7 @@ static void deliver(struct antientropy_replica *replica)
     printf("its clock and node 1's first are %s\n", order == ANTIENTROPY_APART ? "concurrent" : "in order");
 }
 
-/* Makes a new replica that begins with the versions that an old one holds, in place of that one. */
+/* Replaces a replica by a new one that begins with the versions that the old one holds. */
 static void renew(struct antientropy_replica *replica)
 {
     struct antientropy_replica old = *replica;

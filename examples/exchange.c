@@ -1,8 +1,9 @@
-/* Exchanges with a partner: the loop of a sync. A replica takes all that a partner has; a partner that answers each ask
- * for a leaf with the text of the first leaf, which is crowded, leaves that leaf alone (of a leaf that isn't asked for
- * yet, such an answer would count as bad); a partner sends patches, lies in each of them, or refuses outlines, and the
- * replica takes all that it has; and a sync under a deadline goes on later, after a put, in one session. The program
- * prints how far each exchange is, and ends with status 1 if a call returns another number than the one wanted. */
+/* Exchanges with a partner: the loop of a sync. A replica takes all versions of a partner. A partner sends the text of
+ * the first leaf, which is crowded, for each ask for a leaf, and only that leaf is left (for a leaf that isn't asked
+ * for yet, such an answer would count as bad). A partner sends patches, forges each of them, or refuses outlines, and
+ * the replica takes all its versions. A sync under a deadline continues later, after a put, in the same session. The
+ * program prints the progress of each exchange, and ends with status 1 if a call returns another number than the one
+ * wanted. */
 #include "antientropy.h"
 
 #include <stdio.h>
@@ -35,7 +36,7 @@ static void put(struct antientropy_replica *replica, uint64_t node, const char *
                                    (const uint8_t *)"milk", 4, &receipt));
 }
 
-/* Makes a replica that is whole, with values that a node put for some keys. */
+/* Makes a replica with a whole moment, with values that a node put for some keys. */
 static void fill(struct antientropy_replica *replica, uint64_t node, unsigned keys)
 {
     char key[16];
@@ -59,7 +60,7 @@ static void offer_now(const struct antientropy_replica *partner, struct antientr
     ok("offer", antientropy_offer(offered, OFFER, offer, sizeof offer, &len));
 }
 
-/* Prints how far an exchange is. */
+/* Prints the progress of an exchange. */
 static void show(const char *name, struct antientropy_exchange *exchange, const struct antientropy_replica *replica)
 {
     struct antientropy_progress progress;
@@ -69,7 +70,7 @@ static void show(const char *name, struct antientropy_exchange *exchange, const 
            (unsigned long long)progress.on_way);
 }
 
-/* Sends asks and takes the partner's answers, until there is no ask or `most` were sent. Returns their bytes. */
+/* Sends asks and takes the partner's answers, until no ask is left or `most` were sent. Returns their bytes. */
 static uint64_t sync_some(struct antientropy_exchange *exchange, struct antientropy_replica *replica,
                           const struct antientropy_snapshot *offered, unsigned most)
 {
@@ -95,7 +96,7 @@ static void end(struct antientropy_exchange *exchange, struct antientropy_replic
     antientropy_exchange_free(exchange);
 }
 
-/* A sync of a replica with a partner. */
+/* Syncs a replica with a partner. */
 static void sync_all(const struct antientropy_snapshot *offered)
 {
     struct antientropy_replica replica = {0};
@@ -108,7 +109,7 @@ static void sync_all(const struct antientropy_snapshot *offered)
     antientropy_free(&replica);
 }
 
-/* Accepts as many versions of a key as a key can have. */
+/* Accepts the maximum number of versions of a key. */
 static void crowd(struct antientropy_replica *replica, const char *key)
 {
     uint64_t taken, left;
@@ -140,7 +141,7 @@ static uint64_t first_leaf(char *first, size_t room)
     return least;
 }
 
-/* A partner that answers each ask for a leaf with the text of the leaf of a crowded key. The other asks are lost. */
+/* Syncs with a partner that sends the text of a crowded key's leaf for each ask for a leaf. The other asks are lost. */
 static void sync_crowded(const struct antientropy_snapshot *offered)
 {
     static uint8_t crowded[ROOM];
@@ -173,8 +174,8 @@ static void sync_crowded(const struct antientropy_snapshot *offered)
     antientropy_free(&replica);
 }
 
-/* Makes a replica that is whole, with some keys, whose values have so many bytes. Of each one after so many, up to
- * 1,100 keys, it holds this version, and of the others the first one. */
+/* Makes a replica with a whole moment, with some keys, whose values have `bytes` bytes. It holds this version of one in
+ * `after` keys, up to 1,100 keys, and the first version of the others. */
 static void fill_versions(struct antientropy_replica *replica, unsigned keys, unsigned after, size_t bytes,
                           uint64_t version)
 {
@@ -194,11 +195,11 @@ static void fill_versions(struct antientropy_replica *replica, unsigned keys, un
     while (left > 0);
 }
 
-/* What a partner does with outlines: it serves them, changes a byte of each patch, or is of a version before them. */
+/* A partner's handling of outlines: it serves them, changes a byte of each patch, or has a version without outlines. */
 enum partner { SERVES, LIES, REFUSES };
 
-/* A sync with a partner that has another version of ten keys, each in a leaf of its own. An outline is sent for each of
- * these leaves, since a row has over 255 bytes. Without a text from the first three of them no more are sent. */
+/* Syncs with a partner that has another version of ten keys, each in a leaf of its own. An outline is sent for each of
+ * these leaves, since a row has over 255 bytes. If the first three lead to no text, no more are sent. */
 static void sync_by_outlines(const char *name, enum partner does)
 {
     struct antientropy_replica replica = {0}, partner = {0};
@@ -232,8 +233,8 @@ static void sync_by_outlines(const char *name, enum partner does)
     antientropy_free(&replica);
 }
 
-/* A sync that stops at a deadline after each 100 asks, and goes on in the same session after a put. Patches travel in
- * place of texts of 3 MB. */
+/* Runs a sync that stops at a deadline after each 100 asks, and continues in the same session after a put. Patches are
+ * sent in place of texts of 3 MB. */
 static void sync_by_ticks(void)
 {
     struct antientropy_replica replica = {0}, partner = {0};

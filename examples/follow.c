@@ -1,14 +1,14 @@
-/* A reader that follows the journal of a replica by antientropy_entries, as a log or an index does: it keeps one number,
- * the count of entries that it has, which goes on over renewals. A reader that missed entries of before a renewal reads
- * the whole journal. The program prints what it reads, and ends with status 1 if a call returns another number than the
- * one wanted. */
+/* A reader that follows the journal of a replica by antientropy_entries, like a log or an index. It keeps one number,
+ * the count of entries that it has, which continues across renewals. A reader that missed entries from before a renewal
+ * reads the whole journal. The program prints the entries, and ends with status 1 if a call returns another number than
+ * the one wanted. */
 #include "antientropy.h"
 
 #include <stdio.h>
 #include <stdlib.h>
 #include <string.h>
 
-/* LIMIT is the limit of the journal. ROOM holds two of the entries here, not three. */
+/* LIMIT is the limit of the journal. ROOM bytes hold two of the entries here, not three. */
 enum { LIMIT = 4, ROOM = 60 };
 
 static const char *const sources[] = {"a put", "a copy", "a hint", "a partner"};
@@ -43,7 +43,7 @@ static size_t show(uint64_t number, const uint8_t *entry)
     return value + value_len - entry;
 }
 
-/* Reads the entries from a position on, and moves it. Returns false if it is no position of the journal. */
+/* Reads the entries from a position on, and moves it. Returns false if it isn't a position of the journal. */
 static bool follow(const struct antientropy_replica *replica, uint64_t *position)
 {
     uint8_t packed[ROOM];
@@ -77,7 +77,7 @@ static void renew(struct antientropy_replica *replica)
     printf("renewed: the journal begins with entry %llu\n", (unsigned long long)counts_of(replica).first);
 }
 
-/* Puts a value in place of all that is held for its key. */
+/* Puts a value in place of all held versions of its key. */
 static void put(struct antientropy_replica *replica, const char *key, const char *value)
 {
     struct antientropy_pair context[ANTIENTROPY_CLOCK_MAX];

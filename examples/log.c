@@ -1,10 +1,10 @@
-/* A replica with a log on the disk, from which it returns under its own node number after a crash.
+/* A replica with a log on disk. After a crash it returns from the log under its own node number.
  *
  *     log FOLDER
  *
  * A store is killed while it writes a record, and started again; it renews its replica, migrates it, and makes a
- * checkpoint. Then a bit of its log flips: it can't go on under its number, and returns as another node, with a sync
- * from a partner. log_store.h says what its files are, and log_faults.c tries each single fault of theirs. The program
+ * checkpoint. Then a bit of its log flips: it can't continue under its number, and returns as another node, with a sync
+ * from a partner. log_store.h describes its files, and log_faults.c tries each single fault of the files. The program
  * prints what happens, and ends with status 1 if a call returns another number than the one wanted. Build it with
  * log_store.c, checkpoint.c and disk.c. */
 #define _POSIX_C_SOURCE 200809L
@@ -24,7 +24,7 @@ static void put(struct store *store, const char *key, uint8_t kind, const char *
            (unsigned long long)counter);
 }
 
-/* Starts a store, and prints what it has or what is damaged. */
+/* Starts a store, and prints its contents or the damage. */
 static bool show_start(struct store *store, struct antientropy_snapshot *partner)
 {
     struct antientropy_counts counts;
@@ -61,7 +61,7 @@ static void flip(const char *folder, const char *name, size_t byte)
     free(file.at);
 }
 
-/* A store lives through a kill, renewals, a migration and a checkpoint. Then a bit of its log flips, and it goes on as
+/* Runs a store through a kill, renewals, a migration and a checkpoint. Then a bit of its log flips, and it continues as
  * another node. */
 static void live(const char *folder, const char *next_folder)
 {

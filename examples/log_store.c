@@ -1,4 +1,4 @@
-/* A replica with a log on the disk: log_store.h says what its files are. */
+/* A replica with a log on disk: log_store.h describes its files. */
 #define _XOPEN_SOURCE 700
 #include "log_store.h"
 
@@ -41,8 +41,8 @@ static void write_manifest(const struct store *store)
     free(file.at);
 }
 
-/* Reads the manifest. Returns why the folder can't be this store's, or NULL. If the manifest is damaged, its format is
- * 0 then. */
+/* Reads the manifest. Returns the reason why the folder can't be this store's, or NULL. If the manifest is damaged, its
+ * format is 0. */
 static const char *read_manifest(struct store *store)
 {
     struct manifest *manifest = &store->manifest;
@@ -132,7 +132,8 @@ void store_log(struct store *store)
     note_synced(store->synced, store->place);
 }
 
-/* Renews the replica. All its entries are logged, and so are those of the new journal: one for each version held. */
+/* Renews the replica. All its entries are logged, and all entries of the new journal are too: one for each version
+ * held. */
 static void renew(struct store *store)
 {
     struct antientropy_replica old = store->replica;
@@ -177,8 +178,8 @@ static void new_replica(struct store *store)
          ANTIENTROPY_OK);
 }
 
-/* Returns what a folder has that a first start would lose, or NULL. A first start that was killed has left an empty log
- * file, and a synced place that is 0 or wasn't written. */
+/* Returns a description of a folder's contents that a first start would lose, or NULL. A first start that was killed
+ * leaves an empty log file, and a synced place that is 0 or wasn't written. */
 static const char *is_used(const struct store *store)
 {
     int manifest = open_file(store->folder, "manifest", O_RDONLY);
@@ -253,8 +254,8 @@ static const char *load_record(struct store *store, const uint8_t *at)
     return got == ANTIENTROPY_OK ? NULL : "the rows of a record are damaged";
 }
 
-/* Cuts off a torn tail, and leaves the last file open. It is synced, since after a crash of the process alone it can
- * have records that aren't on the disk. */
+/* Cuts off a torn tail, and leaves the last file open. The file is synced, since after a crash of only the process it
+ * can have records that aren't on disk. */
 static void open_last(struct store *store, const char *name, size_t whole, size_t len)
 {
     store->torn = len - whole;
@@ -264,7 +265,7 @@ static void open_last(struct store *store, const char *name, size_t whole, size_
     sync_file(store->file);
 }
 
-/* Loads the records of a log file. All before the place `synced` must be there. */
+/* Loads the records of a log file. All records before the place `synced` must exist. */
 static const char *load_file(struct store *store, uint64_t number, uint64_t synced)
 {
     const bool last = number == store->manifest.last;
@@ -289,8 +290,8 @@ static const char *load_file(struct store *store, uint64_t number, uint64_t sync
     return wrong;
 }
 
-/* Returns true if the file after the last one has records: then the manifest is older than the log. If it is empty, a
- * kill has left it, and it is removed. */
+/* Returns true if the file after the last one has records, so that the manifest is older than the log. An empty file is
+ * left from a kill, and is removed. */
 static bool is_old(const struct store *store)
 {
     const struct name name = name_of("log", store->manifest.last + 1);
@@ -303,14 +304,14 @@ static bool is_old(const struct store *store)
     return old;
 }
 
-/* Removes what is before the first log file: the files of before a checkpoint, or of one that a kill has ended. */
+/* Removes the files before the first log file, from before a checkpoint or from one that a kill has ended. */
 static void remove_old(const struct store *store)
 {
     remove_before(store->folder, "log", store->manifest.first);
     remove_before(store->folder, "checkpoint", store->manifest.first);
 }
 
-/* Makes the replica that the folder has. */
+/* Makes the folder's replica. */
 static const char *load_all(struct store *store)
 {
     struct antientropy_counts counts;
@@ -336,7 +337,7 @@ static const char *load_all(struct store *store)
     return NULL;
 }
 
-/* Returns true if the clock of an entry has a greater counter of the node than the logged entries of its key. */
+/* Returns true if an entry's clock has a greater counter of the node than the logged entries of its key. */
 static bool is_lost(struct store *store, uint64_t entry)
 {
     struct antientropy_pair clock[ANTIENTROPY_CLOCK_MAX];
@@ -354,7 +355,7 @@ static bool is_lost(struct store *store, uint64_t entry)
     return false;
 }
 
-/* Compares the entries that the log lacks with those that it has, and logs them. */
+/* Compares the entries that aren't logged with the logged ones, and logs them. */
 static const char *log_synced(struct store *store)
 {
     struct antientropy_counts counts;
@@ -366,7 +367,7 @@ static const char *log_synced(struct store *store)
     return NULL;
 }
 
-/* Each call has to succeed here: examples/embed.c has a sync that makes room for long answers, and bounds the bad
+/* Each call has to succeed here. examples/embed.c has a sync that grows its buffer for long answers and bounds the bad
  * ones. */
 void store_sync(struct antientropy_replica *replica, struct antientropy_snapshot *partner)
 {
@@ -390,8 +391,8 @@ void store_sync(struct antientropy_replica *replica, struct antientropy_snapshot
     want("drop_sessions", antientropy_drop_sessions(replica), ANTIENTROPY_OK);
 }
 
-/* Loads the log, syncs from the partner, and compares. A renewal before the sync makes room in the journal; between the
- * sync and the comparison it would number the entries anew. */
+/* Loads the log, syncs from the partner, and compares. A renewal before the sync frees capacity in the journal; between
+ * the sync and the comparison it would renumber the entries. */
 static const char *load_and_sync(struct store *store, struct antientropy_snapshot *partner)
 {
     const char *wrong = load_all(store);
@@ -411,7 +412,7 @@ const char *store_start(struct store *store, struct antientropy_snapshot *partne
     const char *wrong = read_manifest(store);
     if (wrong == NULL) {
         wrong = load_and_sync(store, partner);
-        /* A later start, without a partner say, may not see the damage. */
+        /* A later start, for example without a partner, may not detect the damage. */
         if (wrong != NULL) {
             store->manifest.given_up = 1;
             write_manifest(store);
@@ -490,7 +491,7 @@ void store_checkpoint(struct store *store)
     store_begin_file(store);
     uint64_t place = store->place;
     snapshot_of(&store->replica, &snapshot);
-    /* From here on others may put: the snapshot has the rows with which the new file begins. */
+    /* From here on others may put: the snapshot has the first rows of the new file. */
     struct bytes file = make_checkpoint(&snapshot, range_of(store));
     antientropy_snapshot_free(&snapshot);
     write_file(store->folder, name_of("checkpoint", store->manifest.last).text, &file);

@@ -1,7 +1,7 @@
-/* Each call that takes a replica or a snapshot as const, in several threads at once. One thread alone makes each of
- * them, and folds what they return into one number. Then four threads do the same many times at once, without a lock,
- * since nothing changes the handles, and must get the same number each time. It ends with status 1 if one doesn't, or
- * if a call is refused. */
+/* Makes each call that takes a replica or a snapshot as const, in several threads at once. First a single thread makes
+ * each of them, and folds the results into one number. Then four threads do the same many times at once, without a
+ * lock, since nothing changes the handles, and must get the same number each time. The program ends with status 1 if
+ * one doesn't, or if a call is refused. */
 #include "antientropy.h"
 
 #include <pthread.h>
@@ -11,16 +11,16 @@
 
 enum { READERS = 4, ROUNDS = 100, KEYS = 64, OFFER = 7, ROOM = 1 << 16 };
 
-/* What is read: a replica with a moment that is whole and an open session, one whose moment isn't hashed yet, and a
+/* The handles to read: a replica with a whole moment and an open session, one whose moment isn't hashed yet, and a
  * snapshot. */
 struct handles {
     struct antientropy_replica replica, late;
     struct antientropy_snapshot snapshot;
     uint64_t session;
-    uint64_t sum; /* what the thread alone got */
+    uint64_t sum; /* the result of the single thread */
 };
 
-/* The number of results so far, and room for the next one. */
+/* A sum of the results so far, and a buffer for the next one. */
 struct reading {
     uint64_t sum, calls, need;
     uint8_t room[ROOM];
@@ -137,7 +137,7 @@ static void begin_renewal(const struct antientropy_replica *replica, struct read
     antientropy_renewal_free(&renewal);
 }
 
-/* Makes other handles of those that are read, reads a little of each, and frees it. */
+/* Makes other handles from these, reads a little of each, and frees it. */
 static void make_others(const struct handles *of, struct reading *to)
 {
     struct antientropy_snapshot now = {0}, moment = {0}, shared = {0};
@@ -161,7 +161,7 @@ static void make_others(const struct handles *of, struct reading *to)
     antientropy_snapshot_free(&now);
 }
 
-/* Makes each call that reads. Returns what they return, as one number, and counts them. */
+/* Makes each call that reads. Returns the results as one number, and counts the calls. */
 static uint64_t read_all(const struct handles *of, struct reading *to)
 {
     const uint8_t key[] = "key 9";
@@ -179,7 +179,7 @@ static uint64_t read_all(const struct handles *of, struct reading *to)
     return to->sum;
 }
 
-/* A thread makes each call many times. */
+/* Makes each call many times, in a thread. */
 static void *read_often(void *handles)
 {
     static _Thread_local struct reading reading;
@@ -192,7 +192,7 @@ static void *read_often(void *handles)
     return NULL;
 }
 
-/* Puts a key of a number at a node. */
+/* Puts the key of a number at a node. */
 static void put(struct antientropy_replica *replica, uint64_t node, int number)
 {
     struct antientropy_pair none[1] = {{0, 0}};
@@ -212,7 +212,7 @@ static void make(struct antientropy_replica *replica, uint64_t node)
     must("rehash", antientropy_rehash(replica));
 }
 
-/* Makes the handles. The session is one with the offer of the other replica, which holds a moment after another put. */
+/* Makes the handles. The session has the offer of the other replica, which holds a moment after another put. */
 static void make_all(struct handles *made)
 {
     uint8_t offer[ANTIENTROPY_OFFER_LEN];

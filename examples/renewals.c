@@ -1,9 +1,9 @@
 /* Renewals of a replica while another thread puts into it. The writer puts its keys again and again, each after a read,
  * and notes the key of each entry's number. The other thread renews the replica: it hashes a moment and builds the new
- * range without the lock, catches up with a lock to read, and has the replica alone only to hold the moment and to
- * finish. After each renewal the entries since the moment have the keys that the writer noted, and older numbers are no
- * positions. Then a renewal is refused for another replica. It ends with status 1 if a call returns another number than
- * the one wanted, or if something isn't so. */
+ * range without the lock, catches up with a lock to read, and needs exclusive access only to hold the moment and to
+ * finish. After each renewal the entries since the moment have the keys that the writer noted, and older numbers aren't
+ * positions. Then a renewal is refused for another replica. The program ends with status 1 if a call returns another
+ * number than the one wanted, or if a condition doesn't hold. */
 #include "shared.h"
 
 #include <sched.h>
@@ -21,7 +21,7 @@ static void ok(const char *call, uint32_t got)
     want(call, got, ANTIENTROPY_OK);
 }
 
-/* Ends the program if something isn't so. */
+/* Ends the program if a condition doesn't hold. */
 static void is(const char *what, bool holds)
 {
     if (!holds) {
@@ -32,7 +32,8 @@ static void is(const char *what, bool holds)
 
 /* ---- the writer */
 
-/* Reads the one version of a key. Returns the counter of its clock, which is its one pair: 0 if there is none. */
+/* Reads the only version of a key. Returns the counter of its clock, which has one pair, or 0 if the key has no
+ * version. */
 static uint64_t read_counter(unsigned char key, struct antientropy_pair *pair)
 {
     struct antientropy_reading reading;
@@ -88,7 +89,7 @@ static void wait_for_puts(unsigned more)
 
 /* ---- the renewals */
 
-/* Hashes a portion of the moment without the lock. Returns the number of nodes that are left. */
+/* Hashes a portion of the moment without the lock. Returns the number of nodes left. */
 static uint64_t hash_portion(void)
 {
     struct antientropy_portion portion = {0};
@@ -116,7 +117,8 @@ static uint64_t hold(void)
     return counts.entries;
 }
 
-/* Makes the new range of the moment's rows without the lock, and lets it catch up until it is a little behind. */
+/* Makes the new range from the moment's rows without the lock, and lets it catch up until it is only a little
+ * behind. */
 static void build(struct antientropy_renewal *renewal)
 {
     uint64_t left;
@@ -132,7 +134,8 @@ static void build(struct antientropy_renewal *renewal)
     } while (left > BEHIND);
 }
 
-/* The entries from a number on have the noted keys, and the number before it is no position. The lock is held. */
+/* Checks that the entries from a number on have the noted keys, and that the number before it isn't a position. The
+ * lock is held. */
 static void check_numbers(uint64_t began)
 {
     struct antientropy_counts counts;
@@ -151,8 +154,8 @@ static void check_numbers(uint64_t began)
              ANTIENTROPY_BAD_POSITION);
 }
 
-/* Puts the new range in the place of the old one, and frees that without the lock. Returns the number of entries since
- * a number. */
+/* Replaces the old range by the new one, and frees the old one without the lock. Returns the number of entries since a
+ * number. */
 static uint64_t finish(struct antientropy_renewal *renewal, uint64_t began)
 {
     lock_to_write();
@@ -173,7 +176,8 @@ static uint64_t renew(void)
     return finish(&renewal, began);
 }
 
-/* A renewal of the shared replica, which has no writer any more, is refused for another replica, and is finished. */
+/* Checks that a renewal of the shared replica, which no longer has a writer, is refused for another replica, and
+ * finishes it. */
 static void refuse_another(void)
 {
     struct antientropy_replica other = {0};
@@ -190,7 +194,7 @@ static void refuse_another(void)
     antientropy_free(&other);
 }
 
-/* The number of keys whose one version has the counter of the last put. */
+/* Returns the number of keys whose only version has the counter of the last put. */
 static unsigned right_keys(void)
 {
     unsigned right = 0;

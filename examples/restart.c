@@ -1,9 +1,10 @@
-/* Why a replica that lost its entries must not return under its old node number.
+/* Shows why a replica that lost its entries must not return under its old node number.
  *
  * Node 1 restarts empty and takes a put under its old number: the put is lost, although it was acknowledged. A sync
- * before the first put would have shown that node 1 had put more than it holds. So it restarts as node 3, with a sync,
- * and takes the put again: nothing is lost, since node 2 holds the earlier versions. One that no partner holds would be
- * lost. The program prints each step, and ends with status 1 if a call returns another number than the one wanted. */
+ * before the first put would have shown that node 1 had put more than it holds. It restarts as node 3 instead, with a
+ * sync, and takes the put again: nothing is lost, since node 2 holds the earlier versions. A version that no partner
+ * holds would be lost. The program prints each step, and ends with status 1 if a call returns another number than the
+ * one wanted. */
 #include "antientropy.h"
 
 #include <stdio.h>
@@ -50,8 +51,8 @@ static void show(const struct antientropy_replica *replica, unsigned node)
     }
 }
 
-/* Syncs a replica from a partner, and prints the number of new versions. Each call has to succeed here:
- * examples/embed.c has a sync that makes room for long answers, and bounds the bad ones. */
+/* Syncs a replica from a partner, and prints the number of new versions. Each call has to succeed here.
+ * examples/embed.c has a sync that grows its buffer for long answers and bounds the bad ones. */
 static void sync(struct antientropy_replica *replica, unsigned node, struct antientropy_replica *partner,
                  unsigned partner_node)
 {
@@ -78,7 +79,7 @@ static void sync(struct antientropy_replica *replica, unsigned node, struct anti
     printf("  node %u syncs from node %u: %llu new\n", node, partner_node, (unsigned long long)accepted);
 }
 
-/* Compares what a sync brought, the entries from `before` on, with what the replica had of its own node until then. */
+/* Compares the entries of a sync, from `before` on, with the replica's earlier entries of its own node. */
 static void compare(const struct antientropy_replica *replica, unsigned node, uint64_t before)
 {
     struct antientropy_counts counts;

@@ -2,10 +2,10 @@
  *
  *     save FOLDER
  *
- * It writes FOLDER/one.checkpoint, which has the one row of the example in docs/FORMATS.md, and FOLDER/cart.checkpoint,
- * and loads them again. It refuses a truncated file, one with a changed byte, and one of another range. Then a
- * checkpoint and a log of format 1 are loaded after a migration. It ends with status 1 if a call returns another number
- * than the one wanted. Build it with checkpoint.c and disk.c. */
+ * It writes FOLDER/one.checkpoint, which has the only row of the example in docs/FORMATS.md, and
+ * FOLDER/cart.checkpoint, and loads them. It refuses a truncated file, one with a changed byte, and one of another
+ * range. Then a checkpoint and a log of format 1 are loaded after a migration. It ends with status 1 if a call returns
+ * another number than the one wanted. Build it with checkpoint.c and disk.c. */
 #include "checkpoint.h"
 
 #include <stdio.h>
@@ -30,7 +30,7 @@ static void try(const char *name, struct range range, const struct bytes *file)
     antientropy_free(&replica);
 }
 
-/* Puts a version of a key that has none. */
+/* Puts the first version of a key. */
 static void put(struct antientropy_replica *replica, const char *key, const char *value, uint8_t kind)
 {
     struct antientropy_pair none[1] = {{0, 0}};
@@ -49,7 +49,7 @@ static struct bytes checkpoint_of(struct antientropy_replica *replica, struct ra
     return file;
 }
 
-/* Saves a replica, and loads the file that was written. */
+/* Saves a replica, and loads the file. */
 static struct bytes save(const char *folder, const char *name, struct antientropy_replica *replica, struct range range)
 {
     struct bytes made = checkpoint_of(replica, range), file = {0};
@@ -87,8 +87,8 @@ static void finish(struct antientropy_replica *replica, const struct bytes *row,
     antientropy_free(replica);
 }
 
-/* A checkpoint of a range of format 1, and a log of one more put. They are loaded and then migrated, and loaded into a
- * range that is of format 2 already. */
+/* Saves a checkpoint of a range of format 1, and a log of one more put. They are loaded and then migrated, and also
+ * loaded into a range that already has format 2. */
 static void outlive_a_migration(struct antientropy_replica *replica)
 {
     const struct range first = {1, 0, 0};

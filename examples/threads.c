@@ -1,24 +1,25 @@
 /* A replica and its snapshots in several threads, under a reader-writer lock. Four threads put into one replica, and
  * four others read it at once. A ninth makes snapshots of it, whose nodes it hashes without the lock, and syncs another
- * replica from them. Then four threads read one snapshot without a lock: by one handle at once, and each by a handle of
- * its own. It ends with status 1 if a call returns another number than the one wanted, or a read another version. */
+ * replica from them. Then four threads read one snapshot without a lock: through one handle at once, and each through a
+ * handle of its own. The program ends with status 1 if a call returns another number than the one wanted, or a read
+ * returns another version. */
 #include "shared.h"
 
 #include <string.h>
 
 enum { WRITERS = 4, READERS = 4, KEYS = 500, SYNCS = 10, ROOM = 1 << 16, PORTION = 16 };
 
-/* The names of the writers, with which their keys begin. */
+/* The names of the writers, which are the prefixes of their keys. */
 static char names[WRITERS][2] = {"a", "b", "c", "d"};
 
-/* The key of a number: those of each writer in turn. */
+/* Returns the key of a number. The numbers go through the writers in turn. */
 static const char *key_of(int number, char *key, size_t len)
 {
     snprintf(key, len, "%s%d", names[number % WRITERS], number / WRITERS);
     return key;
 }
 
-/* Reads a key and puts it again, with the clock of its one version as the context. */
+/* Reads a key and puts it again, with the clock of its only version as the context. */
 static void put(const char *key)
 {
     struct antientropy_pair context[ANTIENTROPY_CLOCK_MAX];
@@ -37,7 +38,7 @@ static void put(const char *key)
     want("put", got, ANTIENTROPY_OK);
 }
 
-/* A writer puts its keys twice. */
+/* Puts the keys of a writer twice. */
 static void *write_keys(void *name)
 {
     char key[16];
@@ -48,8 +49,8 @@ static void *write_keys(void *name)
     return NULL;
 }
 
-/* Reads a key of the shared replica, by three calls that must agree. Returns false if it has no version yet. The caller
- * holds the lock, to read. */
+/* Reads a key of the shared replica by three calls that must agree. Returns false if it has no version yet. The caller
+ * holds the lock to read. */
 static bool read_version(const char *key)
 {
     struct antientropy_pair clock[ANTIENTROPY_CLOCK_MAX];
@@ -71,7 +72,7 @@ static bool read_version(const char *key)
     return found;
 }
 
-/* A reader reads each key of each writer again and again, until each has a version. */
+/* Reads each key of each writer again and again, until each has a version. */
 static void *read_versions(void *none)
 {
     char key[16];
@@ -87,8 +88,8 @@ static void *read_versions(void *none)
 }
 
 /* Hashes a portion of the shared replica's moment, without the lock. When nothing is left, it makes the snapshot before
- * the lock is released, since another thread may hold another moment later, and drops the moment: its rows are freed
- * with the snapshot then, and not under the lock by the next hold. Returns true if it made it. */
+ * the lock is released, since another thread may hold another moment later, and drops the moment, so that its rows are
+ * freed with the snapshot and not by the next hold under the lock. Returns true if it made the snapshot. */
 static bool hash_portion(struct antientropy_snapshot *snapshot)
 {
     struct antientropy_portion portion = {0};
@@ -107,7 +108,7 @@ static bool hash_portion(struct antientropy_snapshot *snapshot)
     return left == 0;
 }
 
-/* Makes a snapshot of the shared replica: holds a moment, and hashes it while the writers go on. */
+/* Makes a snapshot of the shared replica: holds a moment, and hashes it while the writers continue. */
 static void publish(struct antientropy_snapshot *snapshot)
 {
     lock_to_write();
@@ -117,7 +118,7 @@ static void publish(struct antientropy_snapshot *snapshot)
         ;
 }
 
-/* Takes what a snapshot has into another replica, and frees the snapshot. */
+/* Takes the versions of a snapshot into another replica, and frees the snapshot. */
 static void sync_from(struct antientropy_snapshot *snapshot, struct antientropy_replica *replica, uint32_t number)
 {
     static _Thread_local uint8_t text[ROOM];
@@ -137,7 +138,7 @@ static void sync_from(struct antientropy_snapshot *snapshot, struct antientropy_
     antientropy_snapshot_free(snapshot);
 }
 
-/* The ninth thread syncs a replica from snapshots while the writers go on. */
+/* Syncs a replica from snapshots while the writers continue, in the ninth thread. */
 static void *sync_often(void *replica)
 {
     for (uint32_t number = 1; number <= SYNCS; number++) {
@@ -163,7 +164,8 @@ static void get_rows(const struct antientropy_snapshot *snapshot)
     }
 }
 
-/* A thread gets the rows of a snapshot by the handle that all threads use, and then by a handle of its own. */
+/* Gets the rows of a snapshot in a thread, through the handle that all threads use, then through a handle of its
+ * own. */
 static void *read_rows(void *handle)
 {
     const struct antientropy_snapshot *snapshot = handle;
@@ -187,7 +189,7 @@ static bool read_beside(struct antientropy_snapshot *snapshot)
     return true;
 }
 
-/* The root of a replica's rows now. */
+/* Writes the root of a replica's current rows. */
 static void root_of(struct antientropy_replica *replica, uint8_t *root)
 {
     struct antientropy_snapshot snapshot = {0};
