@@ -14,19 +14,20 @@ struct range {
 /* Places in the head of a checkpoint. */
 enum { CHECKPOINT_FORMAT_AT = 8, CHECKPOINT_ROOT_AT = 12 };
 
-/* Makes a snapshot of a replica's rows now: holds a moment, and hashes it in portions. Puts may come between the
+/* Makes a snapshot of a replica's current rows: holds a moment, and hashes it in portions. Puts may be made between the
  * portions. */
 void snapshot_of(struct antientropy_replica *replica, struct antientropy_snapshot *snapshot);
 
 /* Makes the checkpoint of a snapshot. */
 struct bytes make_checkpoint(struct antientropy_snapshot *snapshot, struct range range);
 
-/* Loads the rows of a checkpoint of a format into a replica, which is of that format or of format 2. Returns what is
- * wrong with the file, or NULL. It doesn't compare the root. */
+/* Loads the rows of a checkpoint of a format into a replica of that format or of format 2. Returns a description of the
+ * file's fault, or NULL. Doesn't compare the root. */
 const char *load_leaves(struct antientropy_replica *replica, uint64_t format, const struct bytes *file);
 
-/* Loads a checkpoint into an empty handle. Returns what is wrong with the file, or NULL: then the handle holds the
- * replica. A file of format 1 loads into a range of format 2, too. The root finds damage, but no forged file. */
+/* Loads a checkpoint into an empty handle. Returns a description of the file's fault, or NULL, in which case the handle
+ * holds the replica. A file of format 1 can be loaded into a range of format 2. The root reveals damage, but not a
+ * forged file. */
 const char *load_checkpoint(struct antientropy_replica *replica, struct range range, uint64_t limit,
                             const struct bytes *file);
 

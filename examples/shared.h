@@ -1,5 +1,5 @@
-/* A replica that threads share by a reader-writer lock, and the end of a program whose call returned another number than
- * the one wanted. */
+/* A replica that threads share behind a reader-writer lock, and the end of a program whose call returned another number
+ * than the one wanted. */
 #ifndef SHARED_H
 #define SHARED_H
 
@@ -10,8 +10,8 @@
 #include <stdio.h>
 #include <stdlib.h>
 
-/* The replica of node 1, which all threads use. Its lock lets a waiting writer go first: with the usual one of glibc,
- * readers that follow one another without pause keep the writers out. */
+/* The replica of node 1, which all threads use. Its lock lets a waiting writer go first: with the default lock of
+ * glibc, readers that follow one another without pause keep the writers out. */
 static struct antientropy_replica shared;
 static pthread_rwlock_t lock = PTHREAD_RWLOCK_WRITER_NONRECURSIVE_INITIALIZER_NP;
 
