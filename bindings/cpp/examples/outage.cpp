@@ -1,5 +1,5 @@
-// An outage and its repair: two replicas write apart, take over what they lack, and merge the key that both wrote. A
-// call that is refused ends the program: `value` throws.
+// An outage and its repair: two replicas accept writes separately, sync, and merge the key that both wrote. A refused
+// call ends the program: `value` throws.
 #include "antientropy.hpp"
 
 #include <iostream>
@@ -11,7 +11,7 @@ namespace {
 
 constexpr std::uint64_t A = 1, B = 2;
 
-// Takes what the partner has. Here its snapshot is called directly; elsewhere the messages go over a network.
+// Syncs from the partner. Its snapshot is called directly here; in production the messages travel over a network.
 Synced sync(Replica &replica, Replica &partner, std::uint64_t node) {
     Snapshot snapshot = partner.snapshot().value();
     const auto reach = [&](const std::vector<std::string> &asks) {
@@ -22,7 +22,7 @@ Synced sync(Replica &replica, Replica &partner, std::uint64_t node) {
     return replica.sync(node, snapshot.offer(1).value(), reach).value();
 }
 
-// A number of versions in words.
+// Formats a number of versions.
 std::string count(std::uint64_t number) {
     return std::to_string(number) + (number == 1 ? " version" : " versions");
 }

@@ -1,4 +1,4 @@
-// Renewals in place, beside the puts of another thread.
+// Renewals in place, while another thread puts.
 #include "support.hpp"
 
 #include <atomic>
@@ -34,7 +34,7 @@ struct Store {
         return replica.put(1, std::to_string(puts % keys), "value", context);
     }
 
-    /// Logs the entries after the last one, or all that are there if some were missed.
+    /// Logs the entries after the last one, or the whole journal if some were missed.
     void read() {
         const std::shared_lock guard(lock);
         auto entries = replica.entries(log.empty() ? 0 : log.rbegin()->first + 1);
@@ -59,9 +59,7 @@ struct Store {
     }
 };
 
-Replica with_limit(std::uint64_t limit) { return sure(Replica::make(2, 0, 0, limit)); }
-
-/// Puts the one key of a replica a number of times more, each after the last one.
+/// Puts the only key of a replica more times, each after the last put.
 void put_more(Replica &replica, std::uint64_t puts) {
     const std::uint64_t entries = sure(replica.count()).entries;
     for (std::uint64_t counter = entries; counter < entries + puts; counter++) {
@@ -70,7 +68,7 @@ void put_more(Replica &replica, std::uint64_t puts) {
 }
 
 void renewal_in_place() {
-    Replica replica = with_limit(10);
+    Replica replica = sure(Replica::make(with_limit(10)));
     put_more(replica, 2);
     const std::string root = sure(replica.root());
     sure(replica.renew_in_place(5));
@@ -106,7 +104,7 @@ void renewal_ends_sessions() {
 
 void renewals_while_a_thread_puts() {
     constexpr std::uint64_t keys = 200;
-    Store store = {with_limit(1'000'000), keys};
+    Store store = {sure(Replica::make(with_limit(1'000'000))), keys};
     std::atomic<bool> stopped = false;
     std::thread writer([&] {
         while (!stopped) {
@@ -137,7 +135,7 @@ struct BusyLock {
 };
 
 void renewal_catches_up() {
-    Replica replica = with_limit(1'000'000);
+    Replica replica = sure(Replica::make(with_limit(1'000'000)));
     BusyLock lock = {[&] { put_more(replica, 300); }};
     sure(replica.renew_beside(lock));
     const Counts counts = sure(replica.count());
@@ -147,7 +145,7 @@ void renewal_catches_up() {
 
 /// Another renewal ends first. Nothing is lost.
 void stale_renewal() {
-    Replica replica = with_limit(100);
+    Replica replica = sure(Replica::make(with_limit(100)));
     put_more(replica, 5);
     BusyLock lock = {[&] {
         const Counts counts = sure(replica.count());
@@ -163,7 +161,7 @@ void stale_renewal() {
 /// One key is put many times as often as the journal has entries. Another thread renews the replica when it is due.
 void renewed_when_it_is_due() {
     constexpr std::uint64_t limit = 2'000;
-    Store store = {with_limit(limit), 1};
+    Store store = {sure(Replica::make(with_limit(limit))), 1};
     std::atomic<bool> stopped = false;
     std::thread renewer([&] {
         while (!stopped) {
@@ -178,9 +176,9 @@ void renewed_when_it_is_due() {
     store.check_versions();
 }
 
-/// A journal that its rows fill is renewed some times, and then it isn't due any more.
+/// A journal that its rows fill is renewed a few times, until no renewal is due any more.
 void rows_fill_a_journal() {
-    Replica replica = with_limit(100);
+    Replica replica = sure(Replica::make(with_limit(100)));
     std::shared_mutex lock;
     int renewals = 0;
     for (int n = 0; n < 100; n++) {

@@ -1,6 +1,7 @@
 // Replicas, checkpoints, hints, slots, and the calls that need no replica.
 #include "support.hpp"
 
+#include <fstream>
 #include <sstream>
 #include <type_traits>
 
@@ -59,37 +60,27 @@ void puts_and_reads() {
     const Receipt first = sure(replica.put(1, "cart", "milk"));
     CHECK(first.number == 0 && first.counter == 1);
     const Version milk{{{1, 1}}, Kind::Live, "milk"}, eggs{{{2, 1}}, Kind::Live, "eggs"};
-    CHECK(sure(replica.accept("cart", eggs)) == Accepted::New);
-    CHECK(sure(replica.accept("cart", eggs)) == Accepted::Known);
+    CHECK(sure(replica.accept("cart", eggs)) == Outcome::Accepted);
+    CHECK(sure(replica.accept("cart", eggs)) == Outcome::Known);
     const std::vector<Version> both = {milk, eggs};
     CHECK(sure(replica.get("cart")) == both);
-    CHECK(all(replica.versions(std::string("cart"))) == both);
-    CHECK(sure(replica.count_versions("cart")) == 2);
-    CHECK(sure(replica.read("cart", 1)) == eggs);
-    CHECK(sure(replica.value("cart", 1))->bytes == "eggs");
-    CHECK(sure(replica.clock("cart", 1)) == Clock{{2, 1}});
     CHECK(sure(replica.row("cart")).size() > 8);
-    CHECK(sure(replica.put(1, "cart", std::nullopt, sure(merge(both)))).counter == 2);
+    CHECK(sure(replica.remove(1, "cart", sure(merge(both)))).counter == 2);
     const Version gone{{{1, 2}, {2, 1}}, Kind::Tombstone, ""};
     CHECK(sure(replica.get("cart")) == std::vector<Version>{gone});
-    CHECK(sure(replica.value("cart", 0))->kind == Kind::Tombstone);
 }
 
 void nothing_is_there() {
     Replica replica = sure(Replica::make());
     CHECK(sure(replica.get("cart")).empty());
-    CHECK(all(replica.versions("cart")).empty());
-    CHECK(!sure(replica.read("cart", 0)));
-    CHECK(!sure(replica.value("cart", 0)));
-    CHECK(!sure(replica.clock("cart", 0)));
     CHECK(sure(replica.row("cart")).empty());
     CHECK(!sure(replica.entry(0)));
-    CHECK(!sure(replica.key_after(0, "")));
+    CHECK(all(replica.keys_of(0)).empty());
     CHECK(all(replica.keys()).empty());
 }
 
 void refused_puts() {
-    Replica replica = sure(Replica::make(1, 0, 0, 100));
+    Replica replica = sure(Replica::make({1, 0, 0, 100}));
     REFUSED(BadClock, replica.put(0, "key", "value"));
     REFUSED(BadClock, replica.put(65'537, "key", "value"));
     REFUSED(BadClock, replica.put_unread(65'537, "key", "value"));
@@ -99,7 +90,8 @@ void refused_puts() {
     REFUSED(BadKey, replica.put(1, "", "value"));
     REFUSED(BadKey, replica.put(1, std::string(256, 'k'), "value"));
     REFUSED(BadKey, replica.row({}));
-    REFUSED(BadValue, replica.put(1, "key", std::nullopt));
+    REFUSED(BadValue, replica.remove(1, "key"));
+    REFUSED(BadValue, replica.remove_unread(1, "key"));
     REFUSED(BadValue, replica.put(1, "key", std::string(ANTIENTROPY_VALUE_MAX_1 + 1, 'v')));
     REFUSED(BadValue, replica.accept("key", {{{1, 1}}, static_cast<Kind>(2), ""}));
     CHECK(sure(replica.count()).entries == 0);
@@ -115,11 +107,10 @@ void large_values() {
     const std::string large(ANTIENTROPY_VALUE_MAX_2, 'v'), binary("a\0b", 3);
     sure(replica.put(1, "large", large));
     sure(replica.put(1, binary, binary));
-    CHECK(sure(replica.read("large", 0))->value == large);
-    CHECK(sure(replica.value("large", 0))->bytes == large);
+    CHECK(sure(replica.get("large"))[0].value == large);
     CHECK(sure(replica.row("large")).size() > large.size());
     CHECK(sure(replica.entry(0))->version.value == large);
-    CHECK(sure(replica.read(binary, 0))->value == binary);
+    CHECK(sure(replica.get(binary))[0].value == binary);
 }
 
 void keys() {
@@ -130,11 +121,8 @@ void keys() {
     CHECK(met == std::vector<std::string>{"a", "b", "c"});
     const auto leaf = sure(place(2, 0, "b")).leaf;
     CHECK(all(replica.keys_of(leaf)) == std::vector<std::string>{"b"});
-    CHECK(sure(replica.key_after(leaf, "")) == "b");
-    CHECK(!sure(replica.key_after(leaf, "b")));
-    REFUSED(BadMessage, replica.key_after(4096, ""));
-    REFUSED(BadMessage, replica.key_after(65'536, ""));
     REFUSED(BadMessage, ended(replica.keys_of(4096)));
+    REFUSED(BadMessage, ended(replica.keys_of(65'536)));
 }
 
 void journal() {
@@ -165,7 +153,7 @@ void check_entries(Replica replica) {
     const Version binary{{{1, 1}, {65'535, UINT64_MAX}}, Kind::Live, std::string(ANTIENTROPY_VALUE_MAX_1, '\xff')};
     sure(replica.accept(std::string(ANTIENTROPY_KEY_MAX, '\xff'), binary));
     sure(replica.accept("empty", {{{3, 1}}, Kind::Live, ""}));
-    if (sure(replica.about()).format == 2) sure(replica.put(2, "gone", std::nullopt));
+    if (sure(replica.about()).format == 2) sure(replica.remove(2, "gone"));
     const auto entries = all(sure(replica.entries()));
     CHECK(entries.size() == sure(replica.count()).entries);
     for (std::uint64_t number = 0; number < entries.size(); number++) {
@@ -174,9 +162,9 @@ void check_entries(Replica replica) {
 }
 
 void entries_of_all_kinds() {
-    check_entries(sure(Replica::make(1)));
-    check_entries(sure(Replica::make(2)));
-    Replica migrated = sure(Replica::make(1));
+    check_entries(sure(Replica::make(format_1)));
+    check_entries(sure(Replica::make()));
+    Replica migrated = sure(Replica::make(format_1));
     sure(migrated.put(1, "before", "milk"));
     sure(migrated.migrate());
     check_entries(std::move(migrated));
@@ -208,14 +196,14 @@ void entries_of_several_calls() {
     CHECK(number == 40);
 }
 
-/// Puts a key some times, each after a read.
+/// Puts a key several times, each after a read.
 void put_often(Replica &replica, std::string_view key, int puts) {
     while (puts-- > 0) sure(replica.put(1, key, "milk", sure(merge(sure(replica.get(key))))));
 }
 
 /// The position of a log is the number of entries that it has, and is never changed otherwise.
 void a_log_goes_on_over_renewals() {
-    Replica replica = sure(Replica::make(2, 0, 0, 150)), restored = sure(Replica::make());
+    Replica replica = sure(Replica::make({2, 0, 0, 150})), restored = sure(Replica::make());
     std::vector<Entry> log;
     for (const char *key : {"a", "b", "c"}) {
         put_often(replica, "cart", 100);
@@ -228,7 +216,7 @@ void a_log_goes_on_over_renewals() {
     CHECK(log.size() == 303);
     for (std::uint64_t number = 0; number < log.size(); number++) {
         CHECK(log[number].number == number);
-        CHECK(sure(restored.accept(log[number].key, log[number].version)) == Accepted::New);
+        CHECK(sure(restored.accept(log[number].key, log[number].version)) == Outcome::Accepted);
     }
     CHECK(sure(restored.root()) == sure(replica.root()));
 }
@@ -251,7 +239,28 @@ void bad_positions() {
     CHECK(!sure(renewed.entry(8)) && sure(renewed.entry(9))->key == whole[0].key);
 }
 
-/// Of two clients that read the same versions, the second to put is refused, or replaces what the first has put.
+/// An unread tombstone replaces a version that its client hasn't read.
+void removal_without_a_read() {
+    Replica replica = sure(Replica::make());
+    sure(replica.put(1, "cart", "milk"));
+    sure(replica.put(1, "cart", "bread", {{1, 1}}));
+    const Clock seen = {{1, 1}, {2, 1}};
+    REFUSED(StaleContext, replica.remove(1, "cart", seen));
+    sure(replica.remove_unread(1, "cart", seen));
+    CHECK(sure(replica.get("cart")) == std::vector<Version>{{{{1, 2}, {2, 1}}, Kind::Tombstone, ""}});
+}
+
+/// A C call that no method makes, on the handle.
+void raw_calls() {
+    Replica replica = sure(Replica::make());
+    sure(replica.put(1, "cart", "milk"));
+    std::uint64_t count = 0;
+    const auto *key = reinterpret_cast<const std::uint8_t *>("cart");
+    CHECK(c::antientropy_versions(std::as_const(replica).raw(), key, 4, &count) == c::ANTIENTROPY_OK && count == 1);
+    CHECK(c::antientropy_rehash(replica.raw()) == c::ANTIENTROPY_OK && sure(replica.count()).dirty == 0);
+}
+
+/// Of two clients that read the same versions, the second to put is refused, or replaces the version of the first.
 void two_clients() {
     Replica replica = sure(Replica::make());
     const Clock both = {{1, 1}, {2, 1}};
@@ -259,7 +268,8 @@ void two_clients() {
     sure(replica.accept("cart", {{{2, 1}}, Kind::Live, "eggs"}));
     sure(replica.put(1, "cart", "bread", {{1, 1}}));
     REFUSED(StaleContext, replica.put(1, "cart", "tea", both));
-    CHECK(sure(replica.count_versions("cart")) == 2 && sure(replica.top_counter(1, "cart")) == 2);
+    CHECK(sure(replica.get("cart")).size() == 2 && sure(replica.top_counter(1, "cart")) == 2);
+    REFUSED(StaleContext, replica.remove(1, "cart", both));
     sure(replica.put_unread(1, "cart", "tea", both));
     CHECK(sure(replica.get("cart")) == std::vector<Version>{{{{1, 2}, {2, 1}}, Kind::Live, "tea"}});
 }
@@ -268,7 +278,7 @@ void rows() {
     Replica from = sure(Replica::make()), into = sure(Replica::make());
     sure(from.put(1, "cart", "milk"));
     const std::string row = sure(from.row("cart"));
-    CHECK(sure(into.load_rows(row)).taken == 1);
+    CHECK(sure(into.load_rows(row)).accepted == 1);
     CHECK(sure(into.load_rows(row)).known == 1);
     CHECK(sure(from.root()) == sure(into.root()));
     std::uint64_t broken = 0;
@@ -278,11 +288,11 @@ void rows() {
 }
 
 void rows_of_a_format() {
-    Replica replica = sure(Replica::make(1)), first = sure(Replica::make(1)), into = sure(Replica::make());
+    Replica replica = sure(Replica::make(format_1)), first = sure(Replica::make(format_1)), into = sure(Replica::make());
     for (const char *key : {"a", "b", "c"}) sure(replica.put(1, key, key));
     std::string rows;
     for (const char *key : {"a", "b", "c"}) rows += sure(replica.row(key));
-    CHECK(sure(into.load_format(1, rows)).taken == 3 && sure(first.load_format(1, rows)).taken == 3);
+    CHECK(sure(into.load_format(1, rows)).accepted == 3 && sure(first.load_format(1, rows)).accepted == 3);
     CHECK(sure(first.root()) == sure(replica.root()));
     sure(replica.migrate());
     CHECK(sure(into.root()) == sure(replica.root()));
@@ -294,12 +304,12 @@ void rows_of_a_format() {
 }
 
 void ranges() {
-    REFUSED(BadRing, Replica::make(3));
-    REFUSED(BadRing, Replica::make_seeded(1, 2, 3));
-    REFUSED(BadRing, Replica::make(2, 0, 1));
-    REFUSED(BadRing, Replica::make(2, 0, 0, 0));
+    REFUSED(BadRing, Replica::make({3}));
+    REFUSED(BadRing, Replica::make_seeded({1, 2}, {3}));
+    REFUSED(BadRing, Replica::make({2, 0, 1}));
+    REFUSED(BadRing, Replica::make({2, 0, 0, 0}));
     const auto range = sure(place(2, 1, "cart")).range;
-    Replica own = sure(Replica::make(2, 1, range)), other = sure(Replica::make(2, 1, 1 - range));
+    Replica own = sure(Replica::make({2, 1, range})), other = sure(Replica::make({2, 1, 1 - range}));
     sure(own.put(1, "cart", "milk"));
     const About about = sure(own.about());
     CHECK(about.format == 2 && about.bits == 1 && about.range == range && about.entries == 1);
@@ -307,14 +317,14 @@ void ranges() {
     REFUSED(OtherRange, other.load_rows(sure(own.row("cart"))));
 }
 
-/// The lengths of the rows that a replica holds, in all.
+/// The total length of the rows that a replica holds.
 std::uint64_t length_of_rows(const Replica &replica) {
     std::uint64_t length = 0;
     for (const auto &key : all(replica.keys())) length += sure(replica.row(key)).size();
     return length;
 }
 
-/// The lengths of the entries of a journal in all, with 10 bytes for each pair of a clock.
+/// The total length of the entries of a journal, with 10 bytes for each pair of a clock.
 std::uint64_t length_of_entries(const Replica &replica) {
     std::uint64_t length = 0;
     for (const auto &[number, key, version, source] : all(sure(replica.entries(sure(replica.count()).first)))) {
@@ -344,7 +354,7 @@ void sizes_in_bytes() {
 }
 
 void rehash_by_steps() {
-    Replica replica = sure(Replica::make(1)), other = sure(Replica::make(1));
+    Replica replica = sure(Replica::make(format_1)), other = sure(Replica::make(format_1));
     for (int n = 0; n < 50; n++) {
         sure(replica.put(1, "key " + std::to_string(n), "value"));
         sure(other.put(1, "key " + std::to_string(n), "value"));
@@ -362,7 +372,7 @@ void rehash_by_steps() {
 }
 
 void renewal_and_migration() {
-    Replica replica = sure(Replica::make(1, 0, 0, 10));
+    Replica replica = sure(Replica::make({1, 0, 0, 10}));
     sure(replica.put(1, "cart", "milk"));
     sure(replica.put(1, "cart", "eggs", {{1, 1}}));
     Replica renewed = sure(replica.renew(5));
@@ -389,15 +399,15 @@ constexpr bool is_value = false;
 template <class T>
 constexpr bool is_value<T, std::void_t<decltype(std::declval<Replica>().put(1, "key", std::declval<T>()))>> = true;
 
-static_assert(is_value<const char *> && is_value<std::string> && is_value<std::nullopt_t>);
-static_assert(!is_value<std::nullptr_t>);
+static_assert(is_value<const char *> && is_value<std::string>);
+static_assert(!is_value<std::nullptr_t> && !is_value<std::nullopt_t>);
 
 void moves() {
     Replica first = sure(Replica::make());
     sure(first.put(1, "cart", "milk"));
     auto keys = first.keys();
     Replica second = std::move(first);
-    CHECK(sure(second.count_versions("cart")) == 1);
+    CHECK(sure(second.get("cart")).size() == 1);
     CHECK(all(std::move(keys)).size() == 1);
     REFUSED(Empty, first.get("cart"));
     REFUSED(Empty, first.put(1, "cart", ""));
@@ -434,7 +444,6 @@ void closed() {
     REFUSED(Empty, replica.hash_moment(1));
     REFUSED(Empty, replica.take_portion(1));
     REFUSED(Empty, replica.moment());
-    REFUSED(Empty, ended(replica.versions("cart")));
     CHECK(snapshot.entries() == 1 && snapshot.root());
     snapshot.close();
     REFUSED(Empty, snapshot.root());
@@ -445,7 +454,7 @@ void closed() {
 }
 
 void checkpoints() {
-    Replica replica = sure(Replica::make(1, 0, 0, 10));
+    Replica replica = sure(Replica::make({1, 0, 0, 10}));
     sure(replica.put(1, "cart", "milk"));
     std::stringstream file;
     const auto covered = replica.save(file);
@@ -453,16 +462,16 @@ void checkpoints() {
     auto loaded = Replica::load(file);
     CHECK(loaded && loaded->about()->format == 1 && *loaded->get("cart") == *replica.get("cart"));
     CHECK(saved(*loaded) == saved(replica));
-    Replica other = sure(Replica::make(2, 8, 3));
+    Replica other = sure(Replica::make({2, 8, 3}));
     CHECK(load(saved(other)) == "loaded");
     std::ostringstream failing;
     failing.setstate(std::ios::badbit);
-    CHECK(name(replica.save(failing).error()) == "NotWritten");
+    CHECK(name(replica.save(failing).error()) == "Io: " + std::make_error_code(std::io_errc::stream).message());
 }
 
 /// The example of docs/FORMATS.md: the live row of format 1, in leaf 12 of 256.
 void checkpoint_of_the_page() {
-    Replica replica = sure(Replica::make(1));
+    Replica replica = sure(Replica::make(format_1));
     sure(replica.put(1, "a", "x"));
     const std::string head = from_hex("616e7469656e740101000000");
     const std::string root = from_hex("bcf422e0df449d89564e74e43e2f066e3f948254e49cd9f115f866907188dc49");
@@ -472,28 +481,67 @@ void checkpoint_of_the_page() {
 }
 
 void damaged_checkpoints() {
-    Replica replica = sure(Replica::make(1, 0, 0, 10));
+    Replica replica = sure(Replica::make({1, 0, 0, 10}));
     sure(replica.put(1, "cart", "milk"));
     const std::string bytes = saved(replica);
     CHECK(load(bytes) == "loaded");
     for (std::size_t length = 0; length < bytes.size(); length += 7) {
-        CHECK(load(bytes.substr(0, length)) == "Truncated");
+        CHECK(load(bytes.substr(0, length)) == "Damaged: Truncated");
     }
-    CHECK(load(bytes + '\0') == "Damaged");
+    CHECK(load(bytes + '\0') == "Damaged: TooLong");
+    const std::size_t numbers = 9, root = 12; // bits and range of the ring, refused by their limits
     for (std::size_t at = 0; at < bytes.size(); at++) {
         std::string changed = bytes;
         changed[at] = static_cast<char>(changed[at] ^ 0x41);
-        CHECK(load(changed) != "loaded");
-        CHECK(load(changed).substr(0, 7) != "Refused");
+        CHECK(load(changed).substr(0, 7) == (at >= numbers && at < root ? "Refused" : "Damaged"));
     }
-    CHECK(load("") == "Truncated");
-    CHECK(load("ANTIENT" + bytes.substr(7)) == "NoCheckpoint");
+    CHECK(load("") == "Damaged: Truncated");
+    CHECK(load("ANTIENT" + bytes.substr(7)) == "Damaged: NotCheckpoint");
+    std::string changed = bytes;
+    changed[root] ^= 1;
+    CHECK(load(changed) == "Damaged: Root");
+    changed = bytes;
+    changed[bytes.find("milk") + 4 - 1] ^= 1; // valid rows, of another root
+    CHECK(load(changed) == "Damaged: Root");
     CHECK(load(bytes, 0) == "Refused: BadRing");
-    std::string bits = bytes;
-    bits[9] = 9;
-    CHECK(load(bits) == "Damaged: BadRing");
+    changed = bytes;
+    changed[numbers] = 9;
+    CHECK(load(changed) == "Refused: BadRing");
     sure(replica.put(1, "gift", ""));
     CHECK(load(saved(replica), 1) == "Refused: JournalFull");
+}
+
+/// The rows of a leaf are broken, or in the place of another leaf's, in a ring of two ranges.
+void damaged_leaves() {
+    const auto [range, leaf] = sure(place(1, 1, "cart"));
+    Replica replica = sure(Replica::make({1, 1, range, 10}));
+    sure(replica.put(1, "cart", "milk"));
+    std::string changed = saved(replica);
+    changed[changed.find("cart") - 1] ^= 1; // the length of the key
+    CHECK(load(changed) == "Damaged: Leaf " + std::to_string(leaf));
+    changed = saved(replica);
+    changed[11] ^= 1; // the range
+    CHECK(load(changed) == "Damaged: Leaf " + std::to_string(leaf));
+    std::istringstream file(changed);
+    const auto loaded = Replica::load(file);
+    const auto *damage = std::get_if<Damage>(&loaded.error());
+    CHECK(damage && *damage == Damage{Damage::Kind::Leaf, leaf} && *damage != Damage{Damage::Kind::Root});
+}
+
+/// A stream that can't be read isn't a damaged checkpoint.
+void unreadable_checkpoints() {
+    std::istringstream failing;
+    failing.setstate(std::ios::badbit);
+    const std::string io = "Io: " + std::make_error_code(std::io_errc::stream).message();
+    CHECK(name(Replica::load(failing).error()) == io);
+    std::ifstream missing("no folder/checkpoint");
+    CHECK(name(Replica::load(missing).error()) == io);
+    CHECK(name(Replica::load("no folder/checkpoint").error()) == "Io: No such file or directory");
+    const auto open_files = [] { return std::distance(std::filesystem::directory_iterator("/proc/self/fd"), {}); };
+    const auto before = open_files();
+    CHECK(name(Replica::load("/").error()) == "Io: Is a directory" && open_files() == before);
+    const auto loaded = Replica::load("no folder/checkpoint");
+    CHECK(std::get<std::error_code>(loaded.error()) == std::errc::no_such_file_or_directory);
 }
 
 void hints() {
@@ -508,7 +556,7 @@ void hints() {
     const auto hint = sure(hints.hint(3));
     CHECK(hint->number == 3 && hint->owner == 2 && hint->key == "gift" && hint->version == gone);
     CHECK(!sure(hints.hint(4)));
-    for (const auto &met : hints.pending(2)) CHECK(hints.confirm(met.number, Accepted::Known));
+    for (const auto &met : hints.pending(2)) CHECK(hints.confirm(met.number, Outcome::Known));
     CHECK(all(hints.pending(2)).empty() && all(hints.pending(3)).size() == 1);
     CHECK(sure(hints.count()).pending == 1 && sure(hints.count()).delivered == 2);
     sure(hints.renew());
@@ -528,7 +576,7 @@ void sizes_of_hints() {
     CHECK(sure(hints.bytes()) == 19);
 }
 
-/// The number of a hint before a renewal names no other hint, and neither do those of a log after a restart.
+/// The number of a hint before a renewal names no other hint, and neither does a logged number after a restart.
 void numbers_of_hints() {
     Hints hints = sure(Hints::make());
     const Version tea{{{1, 2}}, Kind::Live, "tea"};
@@ -564,7 +612,7 @@ void refused_hints() {
 }
 
 void slots() {
-    Slots slots = sure(Slots::make(1, 2, 1000));
+    Slots slots = sure(Slots::make({1, 2, 1000}));
     sure(slots.lend());
     {
         Loan loan = sure(slots.lent());
@@ -583,8 +631,8 @@ void slots() {
 }
 
 void refused_slots() {
-    REFUSED(BadRing, Slots::make(0, 4, 1000));
-    Slots slots = sure(Slots::make(1, 2, 1000));
+    REFUSED(BadRing, Slots::make({0, 4, 1000}));
+    Slots slots = sure(Slots::make({1, 2, 1000}));
     REFUSED(BadRing, slots.set_target(3));
     sure(slots.sample(10, 1));
     REFUSED(ClockBack, slots.sample(9, 1));
@@ -592,7 +640,7 @@ void refused_slots() {
     Slots moved = std::move(slots);
     REFUSED(Empty, slots.lend());
     Loan loan = sure(moved.lent());
-    moved = sure(Slots::make(1, 2, 1000));
+    moved = sure(Slots::make({1, 2, 1000}));
     CHECK(sure(moved.count()).lent == 0);
     moved.close();
     REFUSED(Empty, moved.adjust(1));
@@ -615,6 +663,8 @@ int main() {
                 {"entries of several calls", entries_of_several_calls},
                 {"a log goes on over renewals", a_log_goes_on_over_renewals},
                 {"bad positions", bad_positions},
+                {"removal without a read", removal_without_a_read},
+                {"raw calls", raw_calls},
                 {"two clients", two_clients},
                 {"rows", rows},
                 {"rows of a format", rows_of_a_format},
@@ -627,6 +677,8 @@ int main() {
                 {"checkpoints", checkpoints},
                 {"checkpoint of the page", checkpoint_of_the_page},
                 {"damaged checkpoints", damaged_checkpoints},
+                {"damaged leaves", damaged_leaves},
+                {"unreadable checkpoints", unreadable_checkpoints},
                 {"hints", hints},
                 {"sizes of hints", sizes_of_hints},
                 {"numbers of hints", numbers_of_hints},

@@ -95,12 +95,12 @@ void failed_calls() {
     for (const char *call : {"fsync file", "rename"}) {
         Fixture it;
         fails = call;
-        CHECK(it.error() == "NotWritten: Input/output error");
+        CHECK(it.error() == "Io: Input/output error");
         CHECK(it.saved() == 1);
     }
     Fixture it;
     fails = "fsync folder";
-    CHECK(it.error() == "NotWritten: Input/output error");
+    CHECK(it.error() == "Io: Input/output error");
     CHECK(it.saved() == 2);
 }
 
@@ -114,11 +114,11 @@ void full_disk() {
     setrlimit(RLIMIT_FSIZE, &small);
     const std::string error = it.error();
     setrlimit(RLIMIT_FSIZE, &before);
-    CHECK(error == "NotWritten: File too large");
+    CHECK(error == "Io: File too large");
     CHECK(calls.empty() && it.saved() == 1);
 }
 
-/// A program that ends on the way leaves the old checkpoint, and a part of the new one beside it.
+/// A program that ends early leaves the old checkpoint, and a part of the new one next to it.
 void interrupted() {
     Fixture it;
     const pid_t child = fork();
@@ -137,7 +137,7 @@ void interrupted() {
 void refused_saves() {
     Fixture it;
     it.path = it.folder / "no folder" / "checkpoint";
-    CHECK(it.error() == "NotWritten: No such file or directory");
+    CHECK(it.error() == "Io: No such file or directory");
     it.path = it.folder / "checkpoint";
     it.replica.close();
     CHECK(it.error() == "Refused: Empty" && it.saved() == 1);

@@ -1,4 +1,4 @@
-/// What the tests share: a check, and a list of tests.
+/// Code that the tests share: a check, and a list of tests.
 #ifndef SUPPORT_HPP
 #define SUPPORT_HPP
 
@@ -9,7 +9,7 @@
 
 using namespace antientropy;
 
-/// Counts what failed in the test that runs.
+/// Number of failed checks of the running test.
 inline int failures = 0;
 
 inline void check(bool passed, const char *what, int line) {
@@ -23,25 +23,25 @@ inline void check(bool passed, const char *what, int line) {
 
 template <class Result>
 bool is_refused(Refusal cause, const Result &result) {
-    return !result && result.refusal() == cause;
+    return !result && result.error() == cause;
 }
 
 /// The value of a call that can't be refused here.
 template <class T>
 T sure(Result<T> result) {
     if (result) return *std::move(result);
-    std::printf("refused: %s\n", name(result.refusal()).c_str());
+    std::printf("refused: %s\n", name(result.error()).c_str());
     std::exit(1);
 }
 
 inline void sure(Result<void> result) { CHECK(result); }
 
-/// The values that a range-for meets.
+/// The values of a range-for.
 template <class T>
 std::vector<T> all(Sequence<T> sequence) {
     std::vector<T> met;
     for (auto &value : sequence) met.push_back(std::move(value));
-    CHECK(!sequence.refusal());
+    CHECK(!sequence.error());
     return met;
 }
 
@@ -49,12 +49,22 @@ std::vector<T> all(Sequence<T> sequence) {
 template <class T>
 Result<void> ended(Sequence<T> sequence) {
     CHECK(!(sequence.begin() != sequence.end()));
-    return sequence.refusal() ? Result<void>(*sequence.refusal()) : Result<void>();
+    return sequence.error() ? Result<void>(Unexpected(*sequence.error())) : Result<void>();
+}
+
+/// The numbers of a replica of format 1.
+inline const Config format_1 = {1};
+
+/// The numbers of a replica with a limit.
+inline Config with_limit(std::uint64_t limit) {
+    Config config;
+    config.limit = limit;
+    return config;
 }
 
 /// A replica with keys that were put at node 1.
 inline Replica filled(int keys) {
-    Replica replica = sure(Replica::make(2, 0, 0, 10'000));
+    Replica replica = sure(Replica::make(with_limit(10'000)));
     for (int n = 0; n < keys; n++) sure(replica.put(1, "key " + std::to_string(n), "value"));
     return replica;
 }
@@ -62,7 +72,7 @@ inline Replica filled(int keys) {
 using Asks = std::vector<std::string>;
 using Answers = std::vector<std::optional<std::string>>;
 
-/// The answers of a partner that is called directly. Its offer has the number 1.
+/// A partner that is called directly. Its offer has the number 1.
 inline Answers serve(const Snapshot &snapshot, const Asks &asks) {
     Answers answers;
     for (const auto &ask : asks) answers.push_back(sure(snapshot.serve(1, ask)));
@@ -73,7 +83,7 @@ inline Reach reach(const Snapshot &snapshot) {
     return [&](const Asks &asks) { return serve(snapshot, asks); };
 }
 
-/// The bytes that hexadecimal digits write.
+/// The bytes of hexadecimal digits.
 inline std::string from_hex(const std::string &digits) {
     std::string bytes;
     for (std::size_t at = 0; at < digits.size(); at += 2) {

@@ -40,7 +40,7 @@ void snapshots() {
     REFUSED(Empty, snapshot.serve(1, ask_of(0)));
 }
 
-/// The keys of a snapshot, and what it has of each.
+/// The keys of a snapshot, and the row of each.
 std::vector<std::string> rows_of(const Snapshot &snapshot) {
     std::vector<std::string> rows = all(snapshot.keys());
     for (std::string &key : rows) key += sure(snapshot.row(key));
@@ -143,8 +143,8 @@ void both_ways() {
     CHECK(sure(a.sync(2, sure(of_b.offer(1)), reach(of_b))).accepted == 1 && sure(a.root()) == sure(b.root()));
 }
 
-/// Two replicas: the first has 20 keys that the second lacks, and a key is crowded between the two. Its leaf is the
-/// first of their leaves.
+/// Two replicas: the first has 20 keys that the second doesn't have, and a key is crowded between the two. Its leaf is
+/// the first of their leaves.
 struct Crowded {
     Replica a = filled(20), b = sure(Replica::make());
     std::uint64_t leaf = ANTIENTROPY_LEAVES_2;
@@ -169,7 +169,7 @@ void crowded_leaf_is_left() {
     CHECK(synced.left == std::vector{replicas.leaf});
 }
 
-/// A partner answers each ask for a leaf with the text of the crowded one.
+/// A partner that returns the crowded leaf's text for each ask for a leaf.
 void leaf_is_left_for_its_own_answer() {
     Crowded replicas;
     Replica &b = replicas.b;
@@ -274,7 +274,7 @@ void plain_asks() {
     CHECK(sure(b.sync(1, sure(snapshot.offer(1)), plain, bounds)).accepted == 10);
 }
 
-/// A partner that lies in each patch, and one before outlines, which refuses them.
+/// A partner whose patches are all wrong, and an older one, which refuses outlines.
 void outlines_without_a_text() {
     for (const bool lies : {true, false}) {
         Replica a = versions(2), b = versions(1);
@@ -304,7 +304,7 @@ void not_canonical() {
 }
 
 void full_journal() {
-    Replica a = filled(50), small = sure(Replica::make(2, 0, 0, 10));
+    Replica a = filled(50), small = sure(Replica::make({2, 0, 0, 10}));
     Snapshot snapshot = sure(a.snapshot());
     const std::string offer = sure(snapshot.offer(1));
     REFUSED(JournalFull, small.sync(1, offer, reach(snapshot)));

@@ -24,7 +24,7 @@ std::string message(Call call) {
 void refused_values() {
     Replica replica = Replica::make().value();
     const auto refused = [](auto call) { return message<Refusal>(call); };
-    CHECK(refused([] { (void)Replica::make(3).value(); }) == "antientropy: BadRing");
+    CHECK(refused([] { (void)Replica::make({3}).value(); }) == "antientropy: BadRing");
     CHECK(refused([&] { (void)replica.put(1, "", "milk").value(); }) == "antientropy: BadKey");
     const auto receipt = replica.put(1, "", "milk");
     CHECK(refused([&] { (void)receipt.value(); }) == "antientropy: BadKey");
@@ -34,11 +34,11 @@ void refused_values() {
 
 void errors_of_checkpoints() {
     std::istringstream file("no checkpoint");
-    const auto failed = [](auto call) { return message<FileError>(call); };
-    CHECK(failed([&] { (void)Replica::load(file).value(); }) == "antientropy: Truncated");
+    const auto failed = [](auto call) { return message<CheckpointError>(call); };
+    CHECK(failed([&] { (void)Replica::load(file).value(); }) == "antientropy: Damaged: Truncated");
     Replica replica = Replica::make().value();
     const std::filesystem::path missing = "no folder/checkpoint";
-    CHECK(failed([&] { (void)replica.save(missing).value(); }) == "antientropy: NotWritten: No such file or directory");
+    CHECK(failed([&] { (void)replica.save(missing).value(); }) == "antientropy: Io: No such file or directory");
     replica.close();
     CHECK(failed([&] { (void)replica.save(missing).value(); }) == "antientropy: Refused: Empty");
 }
@@ -49,7 +49,7 @@ void values() {
     CHECK(receipt.value().counter == 1);
     for (const auto &version : made->get("cart").value()) CHECK(version.value == "milk");
     Replica moved = std::move(made).value();
-    CHECK(moved.count_versions("cart").value() == 1);
+    CHECK(moved.get("cart").value().size() == 1);
 }
 
 } // namespace
