@@ -7,6 +7,7 @@
 #define LONG ERL_NIF_DIRTY_JOB_CPU_BOUND
 
 #define CALLS(X)                                                                                                       \
+    X(wait, 4, SHORT)                                                                                                  \
     X(version, 0, SHORT)                                                                                               \
     X(name, 1, SHORT)                                                                                                  \
     X(place, 3, SHORT)                                                                                                 \
@@ -17,21 +18,24 @@
     X(new_seeded, 6, LONG)                                                                                             \
     X(close, 1, LONG)                                                                                                  \
     X(renew, 2, LONG)                                                                                                  \
-    X(renew_in_place, 3, LONG)                                                                                         \
-    X(renewal, 3, LONG)                                                                                                \
-    X(renewal_finish, 1, LONG)                                                                                         \
-    X(renewal_close, 1, LONG)                                                                                          \
+    X(renewal, 1, SHORT)                                                                                               \
+    X(renewal_of_moment, 4, LONG)                                                                                      \
+    X(renewal_build, 1, LONG)                                                                                          \
+    X(renewal_catch_up, 2, SHORT)                                                                                      \
+    X(renewal_finish, 1, SHORT)                                                                                        \
+    X(renewal_close, 1, SHORT)                                                                                         \
     X(keep_renewed, 1, SHORT)                                                                                          \
-    X(renew_if_due, 2, LONG)                                                                                           \
+    X(due_renewal, 1, SHORT)                                                                                           \
     X(migrate, 1, LONG)                                                                                                \
     X(about, 1, SHORT)                                                                                                 \
     X(count, 1, SHORT)                                                                                                 \
     X(bytes, 1, LONG)                                                                                                  \
-    X(rehash, 1, LONG)                                                                                                 \
     X(rehash_some, 2, LONG)                                                                                            \
     X(hold, 1, LONG)                                                                                                   \
     X(drop_moment, 1, LONG)                                                                                            \
-    X(hash_moment, 2, LONG)                                                                                            \
+    X(take_portion, 2, SHORT)                                                                                          \
+    X(hash_portion, 1, LONG)                                                                                           \
+    X(install_portion, 2, SHORT)                                                                                       \
     X(moment, 1, LONG)                                                                                                 \
     X(snapshot_of_moment, 3, LONG)                                                                                     \
     X(exchange_of_moment, 6, LONG)                                                                                     \

@@ -1,4 +1,5 @@
-/* Exchanges of a replica. A call that only reads has the replica's lock alone, too: it may change the exchange. */
+/* Exchanges of a replica. Even a call that only reads the replica is alone in its gate, since it may change the
+ * exchange. */
 #include "handles.h"
 #include "terms.h"
 
@@ -125,7 +126,7 @@ CALL(EXCHANGE, exchange_left)
     return ok(env, leaves);
 }
 
-/* Closes an exchange, and drops its session, with the others that have ended, before the lock is free.
+/* Closes an exchange, and drops its session, with the others that have ended.
  * exchange_close(Exchange) -> ok | {renew, Replica, ok} */
 CALL(EXCHANGE, exchange_close)
 {

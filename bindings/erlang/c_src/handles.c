@@ -4,15 +4,10 @@
 #include <stdatomic.h>
 #include <string.h>
 
+#include "leftovers.h"
 #include "terms.h"
 
 static ErlNifResourceType *types[KINDS];
-
-static void drop_lock(struct resource *dropped)
-{
-    if (dropped->lock != NULL)
-        enif_rwlock_destroy(dropped->lock);
-}
 
 void close_orphans(struct resource *replica)
 {
@@ -28,22 +23,28 @@ void close_orphans(struct resource *replica)
     antientropy_drop_sessions(&replica->replica);
 }
 
-static void drop_replica(UNUSED ErlNifEnv *env, void *dropped)
+/* ---- destructors, which may run on a normal scheduler */
+
+static void drop_replica(ErlNifEnv *env, void *dropped)
 {
     struct resource *at = dropped;
-    close_orphans(at);
-    antientropy_free(&at->replica);
-    drop_lock(at);
+    for (struct orphan *next, *orphan = atomic_load(&at->orphans); orphan != NULL; orphan = next) {
+        next = orphan->next;
+        antientropy_exchange_free(&orphan->exchange);
+        enif_free(orphan);
+    }
+    free_later(env, &(struct leftovers){.replica = at->replica});
+    drop_gate(&at->gate);
 }
 
-static void drop_snapshot(UNUSED ErlNifEnv *env, void *dropped)
+static void drop_snapshot(ErlNifEnv *env, void *dropped)
 {
     struct resource *at = dropped;
-    antientropy_snapshot_free(&at->snapshot);
-    drop_lock(at);
+    free_later(env, &(struct leftovers){.snapshot = at->snapshot});
+    drop_gate(&at->gate);
 }
 
-/* Leaves an exchange to its replica, since a destructor may not wait for the lock. */
+/* Leaves an exchange to its replica, since a destructor isn't in the gate. */
 static void drop_exchange(UNUSED ErlNifEnv *env, void *dropped)
 {
     struct resource *at = dropped;
@@ -59,25 +60,41 @@ static void drop_exchange(UNUSED ErlNifEnv *env, void *dropped)
     enif_release_resource(at->of);
 }
 
-static void drop_renewal(UNUSED ErlNifEnv *env, void *dropped)
+static void drop_renewal(ErlNifEnv *env, void *dropped)
 {
     struct resource *at = dropped;
-    antientropy_renewal_free(&at->renewal);
+    free_later(env, &(struct leftovers){.renewal = at->renewal});
+    if (at->is_kept)
+        atomic_store(&at->of->keeper.is_at_work, false);
     enif_release_resource(at->of);
 }
 
-static void drop_hints(UNUSED ErlNifEnv *env, void *dropped)
+static void drop_portion(UNUSED ErlNifEnv *env, void *dropped)
 {
     struct resource *at = dropped;
-    antientropy_hints_free(&at->hints);
-    drop_lock(at);
+    antientropy_portion_free(&at->portion);
+    enif_release_resource(at->of);
+}
+
+static void drop_hints(ErlNifEnv *env, void *dropped)
+{
+    struct resource *at = dropped;
+    free_later(env, &(struct leftovers){.hints = at->hints});
+    drop_gate(&at->gate);
 }
 
 static void drop_slots(UNUSED ErlNifEnv *env, void *dropped)
 {
     struct resource *at = dropped;
     antientropy_slots_free(&at->slots);
-    drop_lock(at);
+    drop_gate(&at->gate);
+}
+
+/* A process died that had been called to the gate of a resource. */
+static void process_died(ErlNifEnv *env, void *of, UNUSED ErlNifPid *process, ErlNifMonitor *monitor)
+{
+    struct resource *at = of;
+    give_back(env, &at->gate, monitor);
 }
 
 bool open_types(ErlNifEnv *env)
@@ -90,68 +107,110 @@ bool open_types(ErlNifEnv *env)
         [SNAPSHOT] = {"antientropy_snapshot", drop_snapshot},
         [EXCHANGE] = {"antientropy_exchange", drop_exchange},
         [RENEWAL] = {"antientropy_renewal", drop_renewal},
+        [PORTION] = {"antientropy_portion", drop_portion},
         [HINTS] = {"antientropy_hints", drop_hints},
         [SLOTS] = {"antientropy_slots", drop_slots},
     };
     for (int kind = 0; kind < KINDS; kind++) {
-        types[kind] = enif_open_resource_type(env, NULL, kinds[kind].name, kinds[kind].drop, ERL_NIF_RT_CREATE, NULL);
+        const ErlNifResourceTypeInit callbacks = {.dtor = kinds[kind].drop, .down = process_died};
+        types[kind] = enif_open_resource_type_x(env, kinds[kind].name, &callbacks,
+                                                ERL_NIF_RT_CREATE | ERL_NIF_RT_TAKEOVER, NULL);
         if (types[kind] == NULL)
             return false;
     }
     return true;
 }
 
-bool on_normal_scheduler(void)
+/* ---- calls */
+
+static ERL_NIF_TERM bool_atom(bool flag)
 {
-    return enif_thread_type() == ERL_NIF_THR_NORMAL_SCHEDULER;
+    return flag ? atoms.yes : atoms.no;
 }
 
-ERL_NIF_TERM or_elsewhere(ErlNifEnv *env, ERL_NIF_TERM result, const char *name, nif *again, int argc,
-                          const ERL_NIF_TERM argv[])
+/* Returns {Atom, Name, Arguments, Reads, IsLong} for a call. */
+static ERL_NIF_TERM call_term(ErlNifEnv *env, ERL_NIF_TERM atom, const struct call *call, int argc,
+                              const ERL_NIF_TERM argv[])
+{
+    ERL_NIF_TERM name = enif_make_atom(env, call->name);
+    ERL_NIF_TERM arguments = enif_make_list_from_array(env, argv, (unsigned)argc);
+    return enif_make_tuple5(env, atom, name, arguments, bool_atom(call->reads), bool_atom(!on_normal_scheduler()));
+}
+
+ERL_NIF_TERM finished(const struct call *call, ErlNifEnv *env, ERL_NIF_TERM result, int argc,
+                      const ERL_NIF_TERM argv[])
 {
     if (result == ELSEWHERE)
-        return enif_schedule_nif(env, name, ERL_NIF_DIRTY_JOB_CPU_BOUND, again, argc, argv);
-    return result;
+        return enif_schedule_nif(env, call->name, ERL_NIF_DIRTY_JOB_CPU_BOUND, call->again, argc, argv);
+    return result == WRONG ? call_term(env, WRONG, call, argc, argv) : result;
 }
 
-/* Takes a side of a lock, if it is free. */
-static bool take_at_once(ErlNifRWLock *lock, bool reads)
+/* Returns the gate that calls of a handle pass. */
+static struct gate *gate_of(struct resource *at)
 {
-    return (reads ? enif_rwlock_tryrlock(lock) : enif_rwlock_tryrwlock(lock)) == 0;
+    return at->of == NULL ? &at->gate : &at->of->gate;
 }
 
-/* Waits for a side of a lock. */
-static void take(ErlNifRWLock *lock, bool reads)
-{
-    if (reads)
-        enif_rwlock_rlock(lock);
-    else
-        enif_rwlock_rwlock(lock);
-}
-
-static void give_back(ErlNifRWLock *lock, bool reads)
-{
-    if (reads)
-        enif_rwlock_runlock(lock);
-    else
-        enif_rwlock_rwunlock(lock);
-}
-
-ERL_NIF_TERM with_lock(const struct call *call, ErlNifEnv *env, int argc, const ERL_NIF_TERM argv[])
+struct resource *get_resource(ErlNifEnv *env, ERL_NIF_TERM term, enum kind kind)
 {
     void *found;
-    if (!enif_get_resource(env, argv[0], types[call->kind], &found))
-        return enif_make_badarg(env);
-    struct resource *at = found;
-    if (!take_at_once(at->lock, call->reads)) {
-        if (on_normal_scheduler())
-            return enif_schedule_nif(env, call->name, ERL_NIF_DIRTY_JOB_IO_BOUND, call->again, argc, argv);
-        take(at->lock, call->reads);
-    }
-    ERL_NIF_TERM result = call->held(env, at, argv);
-    give_back(at->lock, call->reads);
-    return or_elsewhere(env, result, call->name, call->again, argc, argv);
+    return enif_get_resource(env, term, types[kind], &found) ? found : NULL;
 }
+
+/* Reads that take one percent of a process's turn on its scheduler. A change takes one percent, too. */
+enum { READS_A_PERCENT = 4 };
+
+/* Counts a call, so that a process that calls without pause leaves its scheduler after some hundred calls. */
+static void count_call(ErlNifEnv *env, bool reads)
+{
+    static _Thread_local unsigned count;
+    if (!reads || ++count % READS_A_PERCENT == 0)
+        enif_consume_timeslice(env, 1);
+}
+
+ERL_NIF_TERM with_gate(const struct call *call, ErlNifEnv *env, int argc, const ERL_NIF_TERM argv[])
+{
+    struct resource *at = get_resource(env, argv[0], call->kind);
+    if (at == NULL)
+        return finished(call, env, WRONG, argc, argv);
+    struct gate *gate = gate_of(at);
+    enum entry entry = enter(env, gate, call->reads);
+    if (entry == TAKEN)
+        return call_term(env, atoms.wait, call, argc, argv);
+    if (entry == GO_ELSEWHERE)
+        return finished(call, env, ELSEWHERE, argc, argv);
+    ERL_NIF_TERM result = call->held(env, at, argv);
+    leave(env, gate, call->reads);
+    count_call(env, call->reads);
+    return finished(call, env, result, argc, argv);
+}
+
+/* Puts the calling process into the line of a handle's gate. It gets the message `Turn' when it has the gate.
+ * wait(Handle, Reads, IsLong, Turn) -> ok */
+FUNCTION(wait)
+{
+    struct use use;
+    if (!get_bool(argv[1], &use.reads) || !get_bool(argv[2], &use.is_long) || !enif_is_ref(env, argv[3]))
+        return WRONG;
+    for (enum kind kind = 0; kind < KINDS; kind++) {
+        struct resource *at = get_resource(env, argv[0], kind);
+        if (at != NULL)
+            return done(env, stand_in_line(env, gate_of(at), use, argv[3]) ? ANTIENTROPY_OK : ANTIENTROPY_NO_MEMORY);
+    }
+    return WRONG;
+}
+
+bool claim(struct resource *part)
+{
+    return !atomic_exchange(&part->is_claimed, true);
+}
+
+void disclaim(struct resource *part)
+{
+    atomic_store(&part->is_claimed, false);
+}
+
+/* ---- resources */
 
 static struct resource *make_zero(enum kind kind)
 {
@@ -166,7 +225,6 @@ struct resource *make_part(enum kind kind, struct resource *replica)
         return NULL;
     enif_keep_resource(replica);
     made->of = replica;
-    made->lock = replica->lock;
     return made;
 }
 
@@ -175,8 +233,7 @@ struct resource *make_resource(enum kind kind)
     struct resource *made = make_zero(kind);
     if (made == NULL)
         return NULL;
-    made->lock = enif_rwlock_create("antientropy");
-    if (made->lock == NULL) {
+    if (!make_gate(&made->gate, made)) {
         enif_release_resource(made);
         return NULL;
     }

@@ -1,4 +1,4 @@
-/* Handles of the library as resources of Erlang, each with a lock. */
+/* Handles of the library as resources of Erlang, each with a gate. */
 #ifndef HANDLES_H
 #define HANDLES_H
 
@@ -7,11 +7,12 @@
 
 #include "antientropy.h"
 #include "calls.h"
+#include "gate.h"
 #include "keeper.h"
 
 #define UNUSED __attribute__((unused))
 
-enum kind { REPLICA, SNAPSHOT, EXCHANGE, RENEWAL, HINTS, SLOTS, KINDS };
+enum kind { REPLICA, SNAPSHOT, EXCHANGE, RENEWAL, PORTION, HINTS, SLOTS, KINDS };
 
 /* An exchange that no process has any more. */
 struct orphan {
@@ -19,19 +20,23 @@ struct orphan {
     struct orphan *next;
 };
 
-/* An exchange and a renewal keep the resource of their replica, and have its lock. A replica keeps its orphans until
- * they are closed. */
+/* An exchange, a renewal and a portion are parts of a replica: they keep its resource, and calls of them pass its gate.
+ * A replica keeps its orphans until they are closed. */
 struct resource {
-    ErlNifRWLock *lock;
+    struct gate gate;
     struct resource *of;
     _Atomic(struct orphan *) orphans;
     struct keeper keeper;
-    bool is_plain; /* an exchange's: no ask is an outline */
+    _Atomic(bool) is_claimed; /* a call uses a renewal or a portion, maybe without the gate */
+    bool is_kept;             /* the keeper asked for this renewal, and it hasn't ended */
+    bool is_hashed;           /* a portion's: its nodes have their digests */
+    bool is_plain;            /* an exchange's: no ask is an outline */
     union {
         struct antientropy_replica replica;
         struct antientropy_snapshot snapshot;
         struct antientropy_exchange exchange;
         struct antientropy_renewal renewal;
+        struct antientropy_portion portion;
         struct antientropy_hints hints;
         struct antientropy_slots slots;
     };
@@ -40,13 +45,13 @@ struct resource {
 /* A function of the NIF library. */
 typedef ERL_NIF_TERM nif(ErlNifEnv *env, int argc, const ERL_NIF_TERM argv[]);
 
-/* A function of the NIF library whose first argument is a handle. It has the handle's lock, which it may leave free for
- * a time unless it only reads. On a normal scheduler it may return ELSEWHERE: then it begins again on a dirty one,
- * since it takes long. */
+/* A function of the NIF library whose first argument is a handle, in the handle's gate. On a normal scheduler it may
+ * return ELSEWHERE, since it takes long: then it begins again on a dirty one. It returns WRONG for an argument of a
+ * wrong type. */
 typedef ERL_NIF_TERM held(ErlNifEnv *env, struct resource *at, const ERL_NIF_TERM argv[]);
 
 /* A call of `held` with its name in Erlang, and the function that makes it. If it only reads the handle, other reads
- * have the lock at the same time. */
+ * are in the gate at the same time. */
 struct call {
     enum kind kind;
     bool reads;
@@ -58,12 +63,13 @@ struct call {
 #define DECLARE(name, arity, flags) nif nif_##name;
 CALLS(DECLARE)
 
-/* Begins the definition of a function without a handle. It may return ELSEWHERE as `held` does. */
+/* Begins the definition of a function that needs no gate. It may return ELSEWHERE and WRONG, like `held`. */
 #define FUNCTION(name)                                                                                                 \
     static nif plain_##name;                                                                                           \
     ERL_NIF_TERM nif_##name(ErlNifEnv *env, int argc, const ERL_NIF_TERM argv[])                                       \
     {                                                                                                                  \
-        return or_elsewhere(env, plain_##name(env, argc, argv), #name, nif_##name, argc, argv);                        \
+        static const struct call call = {KINDS, false, #name, nif_##name, NULL};                                       \
+        return finished(&call, env, plain_##name(env, argc, argv), argc, argv);                                        \
     }                                                                                                                  \
     static ERL_NIF_TERM plain_##name(UNUSED ErlNifEnv *env, UNUSED int argc, UNUSED const ERL_NIF_TERM argv[])
 
@@ -73,7 +79,7 @@ CALLS(DECLARE)
     ERL_NIF_TERM nif_##name(ErlNifEnv *env, int argc, const ERL_NIF_TERM argv[])                                       \
     {                                                                                                                  \
         static const struct call call = {kind, false, #name, nif_##name, held_##name};                                 \
-        return with_lock(&call, env, argc, argv);                                                                      \
+        return with_gate(&call, env, argc, argv);                                                                      \
     }                                                                                                                  \
     static ERL_NIF_TERM held_##name(ErlNifEnv *env, struct resource *at, UNUSED const ERL_NIF_TERM argv[])
 
@@ -87,37 +93,47 @@ CALLS(DECLARE)
     ERL_NIF_TERM nif_##name(ErlNifEnv *env, int argc, const ERL_NIF_TERM argv[])                                       \
     {                                                                                                                  \
         static const struct call call = {kind, true, #name, nif_##name, held_##name};                                  \
-        return with_lock(&call, env, argc, argv);                                                                      \
+        return with_gate(&call, env, argc, argv);                                                                      \
     }                                                                                                                  \
     static ERL_NIF_TERM read_##name(ErlNifEnv *env, const struct resource *at, UNUSED const ERL_NIF_TERM argv[])
 
 /* Returned in place of a term: the call begins again on a dirty scheduler. */
 #define ELSEWHERE 0
 
+/* Returned in place of a term: an argument has a wrong type. */
+#define WRONG atoms.badarg
+
 /* Bytes of an argument, or of a result, that a call handles in far less than a millisecond. */
 #define FEW_BYTES 4096
 
-/* Returns true if a call must not take long here. */
-bool on_normal_scheduler(void);
-
-/* Opens the resource types. Returns false if one can't be opened. */
+/* Opens the resource types, or takes them over from another instance of the library. Returns false if it can't. */
 bool open_types(ErlNifEnv *env);
 
-/* Returns the result of a function, or for ELSEWHERE begins the function again on a dirty scheduler. */
-ERL_NIF_TERM or_elsewhere(ErlNifEnv *env, ERL_NIF_TERM result, const char *name, nif *again, int argc,
-                          const ERL_NIF_TERM argv[]);
+/* Returns the result of a call to Erlang. For ELSEWHERE begins the call again on a dirty scheduler, and for WRONG
+ * returns {badarg, Name, Arguments, Reads, IsLong}. */
+ERL_NIF_TERM finished(const struct call *call, ErlNifEnv *env, ERL_NIF_TERM result, int argc,
+                      const ERL_NIF_TERM argv[]);
 
-/* Makes a call with the lock of the handle in its first argument. A normal scheduler doesn't wait for the lock: the
- * call begins again on a dirty one. */
-ERL_NIF_TERM with_lock(const struct call *call, ErlNifEnv *env, int argc, const ERL_NIF_TERM argv[]);
+/* Makes a call in the gate of the handle in its first argument. If the gate is taken, doesn't wait, and returns {wait,
+ * Name, Arguments, Reads, IsLong}. */
+ERL_NIF_TERM with_gate(const struct call *call, ErlNifEnv *env, int argc, const ERL_NIF_TERM argv[]);
+
+/* Returns the resource of a handle of a kind, or NULL if the term isn't one. */
+struct resource *get_resource(ErlNifEnv *env, ERL_NIF_TERM term, enum kind kind);
+
+/* Claims a renewal or a portion for a call. Returns false if another call has it. */
+bool claim(struct resource *part);
+
+/* Ends a claim. */
+void disclaim(struct resource *part);
 
 /* Makes a resource whose handle holds nothing, or returns NULL without memory. */
 struct resource *make_resource(enum kind kind);
 
-/* Closes the orphans of a replica, whose lock the caller has, and drops the sessions that have ended. */
+/* Closes the orphans of a replica, and drops the sessions that have ended. The caller is in the replica's gate. */
 void close_orphans(struct resource *replica);
 
-/* Makes a resource of a replica's exchange or renewal whose handle holds nothing, or returns NULL without memory. */
+/* Makes a part of a replica whose handle holds nothing, or returns NULL without memory. */
 struct resource *make_part(enum kind kind, struct resource *replica);
 
 /* Returns {ok, Handle} or a refusal, and releases the resource. */

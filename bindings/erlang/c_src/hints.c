@@ -16,7 +16,7 @@ FUNCTION(hints_restore)
 {
     uint64_t first;
     if (!get_u64(env, argv[0], &first))
-        return enif_make_badarg(env);
+        return WRONG;
     struct resource *made = make_resource(HINTS);
     if (made == NULL)
         return refused(env, ANTIENTROPY_NO_MEMORY);
@@ -37,7 +37,7 @@ CALL(HINTS, hint_keep)
     ErlNifBinary key;
     struct version version;
     if (!get_u64(env, argv[1], &owner) || !get_key(env, argv[2], &key))
-        return enif_make_badarg(env);
+        return WRONG;
     uint32_t number = get_version(env, argv[3], &version);
     if (number != ANTIENTROPY_OK)
         return refused(env, number);
@@ -52,7 +52,7 @@ CALL(HINTS, hint_next)
 {
     uint64_t owner, after, id;
     if (!get_u64(env, argv[1], &owner) || !get_u64(env, argv[2], &after))
-        return enif_make_badarg(env);
+        return WRONG;
     uint32_t number = antientropy_hint_next(&at->hints, owner, after, &id);
     return number == ANTIENTROPY_OK ? ok(env, enif_make_uint64(env, id)) : refused(env, number);
 }
@@ -65,7 +65,7 @@ CALL(HINTS, hint)
     struct antientropy_pair pairs[ANTIENTROPY_CLOCK_MAX];
     struct room room;
     if (!get_u64(env, argv[1], &id))
-        return enif_make_badarg(env);
+        return WRONG;
     uint32_t number = antientropy_hint_owner(&at->hints, id, &owner);
     if (number == ANTIENTROPY_OK)
         number = antientropy_hint_key(&at->hints, id, key, sizeof key, &key_len);
@@ -92,7 +92,7 @@ CALL(HINTS, hint_confirm)
     uint64_t id;
     bool known = enif_is_identical(argv[2], atoms.known);
     if (!get_u64(env, argv[1], &id) || (!known && !enif_is_identical(argv[2], atoms.new)))
-        return enif_make_badarg(env);
+        return WRONG;
     return done(env, antientropy_hint_confirm(&at->hints, id, known));
 }
 

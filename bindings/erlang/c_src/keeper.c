@@ -2,7 +2,6 @@
 #include "keeper.h"
 
 #include "handles.h"
-#include "renewal.h"
 #include "terms.h"
 
 /* Time after which another process is asked for a renewal, since the one before may have been killed. */
@@ -13,7 +12,7 @@ static ErlNifTime now_ms(void)
     return enif_monotonic_time(ERL_NIF_MSEC);
 }
 
-/* Returns true at nine tenths of the limit, once half of the room that the last renewal left is used. */
+/* Returns true if nine tenths of the limit are used, and half of the entries that the last renewal left free. */
 static bool is_due_at(const struct keeper *keeper, uint64_t entries)
 {
     uint64_t used = entries - keeper->first;
@@ -67,19 +66,24 @@ CALL(REPLICA, keep_renewed)
     return after_change(env, at, atoms.ok);
 }
 
-/* Renews a replica with its limit if that is due. A renewal that is refused counts as one that has dropped no entry:
- * another one is due when half of the room that is left is used. renew_if_due(Replica, Most) -> ok */
-CALL(REPLICA, renew_if_due)
+/* Begins a renewal with the replica's limit if it is due. due_renewal(Replica) -> {ok, Renewal, Limit} | ok */
+CALL(REPLICA, due_renewal)
 {
-    uint64_t most;
-    if (!get_u64(env, argv[1], &most))
-        return enif_make_badarg(env);
     if (!is_due(at))
         return atoms.ok;
+    struct resource *made = make_part(RENEWAL, at);
+    if (made == NULL)
+        return refused(env, ANTIENTROPY_NO_MEMORY);
     at->keeper.is_at_work = true;
-    uint32_t number = renew(at, at->keeper.limit, most);
-    at->keeper.is_at_work = false;
-    if (number != ANTIENTROPY_OK)
-        note_renewed(at);
-    return done(env, number);
+    made->is_kept = true;
+    ERL_NIF_TERM renewal = enif_make_resource(env, made);
+    enif_release_resource(made);
+    return enif_make_tuple3(env, atoms.ok, renewal, enif_make_uint64(env, at->keeper.limit));
+}
+
+void end_kept(struct resource *renewal)
+{
+    if (renewal->is_kept)
+        renewal->of->keeper.is_at_work = false;
+    renewal->is_kept = false;
 }

@@ -13,7 +13,7 @@ FUNCTION(name)
 {
     uint32_t number;
     if (!get_u32(env, argv[0], &number))
-        return enif_make_badarg(env);
+        return WRONG;
     return name_of(number);
 }
 
@@ -24,7 +24,7 @@ FUNCTION(place)
     ErlNifBinary key;
     struct antientropy_spot spot;
     if (!get_u64(env, argv[0], &format) || !get_u64(env, argv[1], &bits) || !get_key(env, argv[2], &key))
-        return enif_make_badarg(env);
+        return WRONG;
     uint32_t number = antientropy_place(format, bits, key.data, key.size, &spot);
     if (number != ANTIENTROPY_OK)
         return refused(env, number);

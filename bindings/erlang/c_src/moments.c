@@ -1,10 +1,16 @@
-/* Moments: the rows of a replica at a time, which are hashed in portions while other calls go on. */
+/* Moments: the rows of a replica at a time. They are hashed in portions, outside the replica's gate. */
 #include "moments.h"
 
+#include <string.h>
+
+#include "leftovers.h"
 #include "terms.h"
 
-/* Time for which one call hashes portions: it is on a dirty scheduler. */
-enum { HASH_MS = 10 };
+/* Time for which one call makes steps. */
+enum { STEPS_MS = 10 };
+
+/* Maximum number of a step's arguments. */
+enum { STEP_ARGUMENTS = 6 };
 
 /* hold(Replica) -> ok */
 CALL(REPLICA, hold)
@@ -18,67 +24,6 @@ CALL(REPLICA, drop_moment)
     return done(env, antientropy_drop_moment(&at->replica));
 }
 
-/* Hashes at most `most` of the moment's nodes, and counts those that have no digest then. The lock is free while they
- * are hashed: other calls go on, and may hold another moment or drop this one. */
-static uint32_t hash_portion(struct resource *at, uint64_t most, uint64_t *left)
-{
-    struct antientropy_portion portion = {0};
-    uint32_t number = antientropy_take_portion(&at->replica, most, &portion);
-    if (number != ANTIENTROPY_OK)
-        return number;
-    enif_rwlock_rwunlock(at->lock);
-    number = antientropy_hash_portion(&portion);
-    enif_rwlock_rwlock(at->lock);
-    if (number == ANTIENTROPY_OK)
-        number = antientropy_install_portion(&at->replica, &portion, left);
-    antientropy_portion_free(&portion);
-    return number;
-}
-
-/* hash_moment(Replica, Most) -> {ok, Left} */
-CALL(REPLICA, hash_moment)
-{
-    uint64_t most, left;
-    if (!get_u64(env, argv[1], &most))
-        return enif_make_badarg(env);
-    uint32_t number = hash_portion(at, most, &left);
-    return number == ANTIENTROPY_OK ? ok(env, enif_make_uint64(env, left)) : refused(env, number);
-}
-
-/* Makes a call of the moment, and then drops the moment: its rows stay with what the call made, and no later hold frees
- * them under the lock. */
-static uint32_t call_and_drop(struct resource *at, of_moment *call, void *of)
-{
-    uint32_t number = call(at, of);
-    if (number != ANTIENTROPY_DIRTY)
-        antientropy_drop_moment(&at->replica);
-    return number;
-}
-
-uint32_t call_or_hash(struct resource *at, bool holds, uint64_t most, of_moment *call, void *of)
-{
-    uint64_t left;
-    ErlNifTime end = enif_monotonic_time(ERL_NIF_MSEC) + HASH_MS;
-    uint32_t number = holds ? antientropy_hold(&at->replica) : ANTIENTROPY_OK;
-    if (number == ANTIENTROPY_OK)
-        number = call_and_drop(at, call, of);
-    if (number != ANTIENTROPY_DIRTY)
-        return number;
-    do {
-        number = hash_portion(at, most, &left);
-        if (number != ANTIENTROPY_OK)
-            return number;
-    } while (left > 0 && enif_monotonic_time(ERL_NIF_MSEC) < end);
-    return left > 0 ? MORE : call_and_drop(at, call, of);
-}
-
-/* Makes the snapshot of the moment. */
-static uint32_t fill(struct resource *at, void *of)
-{
-    struct resource *made = of;
-    return antientropy_moment(&at->replica, &made->snapshot);
-}
-
 /* moment(Replica) -> {ok, Snapshot} */
 READ(REPLICA, moment)
 {
@@ -88,23 +33,147 @@ READ(REPLICA, moment)
     return handle_result(env, made, antientropy_moment(&at->replica, &made->snapshot));
 }
 
-/* snapshot_of_moment(Replica, Holds, Most) -> {ok, Snapshot} | more */
-CALL(REPLICA, snapshot_of_moment)
+/* ---- portions */
+
+/* Makes a portion of the moment's nodes. */
+static uint32_t take_portion(ErlNifEnv *env, struct resource *replica, uint64_t most, ERL_NIF_TERM *portion)
 {
-    bool holds;
-    uint64_t most;
-    if (!get_bool(argv[1], &holds) || !get_u64(env, argv[2], &most))
-        return enif_make_badarg(env);
+    struct resource *made = make_part(PORTION, replica);
+    if (made == NULL)
+        return ANTIENTROPY_NO_MEMORY;
+    uint32_t number = antientropy_take_portion(&replica->replica, most, &made->portion);
+    if (number == ANTIENTROPY_OK)
+        *portion = enif_make_resource(env, made);
+    enif_release_resource(made);
+    return number;
+}
+
+/* Installs the digests of a portion, and counts the moment's nodes without a digest. */
+static uint32_t install_portion(ErlNifEnv *env, struct resource *replica, ERL_NIF_TERM portion, uint64_t *left)
+{
+    struct resource *taken = get_resource(env, portion, PORTION);
+    if (taken == NULL || !claim(taken))
+        return BADARG;
+    uint32_t number = antientropy_install_portion(&replica->replica, &taken->portion, left);
+    disclaim(taken);
+    return number;
+}
+
+/* take_portion(Replica, Most) -> {portion, Portion} */
+CALL(REPLICA, take_portion)
+{
+    struct step step;
+    if (!get_u64(env, argv[1], &step.most))
+        return WRONG;
+    uint32_t number = take_portion(env, at, step.most, &step.portion);
+    return step_result(env, &step, number == ANTIENTROPY_OK ? MORE : number);
+}
+
+/* Hashes a portion, unless that is done. Returns false if the term isn't a portion, or if another call uses it. */
+static bool hash_portion(ErlNifEnv *env, ERL_NIF_TERM portion)
+{
+    struct resource *taken = get_resource(env, portion, PORTION);
+    if (taken == NULL || !claim(taken))
+        return false;
+    if (!taken->is_hashed)
+        taken->is_hashed = antientropy_hash_portion(&taken->portion) == ANTIENTROPY_OK;
+    disclaim(taken);
+    return true;
+}
+
+/* hash_portion(Portion) -> ok */
+FUNCTION(hash_portion)
+{
+    return hash_portion(env, argv[0]) ? atoms.ok : WRONG;
+}
+
+/* install_portion(Replica, Portion) -> {ok, Left} */
+CALL(REPLICA, install_portion)
+{
+    uint64_t left;
+    uint32_t number = install_portion(env, at, argv[1], &left);
+    return number == ANTIENTROPY_OK ? ok(env, enif_make_uint64(env, left)) : refused(env, number);
+}
+
+/* ---- steps */
+
+/* Makes a call of the moment, and then drops the moment: its rows stay with the result of the call, and no later hold
+ * frees them in the gate. */
+static uint32_t call_and_drop(struct resource *replica, of_moment *call, void *of)
+{
+    uint32_t number = call(replica, of);
+    if (number != ANTIENTROPY_DIRTY)
+        antientropy_drop_moment(&replica->replica);
+    return number;
+}
+
+uint32_t call_or_step(ErlNifEnv *env, struct resource *replica, struct step *step, of_moment *call, void *of)
+{
+    uint64_t left = UINT64_MAX;
+    uint32_t number = step->from == atoms.hold ? antientropy_hold(&replica->replica)
+                                               : install_portion(env, replica, step->from, &left);
+    if (number == ANTIENTROPY_OK)
+        number = call_and_drop(replica, call, of);
+    if (number != ANTIENTROPY_DIRTY || left == 0)
+        return number;
+    number = take_portion(env, replica, step->most, &step->portion);
+    return number == ANTIENTROPY_OK ? MORE : number;
+}
+
+ERL_NIF_TERM step_result(ErlNifEnv *env, const struct step *step, uint32_t number)
+{
+    return number == MORE ? enif_make_tuple2(env, atoms.portion, step->portion) : refused(env, number);
+}
+
+/* Returns true if a step has made another portion. */
+static bool is_portion(ErlNifEnv *env, ERL_NIF_TERM result, ERL_NIF_TERM *portion)
+{
+    const ERL_NIF_TERM *parts;
+    int arity;
+    if (!enif_get_tuple(env, result, &arity, &parts) || arity != 2 || parts[0] != atoms.portion)
+        return false;
+    *portion = parts[1];
+    return true;
+}
+
+ERL_NIF_TERM make_steps(const struct call *call, int place, ErlNifEnv *env, int argc, const ERL_NIF_TERM argv[])
+{
+    ERL_NIF_TERM result, next[STEP_ARGUMENTS];
+    ErlNifTime end = enif_monotonic_time(ERL_NIF_MSEC) + STEPS_MS;
+    memcpy(next, argv, (size_t)argc * sizeof *next);
+    do {
+        hash_portion(env, next[place]);
+        result = with_gate(call, env, argc, next);
+    } while (is_portion(env, result, &next[place]) && enif_monotonic_time(ERL_NIF_MSEC) < end);
+    return result;
+}
+
+/* Makes the snapshot of the moment. */
+static uint32_t fill(struct resource *replica, void *of)
+{
+    return antientropy_moment(&replica->replica, of);
+}
+
+/* snapshot_of_moment(Replica, From, Most) -> {ok, Snapshot} | {portion, Portion} */
+STEP(REPLICA, snapshot_of_moment, 1)
+{
+    struct step step = {.from = argv[1]};
+    if (!get_u64(env, argv[2], &step.most))
+        return WRONG;
     struct resource *made = make_resource(SNAPSHOT);
     if (made == NULL)
         return refused(env, ANTIENTROPY_NO_MEMORY);
-    return handle_result(env, made, call_or_hash(at, holds, most, fill, made));
+    uint32_t number = call_or_step(env, at, &step, fill, &made->snapshot);
+    if (number == ANTIENTROPY_OK)
+        return handle_result(env, made, number);
+    enif_release_resource(made);
+    return step_result(env, &step, number);
 }
 
-/* An exchange that is opened with a partner's offer. The moment's snapshot is to be freed without the lock: if no
- * session is opened, it alone has rows that have changed meanwhile. */
+/* An exchange that is opened with a partner's offer. The moment's snapshot is freed in the worker: if no session is
+ * opened, nothing else has the rows that have changed since. */
 struct opening {
-    struct resource *made;
+    struct antientropy_exchange exchange;
     uint64_t partner;
     ErlNifBinary offer;
     struct antientropy_bounds bounds;
@@ -112,14 +181,14 @@ struct opening {
 };
 
 /* Opens the exchange at the moment. */
-static uint32_t open_exchange(struct resource *at, void *of)
+static uint32_t open_exchange(struct resource *replica, void *of)
 {
     struct opening *opening = of;
-    close_orphans(at);
-    uint32_t number = antientropy_exchange_open(&at->replica, &opening->made->exchange, opening->partner,
+    close_orphans(replica);
+    uint32_t number = antientropy_exchange_open(&replica->replica, &opening->exchange, opening->partner,
                                                 opening->offer.data, opening->offer.size, &opening->bounds);
     if (number == ANTIENTROPY_OK)
-        antientropy_moment(&at->replica, &opening->moment);
+        antientropy_moment(&replica->replica, &opening->moment);
     return number;
 }
 
@@ -133,25 +202,28 @@ static bool get_bounds(ErlNifEnv *env, ERL_NIF_TERM map, struct antientropy_boun
         && enif_get_map_value(env, map, atoms.plain, &plain) && get_bool(plain, is_plain);
 }
 
-/* exchange_of_moment(Replica, Partner, Offer, Bounds, Holds, Most) -> {ok, Exchange} | more */
-CALL(REPLICA, exchange_of_moment)
+/* exchange_of_moment(Replica, Partner, Offer, Bounds, From, Most) -> {ok, Exchange} | {portion, Portion} */
+STEP(REPLICA, exchange_of_moment, 4)
 {
-    bool is_plain, holds;
-    uint64_t most;
+    bool is_plain;
+    struct step step = {.from = argv[4]};
     struct opening opening = {0};
     if (!get_u64(env, argv[1], &opening.partner) || !get_bounds(env, argv[3], &opening.bounds, &is_plain)
-        || !get_bool(argv[4], &holds) || !get_u64(env, argv[5], &most))
-        return enif_make_badarg(env);
+        || !get_u64(env, argv[5], &step.most))
+        return WRONG;
     uint32_t number = get_bytes(env, argv[2], &opening.offer);
     if (number != ANTIENTROPY_OK)
         return refused(env, number);
-    opening.made = make_part(EXCHANGE, at);
-    if (opening.made == NULL)
+    struct resource *made = make_part(EXCHANGE, at);
+    if (made == NULL)
         return refused(env, ANTIENTROPY_NO_MEMORY);
-    opening.made->is_plain = is_plain;
-    number = call_or_hash(at, holds, most, open_exchange, &opening);
-    enif_rwlock_rwunlock(at->lock);
-    antientropy_snapshot_free(&opening.moment);
-    enif_rwlock_rwlock(at->lock);
-    return handle_result(env, opening.made, number);
+    number = call_or_step(env, at, &step, open_exchange, &opening);
+    free_later(env, &(struct leftovers){.snapshot = opening.moment});
+    if (number == ANTIENTROPY_OK) {
+        made->exchange = opening.exchange;
+        made->is_plain = is_plain;
+        return handle_result(env, made, number);
+    }
+    enif_release_resource(made);
+    return step_result(env, &step, number);
 }

@@ -1,16 +1,30 @@
-/* The NIF library of the module antientropy_nif: its functions, and its start. */
+/* The NIF library of the module antientropy_nif: its functions, its start, its upgrade and its end. */
 #include "handles.h"
 #include "terms.h"
+#include "worker.h"
 
 /* Returns 0, or 1 if the library can't be loaded. */
-static int load(ErlNifEnv *env, UNUSED void **data, UNUSED ERL_NIF_TERM info)
+static int load(ErlNifEnv *env, void **data, UNUSED ERL_NIF_TERM info)
 {
     make_atoms(env);
-    return open_types(env) ? 0 : 1;
+    if (!open_types(env))
+        return 1;
+    *data = start_worker();
+    return *data == NULL ? 1 : 0;
+}
+
+/* Takes over the handles of another instance, which ends later. Returns 0, or 1 if the library can't be loaded. */
+static int upgrade(ErlNifEnv *env, void **data, UNUSED void **old_data, ERL_NIF_TERM info)
+{
+    return load(env, data, info);
+}
+
+static void unload(UNUSED ErlNifEnv *env, void *data)
+{
+    end_worker(data);
 }
 
 #define ROW(name, arity, flags) {#name, arity, nif_##name, flags},
 static ErlNifFunc functions[] = {CALLS(ROW)};
 
-/* Without a function for upgrades the module can't be replaced in a running node. */
-ERL_NIF_INIT(antientropy_nif, functions, load, NULL, NULL, NULL)
+ERL_NIF_INIT(antientropy_nif, functions, load, NULL, upgrade, unload)

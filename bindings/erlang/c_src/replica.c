@@ -1,4 +1,4 @@
-/* A replica as a whole: its making, its counts, its tree, its sessions, and rows that are loaded. */
+/* Replicas: new ones, their counts, trees and sessions, and loads of rows. */
 #include "handles.h"
 #include "terms.h"
 
@@ -8,7 +8,7 @@ FUNCTION(new)
     uint64_t format, bits, range, limit;
     if (!get_u64(env, argv[0], &format) || !get_u64(env, argv[1], &bits) || !get_u64(env, argv[2], &range)
         || !get_u64(env, argv[3], &limit))
-        return enif_make_badarg(env);
+        return WRONG;
     struct resource *made = make_resource(REPLICA);
     if (made == NULL)
         return refused(env, ANTIENTROPY_NO_MEMORY);
@@ -21,7 +21,7 @@ FUNCTION(new_seeded)
     uint64_t format, bits, range, limit, first, second;
     if (!get_u64(env, argv[0], &format) || !get_u64(env, argv[1], &bits) || !get_u64(env, argv[2], &range)
         || !get_u64(env, argv[3], &limit) || !get_u64(env, argv[4], &first) || !get_u64(env, argv[5], &second))
-        return enif_make_badarg(env);
+        return WRONG;
     struct resource *made = make_resource(REPLICA);
     if (made == NULL)
         return refused(env, ANTIENTROPY_NO_MEMORY);
@@ -41,7 +41,7 @@ READ(REPLICA, renew)
 {
     uint64_t limit;
     if (!get_u64(env, argv[1], &limit))
-        return enif_make_badarg(env);
+        return WRONG;
     struct resource *made = make_resource(REPLICA);
     if (made == NULL)
         return refused(env, ANTIENTROPY_NO_MEMORY);
@@ -96,18 +96,12 @@ READ(REPLICA, bytes)
     return ok(env, make_map(env, 3, keys, values));
 }
 
-/* rehash(Replica) -> ok */
-CALL(REPLICA, rehash)
-{
-    return done(env, antientropy_rehash(&at->replica));
-}
-
 /* rehash_some(Replica, Most) -> {ok, Left} */
 CALL(REPLICA, rehash_some)
 {
     uint64_t most, left;
     if (!get_u64(env, argv[1], &most))
-        return enif_make_badarg(env);
+        return WRONG;
     uint32_t number = antientropy_rehash_some(&at->replica, most, &left);
     return number == ANTIENTROPY_OK ? ok(env, enif_make_uint64(env, left)) : refused(env, number);
 }
@@ -152,7 +146,7 @@ CALL(REPLICA, load_format)
     ErlNifBinary rows;
     struct antientropy_loaded loaded;
     if (!get_u64(env, argv[1], &format))
-        return enif_make_badarg(env);
+        return WRONG;
     uint32_t number = get_bytes(env, argv[2], &rows);
     if (number != ANTIENTROPY_OK)
         return refused(env, number);

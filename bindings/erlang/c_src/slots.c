@@ -7,7 +7,7 @@ FUNCTION(slots_new)
 {
     uint32_t floor, ceiling, threshold;
     if (!get_u32(env, argv[0], &floor) || !get_u32(env, argv[1], &ceiling) || !get_u32(env, argv[2], &threshold))
-        return enif_make_badarg(env);
+        return WRONG;
     struct resource *made = make_resource(SLOTS);
     if (made == NULL)
         return refused(env, ANTIENTROPY_NO_MEMORY);
@@ -39,7 +39,7 @@ CALL(SLOTS, slots_sample)
     uint64_t moment;
     uint32_t micros;
     if (!get_u64(env, argv[1], &moment) || !get_u32(env, argv[2], &micros))
-        return enif_make_badarg(env);
+        return WRONG;
     return done(env, antientropy_slots_sample(&at->slots, moment, micros));
 }
 
@@ -49,7 +49,7 @@ CALL(SLOTS, slots_adjust)
     uint64_t now;
     struct antientropy_percentile p99;
     if (!get_u64(env, argv[1], &now))
-        return enif_make_badarg(env);
+        return WRONG;
     uint32_t number = antientropy_slots_adjust(&at->slots, now, &p99);
     if (number != ANTIENTROPY_OK)
         return refused(env, number);
@@ -61,7 +61,7 @@ CALL(SLOTS, slots_set_target)
 {
     uint32_t target;
     if (!get_u32(env, argv[1], &target))
-        return enif_make_badarg(env);
+        return WRONG;
     return done(env, antientropy_slots_set_target(&at->slots, target));
 }
 

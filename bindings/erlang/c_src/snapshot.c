@@ -73,7 +73,7 @@ READ(SNAPSHOT, digest)
     uint64_t depth, index, len;
     uint8_t digest[ANTIENTROPY_ROOT_LEN];
     if (!get_u64(env, argv[1], &depth) || !get_u64(env, argv[2], &index))
-        return enif_make_badarg(env);
+        return WRONG;
     uint32_t number = antientropy_digest(&at->snapshot, depth, index, digest, sizeof digest, &len);
     return number == ANTIENTROPY_OK ? ok(env, make_bytes(env, digest, len)) : refused(env, number);
 }
@@ -85,7 +85,7 @@ READ(SNAPSHOT, offer)
     uint8_t message[ANTIENTROPY_OFFER_LEN];
     uint64_t len;
     if (!get_u32(env, argv[1], &offer))
-        return enif_make_badarg(env);
+        return WRONG;
     uint32_t number = antientropy_offer(&at->snapshot, offer, message, sizeof message, &len);
     return number == ANTIENTROPY_OK ? ok(env, make_bytes(env, message, len)) : refused(env, number);
 }
@@ -97,7 +97,7 @@ READ(SNAPSHOT, serve)
     ErlNifBinary ask;
     struct room room;
     if (!get_u32(env, argv[1], &offer))
-        return enif_make_badarg(env);
+        return WRONG;
     number = get_bytes(env, argv[2], &ask);
     if (number != ANTIENTROPY_OK)
         return refused(env, number);
@@ -117,7 +117,7 @@ READ(SNAPSHOT, rows)
     struct room room;
     uint32_t number;
     if (!get_u64(env, argv[1], &leaf))
-        return enif_make_badarg(env);
+        return WRONG;
     open_room(&room);
     do {
         number = antientropy_rows(&at->snapshot, leaf, room.at, room.len, &room.need);

@@ -59,11 +59,9 @@ ERL_NIF_TERM ok(ErlNifEnv *env, ERL_NIF_TERM term)
 ERL_NIF_TERM refused(ErlNifEnv *env, uint32_t number)
 {
     if (number == BADARG)
-        return enif_make_badarg(env);
+        return WRONG;
     if (number == LONG_ARGUMENT)
         return ELSEWHERE;
-    if (number == MORE)
-        return atoms.more;
     return enif_make_tuple2(env, atoms.error, name_of(number));
 }
 
@@ -136,11 +134,11 @@ bool get_key(ErlNifEnv *env, ERL_NIF_TERM term, ErlNifBinary *key)
     return true;
 }
 
-/* What is known of the number of bytes of iodata. */
+/* Known facts about the number of bytes of iodata. */
 enum size { FITS, TOO_LONG, UNKNOWN };
 
 /* Tells whether iodata has at most `most` bytes. A normal scheduler looks at no more than FEW_BYTES elements of lists.
- * The search ends at what isn't iodata: then it FITS, and enif_inspect_iolist_as_binary fails there too. */
+ * The search ends at a term that isn't iodata with FITS, and enif_inspect_iolist_as_binary fails there too. */
 static enum size size_of(ErlNifEnv *env, ERL_NIF_TERM term, size_t most)
 {
     ERL_NIF_TERM rests[NESTED], head;

@@ -15,6 +15,7 @@
     X(apart, "apart")                                                                                                  \
     X(asks, "asks")                                                                                                    \
     X(bad, "bad")                                                                                                      \
+    X(badarg, "badarg")                                                                                                \
     X(before, "before")                                                                                                \
     X(bits, "bits")                                                                                                    \
     X(bytes, "bytes")                                                                                                  \
@@ -38,6 +39,7 @@
     X(front, "front")                                                                                                  \
     X(gone, "gone")                                                                                                    \
     X(hint, "hint")                                                                                                    \
+    X(hold, "hold")                                                                                                    \
     X(journal, "journal")                                                                                              \
     X(key, "key")                                                                                                      \
     X(known, "known")                                                                                                  \
@@ -48,7 +50,6 @@
     X(lent, "lent")                                                                                                    \
     X(limit, "limit")                                                                                                  \
     X(lost, "lost")                                                                                                    \
-    X(more, "more")                                                                                                    \
     X(new, "new")                                                                                                      \
     X(next, "next")                                                                                                    \
     X(no, "false")                                                                                                     \
@@ -61,6 +62,7 @@
     X(partner, "partner")                                                                                              \
     X(pending, "pending")                                                                                              \
     X(plain, "plain")                                                                                                  \
+    X(portion, "portion")                                                                                              \
     X(put, "put")                                                                                                      \
     X(range, "range")                                                                                                  \
     X(refused, "refused")                                                                                              \
@@ -79,6 +81,7 @@
     X(undefined, "undefined")                                                                                          \
     X(value, "value")                                                                                                  \
     X(verdict, "verdict")                                                                                              \
+    X(wait, "wait")                                                                                                    \
     X(waiting, "waiting")                                                                                              \
     X(yes, "true")
 
@@ -87,16 +90,17 @@ extern struct atoms {
     ATOMS(ATOM_FIELD)
 } atoms;
 
-/* No numbers of the library: an argument of a wrong type; one that takes long to read, on a normal scheduler; and a
- * moment of which nodes are left to hash. */
+/* Numbers that the library doesn't have: an argument of a wrong type, an argument that takes long to read on a normal
+ * scheduler, and a moment that isn't whole yet. */
 #define BADARG UINT32_MAX
 #define LONG_ARGUMENT (UINT32_MAX - 1)
 #define MORE (UINT32_MAX - 2)
 
-/* The most pairs of a clock that a call gets. Of more, one has a bad node, or the node of another one. */
+/* Maximum number of a clock's pairs that a call gets. If there are more, one has a bad node, or the same node as
+ * another. */
 #define MOST_PAIRS (ANTIENTROPY_NODE_MAX + 1)
 
-/* A clock that a call takes. Pairs that don't fit in `few` are the clock's own: drop_clock frees them. */
+/* A clock that a call takes. If the pairs don't fit in `few`, drop_clock frees them. */
 struct clock {
     struct antientropy_pair *pairs;
     size_t len;
@@ -115,8 +119,7 @@ struct version {
     struct value value;
 };
 
-/* Room for the bytes that a call returns. Those that don't fit in `few` go to `many`, which has the length that the
- * call needs. */
+/* Buffer for the bytes that a call returns: `few`, or `many` if they don't fit. */
 struct room {
     uint8_t *at;
     size_t len;
@@ -125,7 +128,7 @@ struct room {
     uint8_t few[FEW_BYTES];
 };
 
-/* Makes the atoms, and those of the refusals by their names in the library. */
+/* Makes the atoms, also of the refusals, from their names in the library. */
 void make_atoms(ErlNifEnv *env);
 
 /* ---- results */
@@ -139,7 +142,7 @@ ERL_NIF_TERM one_of(ErlNifEnv *env, size_t len, const ERL_NIF_TERM of[], uint64_
 /* Returns {ok, Term}. */
 ERL_NIF_TERM ok(ErlNifEnv *env, ERL_NIF_TERM term);
 
-/* Returns {error, Name}, for BADARG the exception, for LONG_ARGUMENT ELSEWHERE, or for MORE `more`. */
+/* Returns {error, Name}, for BADARG WRONG, or for LONG_ARGUMENT ELSEWHERE. */
 ERL_NIF_TERM refused(ErlNifEnv *env, uint32_t number);
 
 /* Returns `ok` or a refusal. */
@@ -160,14 +163,14 @@ bool get_u32(ErlNifEnv *env, ERL_NIF_TERM term, uint32_t *number);
 bool get_u64(ErlNifEnv *env, ERL_NIF_TERM term, uint64_t *number);
 bool get_bool(ERL_NIF_TERM term, bool *flag);
 
-/* Reads a key. Of one that is too long, what follows its first byte too many is left out. */
+/* Reads a key, but at most one byte more than the maximum. */
 bool get_key(ErlNifEnv *env, ERL_NIF_TERM term, ErlNifBinary *key);
 
 /* Reads iodata. Returns OK, BADARG, or LONG_ARGUMENT for over FEW_BYTES. */
 uint32_t get_bytes(ErlNifEnv *env, ERL_NIF_TERM term, ErlNifBinary *bytes);
 
-/* Reads iodata, or the atom `tombstone`. Of bytes that are too many for each format, what follows the first byte too
- * many is left out. Returns OK, BADARG or LONG_ARGUMENT. */
+/* Reads iodata, but at most one byte more than the maximum of format 2, or the atom `tombstone`. Returns OK, BADARG or
+ * LONG_ARGUMENT. */
 uint32_t get_value(ErlNifEnv *env, ERL_NIF_TERM term, struct value *value);
 
 /* Reads a map of nodes to counters, or a list of pairs: at most MOST_PAIRS. Returns OK, BADARG, LONG_ARGUMENT or
@@ -181,25 +184,25 @@ void drop_clock(struct clock *clock);
 
 /* ---- bytes that calls return */
 
-/* Makes the room of a first call. */
+/* Makes the buffer of a first call. */
 void open_room(struct room *room);
 
-/* Returns true if a call found too little room: make it again. Without memory `number` becomes NO_MEMORY. */
+/* Returns true if a call needs a larger buffer: repeat the call. Without memory `number` becomes NO_MEMORY. */
 bool grows(struct room *room, uint32_t *number);
 
-/* Gives back the room that a call has left over. Without memory `number` becomes NO_MEMORY. */
+/* Frees the part of a buffer that a call hasn't used. Without memory `number` becomes NO_MEMORY. */
 void trim_room(struct room *room, uint32_t *number);
 
-/* Returns the bytes as a binary. The room is used up. */
+/* Returns the bytes as a binary, and consumes the buffer. */
 ERL_NIF_TERM room_bytes(ErlNifEnv *env, struct room *room);
 
-/* Releases the room. */
+/* Releases a buffer. */
 void drop_room(struct room *room);
 
-/* Returns {ok, Bytes} or a refusal. The room is used up. */
+/* Returns {ok, Bytes} or a refusal, and consumes the buffer. */
 ERL_NIF_TERM room_result(ErlNifEnv *env, struct room *room, uint32_t number);
 
-/* Returns the value in a room: the bytes, or for a tombstone the atom. The room is used up. */
+/* Returns the value in a buffer: the bytes, or for a tombstone the atom. Consumes the buffer. */
 ERL_NIF_TERM room_value(ErlNifEnv *env, struct room *room, uint64_t kind);
 
 #endif

@@ -7,7 +7,7 @@
 /* Versions that are read in far less than a millisecond, even with the longest values. */
 enum { FEW_VERSIONS = 4 };
 
-/* Room for entries, if they don't fit in FEW_BYTES. */
+/* Size of the buffer for entries that don't fit in FEW_BYTES. */
 enum { ENTRIES_BYTES = 1 << 20 };
 
 /* Returns {ok, Receipt} or a refusal. */
@@ -29,7 +29,7 @@ static ERL_NIF_TERM put_by(ErlNifEnv *env, struct resource *at, const ERL_NIF_TE
     struct clock context;
     struct antientropy_receipt receipt;
     if (!get_u64(env, argv[1], &node) || !get_key(env, argv[2], &key))
-        return enif_make_badarg(env);
+        return WRONG;
     uint32_t number = get_value(env, argv[3], &value);
     if (number == ANTIENTROPY_OK)
         number = get_clock(env, argv[4], &context);
@@ -64,7 +64,7 @@ CALL(REPLICA, accept)
     struct version version;
     uint64_t taken;
     if (!get_key(env, argv[1], &key))
-        return enif_make_badarg(env);
+        return WRONG;
     uint32_t number = get_version(env, argv[2], &version);
     if (number != ANTIENTROPY_OK)
         return refused(env, number);
@@ -106,7 +106,7 @@ READ(REPLICA, get)
     ERL_NIF_TERM versions[ANTIENTROPY_VERSIONS_MAX];
     uint64_t count = 0, len = 0;
     if (!get_key(env, argv[1], &key))
-        return enif_make_badarg(env);
+        return WRONG;
     do {
         uint32_t number = read_version(env, at, &key, len, &count, &versions[len]);
         if (number == ANTIENTROPY_NO_VERSION)
@@ -127,7 +127,7 @@ READ(REPLICA, read)
     uint64_t index, versions;
     ERL_NIF_TERM version;
     if (!get_key(env, argv[1], &key) || !get_u64(env, argv[2], &index))
-        return enif_make_badarg(env);
+        return WRONG;
     uint32_t number = read_version(env, at, &key, index, &versions, &version);
     return number == ANTIENTROPY_OK ? ok(env, version) : refused(env, number);
 }
@@ -138,7 +138,7 @@ READ(REPLICA, count_versions)
     ErlNifBinary key;
     uint64_t count;
     if (!get_key(env, argv[1], &key))
-        return enif_make_badarg(env);
+        return WRONG;
     uint32_t number = antientropy_versions(&at->replica, key.data, key.size, &count);
     return number == ANTIENTROPY_OK ? ok(env, enif_make_uint64(env, count)) : refused(env, number);
 }
@@ -152,7 +152,7 @@ READ(REPLICA, value)
     uint8_t kind;
     uint32_t number;
     if (!get_key(env, argv[1], &key) || !get_u64(env, argv[2], &index))
-        return enif_make_badarg(env);
+        return WRONG;
     open_room(&room);
     do
         number = antientropy_value(&at->replica, key.data, key.size, index, &kind, room.at, room.len, &room.need);
@@ -169,7 +169,7 @@ READ(REPLICA, clock)
     uint64_t index, len;
     struct antientropy_pair pairs[ANTIENTROPY_CLOCK_MAX];
     if (!get_key(env, argv[1], &key) || !get_u64(env, argv[2], &index))
-        return enif_make_badarg(env);
+        return WRONG;
     uint32_t number =
         antientropy_clock(&at->replica, key.data, key.size, index, pairs, ANTIENTROPY_CLOCK_MAX, &len);
     return number == ANTIENTROPY_OK ? ok(env, make_clock(env, pairs, len)) : refused(env, number);
@@ -182,7 +182,7 @@ static ERL_NIF_TERM row_by(ErlNifEnv *env, const struct resource *at, const ERL_
     struct room room;
     uint32_t number;
     if (!get_key(env, argv[1], &key))
-        return enif_make_badarg(env);
+        return WRONG;
     open_room(&room);
     do {
         if (kind == REPLICA)
@@ -214,7 +214,7 @@ READ(REPLICA, key_after)
     ErlNifBinary key;
     uint8_t next[ANTIENTROPY_KEY_MAX];
     if (!get_u64(env, argv[1], &leaf) || !get_key(env, argv[2], &key))
-        return enif_make_badarg(env);
+        return WRONG;
     uint32_t number = antientropy_key_after(&at->replica, leaf, key.data, key.size, next, sizeof next, &len);
     return number == ANTIENTROPY_OK ? ok(env, make_bytes(env, next, len)) : refused(env, number);
 }
@@ -226,7 +226,7 @@ READ(SNAPSHOT, snapshot_key_after)
     ErlNifBinary key;
     uint8_t next[ANTIENTROPY_KEY_MAX + 1]; /* of a key that is too long get_key leaves one byte too many */
     if (!get_u64(env, argv[1], &leaf) || !get_key(env, argv[2], &key))
-        return enif_make_badarg(env);
+        return WRONG;
     memcpy(next, key.data, key.size);
     len = key.size;
     uint32_t number = antientropy_snapshot_key_next(&at->snapshot, leaf, next, ANTIENTROPY_KEY_MAX, &len);
@@ -252,7 +252,7 @@ READ(REPLICA, entry)
     struct antientropy_pair pairs[ANTIENTROPY_CLOCK_MAX];
     struct room room;
     if (!get_u64(env, argv[1], &entry))
-        return enif_make_badarg(env);
+        return WRONG;
     uint32_t number = antientropy_entry_key(&at->replica, entry, key, sizeof key, &key_len);
     if (number == ANTIENTROPY_OK)
         number = antientropy_entry_clock(&at->replica, entry, pairs, ANTIENTROPY_CLOCK_MAX, &clock_len);
@@ -273,15 +273,15 @@ READ(REPLICA, entry)
     return ok(env, make_map(env, 5, keys, values));
 }
 
-/* Returns entries from a number on, one after the other: all if they fit in FEW_BYTES, or as many as fit in
- * ENTRIES_BYTES. packed_entries(Replica, From) -> {ok, Packed} */
+/* Returns entries from a number on: all if they fit in FEW_BYTES, and otherwise up to ENTRIES_BYTES.
+ * packed_entries(Replica, From) -> {ok, Packed} */
 READ(REPLICA, packed_entries)
 {
     uint64_t from, next;
     struct antientropy_about about;
     struct room room;
     if (!get_u64(env, argv[1], &from))
-        return enif_make_badarg(env);
+        return WRONG;
     uint32_t number = antientropy_about(&at->replica, &about);
     if (number != ANTIENTROPY_OK)
         return refused(env, number);
@@ -310,7 +310,7 @@ READ(REPLICA, top_counter)
     uint64_t node, entries, counter;
     ErlNifBinary key;
     if (!get_u64(env, argv[1], &node) || !get_key(env, argv[2], &key) || !get_u64(env, argv[3], &entries))
-        return enif_make_badarg(env);
+        return WRONG;
     uint32_t number = antientropy_top_counter(&at->replica, node, key.data, key.size, entries, &counter);
     return number == ANTIENTROPY_OK ? ok(env, enif_make_uint64(env, counter)) : refused(env, number);
 }

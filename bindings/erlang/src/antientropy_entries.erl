@@ -4,11 +4,13 @@
 
 -export([fold/4, unpack/1]).
 
+-import(antientropy_call, [result/1]).
+
 %% @doc Folds over the entries from a number on: programs call {@link antientropy:fold_entries/4}.
 -spec fold(fun((antientropy:entry(), Acc) -> Acc), Acc, antientropy:replica(), From :: non_neg_integer()) ->
     {ok, Acc} | antientropy:refused().
 fold(Fun, Acc, Replica, From) ->
-    case antientropy_nif:packed_entries(Replica, From) of
+    case result(antientropy_nif:packed_entries(Replica, From)) of
         {ok, #{next := From}} -> {ok, Acc};
         {ok, #{next := Next} = Packed} -> fold(Fun, fold_packed(Fun, Acc, Packed), Replica, Next);
         Refused -> Refused

@@ -6,23 +6,25 @@
 
 -export_type([key_after/0]).
 
+-type handle() :: antientropy:replica() | antientropy_snapshot:snapshot().
+
 -type key_after() :: fun(
-    (Handle :: reference(), Leaf :: non_neg_integer(), Key :: binary()) -> {ok, binary()} | antientropy:refused()
+    (Handle :: handle(), Leaf :: non_neg_integer(), Key :: binary()) -> {ok, binary()} | antientropy:refused()
 ).
 
 %% @doc Returns all keys: programs call {@link antientropy:keys/1} or {@link antientropy_snapshot:keys/1}.
--spec all(key_after(), Handle :: reference()) -> {ok, [binary()]} | antientropy:refused().
+-spec all(key_after(), Handle :: handle()) -> {ok, [binary()]} | antientropy:refused().
 all(KeyAfter, Handle) ->
     reversed(fold(fun prepend/2, [], KeyAfter, Handle)).
 
 %% @doc Returns the keys of a leaf: programs call {@link antientropy:keys/2} or {@link antientropy_snapshot:keys/2}.
--spec of_leaf(key_after(), Handle :: reference(), Leaf :: non_neg_integer()) ->
+-spec of_leaf(key_after(), Handle :: handle(), Leaf :: non_neg_integer()) ->
     {ok, [binary()]} | antientropy:refused().
 of_leaf(KeyAfter, Handle, Leaf) ->
     reversed(fold_leaf(fun prepend/2, [], KeyAfter, Handle, Leaf, <<>>)).
 
 %% @doc Folds over the keys: programs call {@link antientropy:fold_keys/3} or {@link antientropy_snapshot:fold_keys/3}.
--spec fold(fun((Key :: binary(), Acc) -> Acc), Acc, key_after(), Handle :: reference()) ->
+-spec fold(fun((Key :: binary(), Acc) -> Acc), Acc, key_after(), Handle :: handle()) ->
     {ok, Acc} | antientropy:refused().
 fold(Fun, Acc, KeyAfter, Handle) ->
     fold_leaves(Fun, Acc, KeyAfter, Handle, 0).

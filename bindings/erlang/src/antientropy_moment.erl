@@ -1,48 +1,69 @@
 %% @private
-%% @doc The moment that a replica keeps: calls that hold one, hash it in portions while other calls go on, use it, and
-%% drop it. Those that renew the replica hash in one call.
+%% @doc The moment of a replica: calls that hold one, hash it in portions outside the replica's gate, use it and
+%% drop it.
 %%
-%% Another process may hold another moment meanwhile. It is a later one, so a call goes on with it.
+%% Another process may hold a later moment meanwhile. A call continues with that one.
 -module(antientropy_moment).
 
--export([snapshot/1, exchange/4, renew_in_place/2, renewal/2, renew_if_due/1]).
+-export([snapshot/1, exchange/4, whole/1, hash/2, rehash/1]).
+
+-import(antientropy_call, [result/1]).
+
+-export_type([from/0, portion/0]).
 
 %% Nodes of a portion.
 -define(PORTION, 64).
 
+-opaque portion() :: reference().
+-type from() :: hold | portion().
+%% The beginning of a step: it holds a moment, or hashes and installs a portion.
+
 %% @doc Makes a snapshot: programs call {@link antientropy:snapshot/1}.
 -spec snapshot(antientropy:replica()) -> {ok, antientropy_snapshot:snapshot()} | antientropy:refused().
 snapshot(Replica) ->
-    repeated(fun(Holds) -> antientropy_nif:snapshot_of_moment(Replica, Holds, ?PORTION) end).
+    whole(fun(From, Most) -> antientropy_nif:snapshot_of_moment(Replica, From, Most) end).
 
 %% @doc Opens an exchange: programs call {@link antientropy:exchange/4}.
 -spec exchange(antientropy:replica(), Partner :: non_neg_integer(), Offer :: iodata(), Bounds :: map()) ->
     {ok, antientropy_exchange:exchange()} | antientropy:refused().
 exchange(Replica, Partner, Offer, Bounds) ->
-    repeated(fun(Holds) -> antientropy_nif:exchange_of_moment(Replica, Partner, Offer, Bounds, Holds, ?PORTION) end).
+    whole(fun(From, Most) -> antientropy_nif:exchange_of_moment(Replica, Partner, Offer, Bounds, From, Most) end).
 
-%% @doc Renews a replica in its place: programs call {@link antientropy:renew_in_place/2}.
--spec renew_in_place(antientropy:replica(), Limit :: pos_integer()) -> ok | antientropy:refused().
-renew_in_place(Replica, Limit) ->
-    antientropy_nif:renew_in_place(Replica, Limit, ?PORTION).
+%% @doc Makes steps until the moment is whole and the call is made. If another process has dropped the moment, holds
+%% another one.
+-spec whole(fun((from(), Most :: pos_integer()) -> term())) -> term().
+whole(Step) ->
+    whole(Step, hold).
 
-%% @doc Makes a renewal: programs call {@link antientropy:renewal/2}.
--spec renewal(antientropy:replica(), Limit :: pos_integer()) ->
-    {ok, antientropy_renewal:renewal()} | antientropy:refused().
-renewal(Replica, Limit) ->
-    antientropy_nif:renewal(Replica, Limit, ?PORTION).
+whole(Step, From) ->
+    case result(Step(From, ?PORTION)) of
+        {portion, Portion} -> whole(Step, Portion);
+        {error, dirty} -> whole(Step, hold);
+        Result -> Result
+    end.
 
-%% @doc Renews a replica that is kept renewed, if that is due and no other process does: {@link antientropy_keeper}
-%% starts it.
--spec renew_if_due(antientropy:replica()) -> ok | antientropy:refused().
-renew_if_due(Replica) ->
-    antientropy_nif:renew_if_due(Replica, ?PORTION).
+%% @doc Hashes a portion of the moment: programs call {@link antientropy:hash_moment/2}.
+-spec hash(antientropy:replica(), Most :: non_neg_integer()) ->
+    {ok, Left :: non_neg_integer()} | antientropy:refused().
+hash(Replica, Most) ->
+    case result(antientropy_nif:take_portion(Replica, Most)) of
+        {portion, Portion} ->
+            ok = result(antientropy_nif:hash_portion(Portion)),
+            result(antientropy_nif:install_portion(Replica, Portion));
+        Refused ->
+            Refused
+    end.
 
-%% Makes a call that holds a moment, and repeats it until the moment is whole. If another process has dropped the
-%% moment, the call holds another one.
-repeated(Call) ->
-    repeated(Call, Call(true)).
+%% @doc Hashes the tree in portions: programs call {@link antientropy:rehash/1}. If puts make more nodes dirty than a
+%% portion hashes, the next portion is twice as large.
+-spec rehash(antientropy:replica()) -> ok | antientropy:refused().
+rehash(Replica) ->
+    rehash(Replica, ?PORTION, infinity).
 
-repeated(Call, more) -> repeated(Call, Call(false));
-repeated(Call, {error, dirty}) -> repeated(Call, Call(true));
-repeated(_, Result) -> Result.
+rehash(Replica, Most, Before) ->
+    case result(antientropy_nif:rehash_some(Replica, Most)) of
+        {ok, 0} -> ok;
+        {ok, Left} when Left < Before -> rehash(Replica, Most, Left);
+        {ok, Left} -> rehash(Replica, 2 * Most, Left);
+        Refused -> Refused
+    end.

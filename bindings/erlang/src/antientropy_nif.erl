@@ -4,16 +4,17 @@
 -on_load(load/0).
 
 -export([
-    version/0, name/1, place/3, compare/2, merge/2, read_offer/1, new/4, new_seeded/6, close/1, renew/2,
-    renew_in_place/3, renewal/3, renewal_finish/1, renewal_close/1, keep_renewed/1, renew_if_due/2, migrate/1, about/1,
-    count/1, bytes/1, rehash/1, rehash_some/2, hold/1, drop_moment/1, hash_moment/2, moment/1, snapshot_of_moment/3,
-    exchange_of_moment/6, load_rows/2, load_format/3, put/5, put_unread/5, accept/3, get/2, read/3, count_versions/2,
-    value/3, clock/3, row/2, key_after/3, entry/2, packed_entries/2, top_counter/4, snapshot/1, snapshot_share/1,
-    snapshot_close/1, snapshot_info/1, snapshot_bytes/1, snapshot_row/2, snapshot_key_after/3, root/1, digest/3,
-    offer/2, serve/3, rows/2, exchange_asks/1, exchange_take/2, exchange_lose/2, exchange_go_on/1, exchange_progress/1,
-    exchange_left/1, exchange_close/1, drop_sessions/1, hints_new/0, hints_restore/1, hints_close/1, hint_keep/4,
-    hint_next/3, hint/2, hint_confirm/3, hints_renew/1, hints_count/1, hints_bytes/1, slots_new/3, slots_close/1,
-    slot_lend/1, slot_give_back/1, slots_sample/3, slots_adjust/2, slots_set_target/2, slots_count/1
+    wait/4, version/0, name/1, place/3, compare/2, merge/2, read_offer/1, new/4, new_seeded/6, close/1, renew/2,
+    renewal/1, renewal_of_moment/4, renewal_build/1, renewal_catch_up/2, renewal_finish/1, renewal_close/1,
+    keep_renewed/1, due_renewal/1, migrate/1, about/1, count/1, bytes/1, rehash_some/2, hold/1, drop_moment/1,
+    take_portion/2, hash_portion/1, install_portion/2, moment/1, snapshot_of_moment/3, exchange_of_moment/6,
+    load_rows/2, load_format/3, put/5, put_unread/5, accept/3, get/2, read/3, count_versions/2, value/3, clock/3, row/2,
+    key_after/3, entry/2, packed_entries/2, top_counter/4, snapshot/1, snapshot_share/1, snapshot_close/1,
+    snapshot_info/1, snapshot_bytes/1, snapshot_row/2, snapshot_key_after/3, root/1, digest/3, offer/2, serve/3, rows/2,
+    exchange_asks/1, exchange_take/2, exchange_lose/2, exchange_go_on/1, exchange_progress/1, exchange_left/1,
+    exchange_close/1, drop_sessions/1, hints_new/0, hints_restore/1, hints_close/1, hint_keep/4, hint_next/3, hint/2,
+    hint_confirm/3, hints_renew/1, hints_count/1, hints_bytes/1, slots_new/3, slots_close/1, slot_lend/1,
+    slot_give_back/1, slots_sample/3, slots_adjust/2, slots_set_target/2, slots_count/1
 ]).
 
 -define(NOT_LOADED, erlang:nif_error(not_loaded)).
@@ -24,6 +25,7 @@ load() ->
         Folder -> erlang:load_nif(filename:join(Folder, "antientropy_nif"), 0)
     end.
 
+wait(_Handle, _Reads, _IsLong, _Turn) -> ?NOT_LOADED.
 version() -> ?NOT_LOADED.
 name(_Number) -> ?NOT_LOADED.
 place(_Format, _Bits, _Key) -> ?NOT_LOADED.
@@ -34,24 +36,27 @@ new(_Format, _Bits, _Range, _Limit) -> ?NOT_LOADED.
 new_seeded(_Format, _Bits, _Range, _Limit, _First, _Second) -> ?NOT_LOADED.
 close(_Replica) -> ?NOT_LOADED.
 renew(_Replica, _Limit) -> ?NOT_LOADED.
-renew_in_place(_Replica, _Limit, _Most) -> ?NOT_LOADED.
-renewal(_Replica, _Limit, _Most) -> ?NOT_LOADED.
+renewal(_Replica) -> ?NOT_LOADED.
+renewal_of_moment(_Renewal, _Limit, _From, _Most) -> ?NOT_LOADED.
+renewal_build(_Renewal) -> ?NOT_LOADED.
+renewal_catch_up(_Renewal, _Most) -> ?NOT_LOADED.
 renewal_finish(_Renewal) -> ?NOT_LOADED.
 renewal_close(_Renewal) -> ?NOT_LOADED.
 keep_renewed(_Replica) -> ?NOT_LOADED.
-renew_if_due(_Replica, _Most) -> ?NOT_LOADED.
+due_renewal(_Replica) -> ?NOT_LOADED.
 migrate(_Replica) -> ?NOT_LOADED.
 about(_Replica) -> ?NOT_LOADED.
 count(_Replica) -> ?NOT_LOADED.
 bytes(_Replica) -> ?NOT_LOADED.
-rehash(_Replica) -> ?NOT_LOADED.
 rehash_some(_Replica, _Most) -> ?NOT_LOADED.
 hold(_Replica) -> ?NOT_LOADED.
 drop_moment(_Replica) -> ?NOT_LOADED.
-hash_moment(_Replica, _Most) -> ?NOT_LOADED.
+take_portion(_Replica, _Most) -> ?NOT_LOADED.
+hash_portion(_Portion) -> ?NOT_LOADED.
+install_portion(_Replica, _Portion) -> ?NOT_LOADED.
 moment(_Replica) -> ?NOT_LOADED.
-snapshot_of_moment(_Replica, _Holds, _Most) -> ?NOT_LOADED.
-exchange_of_moment(_Replica, _Partner, _Offer, _Bounds, _Holds, _Most) -> ?NOT_LOADED.
+snapshot_of_moment(_Replica, _From, _Most) -> ?NOT_LOADED.
+exchange_of_moment(_Replica, _Partner, _Offer, _Bounds, _From, _Most) -> ?NOT_LOADED.
 load_rows(_Replica, _Rows) -> ?NOT_LOADED.
 load_format(_Replica, _Format, _Rows) -> ?NOT_LOADED.
 put(_Replica, _Node, _Key, _Value, _Context) -> ?NOT_LOADED.

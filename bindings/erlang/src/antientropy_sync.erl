@@ -18,11 +18,11 @@
     lost := non_neg_integer(),
     left := [Leaf :: non_neg_integer()]
 }.
-%% How the sync ended, numbers of new and of known versions, of asks, of bad answers and of lost asks, and the leaves
-%% that were left, since a key in each of them is crowded.
+%% The final report, the numbers of new and known versions, asks, bad answers and lost asks, and the leaves that were
+%% left because a key in them is crowded.
 
 %% @private
-%% @doc Takes the versions of an offer that a replica lacks.
+%% @doc Accepts the versions of an offer that are missing in a replica.
 -spec sync(antientropy:replica(), Partner :: non_neg_integer(), Offer :: iodata(), reach(), Bounds) ->
     {ok, synced()} | antientropy:refused() when
     Bounds :: antientropy_exchange:bounds().

@@ -3,12 +3,10 @@
 
 -include_lib("eunit/include/eunit.hrl").
 
--import(support, [replica/0, reach/2]).
+-import(support, [replica/0, reach/2, async/1, await/1, is_over/1, hold/2, release/1, in_line/1]).
 
 -define(WRITERS, 4).
 -define(PUTS, 500).
-%% It takes some tenths of a second to hash the values of this many keys.
--define(LARGE_KEYS, 500).
 -define(LARGE_VALUE, binary:copy(<<"v">>, 65_536)).
 
 processes_share_a_replica_test_() ->
@@ -102,47 +100,24 @@ processes_read_a_snapshot_test() ->
     write(Replica, 2),
     [?assertEqual({Keys, Rows}, await(Each)) || Each <- Reading].
 
-%% A replica whose rehash takes long, in a node with one normal scheduler.
-long_calls_test_() ->
-    {timeout, 120, {setup, fun setup/0, fun cleanup/1, fun({Replica, _}) ->
-        {inorder, [
-            {timeout, 60, fun() -> a_scheduler_is_not_blocked(Replica) end},
-            {timeout, 60, fun long_texts_go_elsewhere/0},
-            {timeout, 60, fun() -> long_arguments_are_not_read(Replica) end},
-            {timeout, 60, fun() -> processes_wait(Replica) end},
-            {timeout, 60, fun a_portion_is_hashed_beside_calls/0},
-            {timeout, 60, fun() -> a_snapshot_does_not_wait(Replica) end},
-            {timeout, 60, fun() -> a_process_is_killed(Replica) end},
-            {timeout, 60, fun() -> close_meanwhile(Replica) end}
-        ]}
-    end}}.
+%% A node with one normal scheduler.
+one_scheduler_test_() ->
+    {timeout, 120, {setup, fun setup/0, fun cleanup/1, {inorder, [
+        {timeout, 60, Test}
+     || Test <- [
+            fun a_scheduler_is_not_blocked/0,
+            fun long_texts_go_elsewhere/0,
+            fun long_arguments_are_not_read/0,
+            fun a_portion_is_hashed_outside_the_gate/0,
+            fun large_handles_are_freed_elsewhere/0
+        ]
+    ]}}}.
 
 setup() ->
-    Replica = replica(),
-    Schedulers = erlang:system_flag(schedulers_online, 1),
-    {Replica, Schedulers}.
+    erlang:system_flag(schedulers_online, 1).
 
-cleanup({Replica, Schedulers}) ->
-    erlang:system_flag(schedulers_online, Schedulers),
-    ok = antientropy:close(Replica).
-
-%% Makes all rows dirty that have large values, and starts a rehash: it has the lock when this returns.
-start_rehash(Replica) ->
-    put_large(Replica),
-    {Process, _} = Rehash = async(fun() -> antientropy:rehash(Replica) end),
-    wait_until_running(Process),
-    Rehash.
-
-put_large(Replica) ->
-    [
-        begin
-            Key = support:key(Number),
-            {ok, Versions} = antientropy:get(Replica, Key),
-            {ok, Context} = antientropy:merge([Clock || #{clock := Clock} <- Versions]),
-            {ok, _} = antientropy:put(Replica, 1, Key, ?LARGE_VALUE, Context)
-        end
-     || Number <- lists:seq(1, ?LARGE_KEYS)
-    ].
+cleanup(Schedulers) ->
+    erlang:system_flag(schedulers_online, Schedulers).
 
 %% Waits until a process runs. The only normal scheduler runs this one, so that is on a dirty scheduler.
 wait_until_running(Process) ->
@@ -152,14 +127,18 @@ wait_until_running(Process) ->
         {status, _} -> wait_until_running(Process)
     end.
 
-%% A process waits for the lock, and another goes on meanwhile on the only scheduler.
-a_scheduler_is_not_blocked(Replica) ->
-    Rehash = start_rehash(Replica),
-    {Micros, {Ticked, Result}} = timer:tc(fun() -> ticks(fun() -> antientropy:count(Replica) end) end),
-    ?assertMatch({ok, #{dirty := 0}}, Result),
-    ?assert(Micros > 10_000),
+%% A process waits for the gate, and another one runs meanwhile on the only scheduler.
+a_scheduler_is_not_blocked() ->
+    Replica = replica(),
+    Holder = hold(Replica, change),
+    _ = spawn_link(fun() ->
+        timer:sleep(100),
+        element(1, Holder) ! release
+    end),
+    {Ticked, Result} = ticks(fun() -> antientropy:count(Replica) end),
+    ?assertMatch({ok, #{entries := 0}}, Result),
     ?assert(Ticked > 1000),
-    ?assertEqual(ok, await(Rehash)).
+    _ = await(Holder).
 
 %% Calls with texts of 4 MiB let another process run meanwhile: it runs at least once.
 long_texts_go_elsewhere() ->
@@ -181,12 +160,13 @@ long_texts_go_elsewhere() ->
     {ok, #{known := 64}} = elsewhere(fun() -> antientropy:load_rows(Copy, Row) end).
 
 %% Arguments that are too long for any call are refused before all of them is read, which takes some tenths of a second.
-long_arguments_are_not_read(Replica) ->
+long_arguments_are_not_read() ->
+    Replica = replica(),
     Value = lists:duplicate(1000, lists:duplicate(20_000, $v)),
     Key = binary:copy(<<"k">>, 20_000_000),
     Pairs = [{Node, 1} || Node <- lists:seq(1, 2_000_000)],
     [
-        ?assert(shortest(5, fun() -> ?assertEqual({error, Name}, Call()) end) < 50_000)
+        ?assert(shortest(fun() -> element(1, timer:tc(fun() -> ?assertEqual({error, Name}, Call()) end)) end) < 50_000)
      || {Name, Call} <- [
             {bad_value, fun() -> antientropy:put(Replica, 1, <<"k">>, Value) end},
             {bad_value, fun() -> antientropy:accept(Replica, <<"k">>, #{clock => #{1 => 1}, value => Value}) end},
@@ -197,16 +177,12 @@ long_arguments_are_not_read(Replica) ->
         ]
     ].
 
-%% Makes a call some times, and returns the microseconds of the shortest one: others may be held up by the machine.
-shortest(Times, Call) ->
-    lists:min([element(1, timer:tc(Call)) || _ <- lists:seq(1, Times)]).
-
 elsewhere(Call) ->
     {Ticked, Result} = ticks(Call),
     ?assert(Ticked > 0),
     Result.
 
-%% Takes all answers but the last, that of the leaf, which it returns.
+%% Takes all answers but the last one, of the leaf, and returns that.
 last_answer(Exchange, Snapshot) ->
     {ok, [<<_:5/binary, Depth, _/binary>> = Ask]} = antientropy_exchange:asks(Exchange),
     {ok, Answer} = antientropy_snapshot:serve(Snapshot, 1, Ask),
@@ -235,30 +211,15 @@ tick(Ticks) ->
     erlang:yield(),
     tick(Ticks).
 
-%% Many processes wait at once, for calls of each kind.
-processes_wait(Replica) ->
-    Rehash = start_rehash(Replica),
-    Calls = [
-        fun() -> antientropy:put(Replica, 2, <<"mine">>, <<>>) end,
-        fun() -> antientropy:get(Replica, support:key(1)) end,
-        fun() -> antientropy:accept(Replica, <<"theirs">>, #{clock => #{3 => 1}, value => <<>>}) end,
-        fun() -> antientropy:root(Replica) end
-        | [fun() -> antientropy:count(Replica) end || _ <- lists:seq(1, 30)]
-    ],
-    Waiting = [async(Call) || Call <- Calls],
-    [?assertMatch({ok, _}, await(Call)) || Call <- Waiting],
-    ?assertEqual(ok, await(Rehash)),
-    support:badarg(fun() -> antientropy:put(Replica, 2, none, <<>>) end).
-
-%% The nodes of a portion are hashed without the lock. It ends with a leaf of some 50 MB, which takes long.
-a_portion_is_hashed_beside_calls() ->
+%% A portion ends with a leaf of some 50 MB, which takes long to hash.
+a_portion_is_hashed_outside_the_gate() ->
     Replica = replica(),
     [{ok, _} = antientropy:put(Replica, Node, Key, ?LARGE_VALUE) || Key <- keys_of_a_leaf(), Node <- lists:seq(1, 64)],
     ok = antientropy:hold(Replica),
     {Process, _} = Hashing = async(fun() -> antientropy:hash_moment(Replica, 4096) end),
     wait_until_running(Process),
-    {ok, _} = antientropy:put(Replica, 2, <<"beside">>, <<>>),
-    ?assertEqual(pending, peek(Hashing)),
+    {ok, _} = antientropy:put(Replica, 2, <<"other">>, <<>>),
+    ?assertNot(is_over(Hashing)),
     ?assertMatch({ok, Left} when Left > 0, await(Hashing)),
     ok = antientropy:close(Replica).
 
@@ -267,51 +228,46 @@ keys_of_a_leaf() ->
     Leaf = antientropy:place(2, 0, support:key(1)),
     [Key || Number <- lists:seq(1, 50_000), Key <- [support:key(Number)], antientropy:place(2, 0, Key) =:= Leaf].
 
-%% A snapshot has a lock of its own.
-a_snapshot_does_not_wait(Replica) ->
+%% The thread of the NIF frees the large handles of a process that ends, which takes it more than a tenth of a
+%% millisecond.
+large_handles_are_freed_elsewhere() ->
+    [
+        begin
+            Before = worker_nanos(),
+            ok = await(async(fun() ->
+                _ = Make(),
+                ok
+            end)),
+            ?assert(support:until(fun() -> worker_nanos() - Before > 100_000 end))
+        end
+     || Make <- [fun large_replica/0, fun large_snapshot/0, fun large_hints/0]
+    ].
+
+%% Returns the processor time of the NIF's thread in nanoseconds.
+worker_nanos() ->
+    [Folder] = [
+        filename:dirname(File)
+     || File <- filelib:wildcard("/proc/self/task/*/comm"), {ok, <<"antientropy\n">>} =:= file:read_file(File)
+    ],
+    {ok, Times} = file:read_file(filename:join(Folder, "schedstat")),
+    binary_to_integer(hd(binary:split(Times, <<" ">>))).
+
+%% Returns the microseconds of the shortest of some calls. The longer ones may wait for the machine.
+shortest(Measure) ->
+    lists:min([Measure() || _ <- lists:seq(1, 3)]).
+
+large_replica() ->
+    support:fill(support:replica(#{limit => 100_000}), 30_000).
+
+%% A snapshot that nothing shares.
+large_snapshot() ->
+    Replica = large_replica(),
     {ok, Snapshot} = antientropy:snapshot(Replica),
-    Rehash = start_rehash(Replica),
-    ?assertMatch({ok, _}, antientropy_snapshot:offer(Snapshot, 1)),
-    ?assertEqual(pending, peek(Rehash)),
-    ?assertEqual(ok, await(Rehash)).
+    ok = antientropy:close(Replica),
+    Snapshot.
 
-%% A process that is killed in a call doesn't keep the lock, and the call is completed. On a busy machine the process
-%% may be killed before its call begins: then the test tries again.
-a_process_is_killed(Replica) ->
-    {Rehashing, Monitor} = start_rehash(Replica),
-    {Waiting, _} = async(fun() -> antientropy:count(Replica) end),
-    exit(Rehashing, kill),
-    exit(Waiting, kill),
-    receive
-        {'DOWN', Monitor, process, Rehashing, Reason} -> ?assertEqual(killed, Reason)
-    end,
-    case antientropy:count(Replica) of
-        {ok, #{dirty := 0}} -> ok;
-        {ok, #{dirty := _}} -> a_process_is_killed(Replica)
-    end.
-
-%% Calls that wait meanwhile find the replica or nothing.
-close_meanwhile(Replica) ->
-    Rehash = start_rehash(Replica),
-    Closing = async(fun() -> antientropy:close(Replica) end),
-    Counting = [async(fun() -> antientropy:count(Replica) end) || _ <- lists:seq(1, 4)],
-    ?assertEqual(ok, await(Rehash)),
-    ?assertEqual(ok, await(Closing)),
-    [?assert(lists:member(element(1, await(Call)), [ok, error])) || Call <- Counting],
-    ?assertEqual({error, empty}, antientropy:count(Replica)).
-
-%% Makes a call in another process.
-async(Call) ->
-    spawn_monitor(fun() -> exit({result, Call()}) end).
-
-await({Process, Monitor}) ->
-    receive
-        {'DOWN', Monitor, process, Process, {result, Result}} -> Result
-    end.
-
-%% Returns `pending' if the call goes on.
-peek({Process, _}) ->
-    case is_process_alive(Process) of
-        true -> pending;
-        false -> ended
-    end.
+large_hints() ->
+    {ok, Hints} = antientropy_hints:new(),
+    Hint = support:live(#{1 => 1}, binary:copy(<<"v">>, 100)),
+    [{ok, _} = antientropy_hints:keep(Hints, 1, support:key(Number), Hint) || Number <- lists:seq(1, 10_000)],
+    Hints.

@@ -137,7 +137,7 @@ a_link_that_fails({_, B} = Pair) ->
     ?assertExit(noconnection, sync(Pair, fun(_) -> exit(noconnection) end)),
     ?assertMatch({ok, #{sessions := 0, open_sessions := 0}}, antientropy:count(B)).
 
-%% What was taken stays.
+%% The replica keeps the versions that it accepted.
 journal_full({A, _}) ->
     Small = replica(#{limit => 10}),
     ?assertEqual({error, journal_full}, sync({A, Small}, fun(Answers) -> Answers end)),
@@ -227,7 +227,7 @@ syncs_at_once({_, B}) ->
     [?assertEqual(normal, reason(Sync)) || Sync <- Syncing],
     ?assertMatch({ok, #{sessions := 0}}, antientropy:count(B)).
 
-%% A replica lacks 20 keys of a partner, and one more is crowded between the two: that of the leaf that is asked first.
+%% A partner has 20 keys that a replica doesn't have. Between the two, a key in the leaf that is asked first is crowded.
 %% The partner answers each ask for a leaf with the true text of that leaf: no other leaf is left for it.
 crowded_leaf_test() ->
     [A, B] = [replica(), replica()],
@@ -249,8 +249,8 @@ crowded_leaf_test() ->
 ask_of(Leaf, <<Offer:5/binary, 3, _:16>>) -> <<Offer/binary, 3, Leaf:16>>;
 ask_of(_, Ask) -> Ask.
 
-%% Syncs a replica of 2,000 keys with values of 300 bytes, of which the partner has put 20 again, by a link that changes
-%% patches. Returns the numbers of bytes of outlines and patches, and of the answers in whose place they are.
+%% Syncs a replica of 2,000 keys with values of 300 bytes from a partner that has put 20 of them again, by a link that
+%% changes patches. Returns the numbers of bytes of outlines and patches, and of the answers in whose place they are.
 sync_long_rows(Change) ->
     Value = binary:copy(<<"v">>, 300),
     [A, B] = Pair = [replica(), replica()],
@@ -271,7 +271,7 @@ sync_long_rows(Change) ->
     ?assertMatch(#{report := finished, accepted := 20, bad := 0, lost := 0}, Synced),
     {counters:get(Sent, 1), counters:get(Sent, 2)}.
 
-%% What both have doesn't travel.
+%% Bytes that both have aren't sent.
 patches_test() ->
     {Sent, Answered} = sync_long_rows(fun(Patch) -> {ok, Patch} end),
     ?assert(3 * Sent < Answered).
@@ -287,14 +287,14 @@ plain_asks_test() ->
     Reach = fun(Asks) -> lists:map(Serve, Asks) end,
     ?assertMatch({ok, #{accepted := 1}}, antientropy:sync(B, 1, Offer, Reach, #{plain => true})).
 
-%% A partner is asked plainly if it lies in each patch, or refuses the outlines, as one does that doesn't know them.
+%% The exchange sends plain asks if the partner lies in each patch, or refuses outlines because it doesn't know them.
 outlines_without_a_text_count_as_nothing_test() ->
     Lie = fun(Patch) -> {ok, support:flip(Patch, byte_size(Patch) - 1)} end,
     Refuse = fun(_) -> {error, bad_message} end,
     [?assertNotEqual({0, 0}, sync_long_rows(Change)) || Change <- [Lie, Refuse]].
 
 %% Of 100,000 keys at both 1,100 are newer at the partner. The time for the sync is over after each batch: the replica
-%% puts, and goes on with the same exchange.
+%% puts, and continues with the same exchange.
 deadline_test_() ->
     {timeout, 60, fun() ->
         [Partner, Replica] = [replica(#{}), replica(#{})],

@@ -44,7 +44,6 @@
     "entry_clock" => {antientropy, entry, 2},
     "entry_source" => {antientropy, entry, 2},
     "top_counter" => {antientropy, top_counter, 4},
-    "rehash" => {antientropy, rehash, 1},
     "rehash_some" => {antientropy, rehash_some, 2},
     "hold" => {antientropy, hold, 1},
     "drop_moment" => {antientropy, drop_moment, 1},
@@ -109,7 +108,7 @@ calls_are_made_test() ->
     Sources = [text(File) || File <- filelib:wildcard("c_src/*.c")],
     ?assertEqual(declared(), found(Sources, "\\bantientropy_(\\w+)\\(")).
 
-%% The functions of the module antientropy_nif are those of c_src/calls.h.
+%% The module antientropy_nif has the functions of c_src/calls.h.
 functions_of_the_nif_library_test() ->
     {match, Found} = re:run(text("c_src/calls.h"), "X\\((\\w+), (\\d), \\w+\\)", [global, {capture, [1, 2], list}]),
     Calls = [{list_to_atom(Name), list_to_integer(Arity)} || [Name, Arity] <- Found],
@@ -126,7 +125,7 @@ refusals_have_the_names_of_the_header_test() ->
      || [Name, Number] <- Numbers
     ].
 
-%% The leaves that a checkpoint has are those of the header.
+%% A checkpoint has as many leaves as the header says.
 leaves_test() ->
     Text = text(?HEADER),
     [
@@ -165,14 +164,14 @@ is_exported({Module, Function, Arity}) ->
     {module, Module} = code:ensure_loaded(Module),
     erlang:function_exported(Module, Function, Arity).
 
-%% The names of the calls in the header, but for those by shares, which its inline functions make, those of C's own
-%% loop, key_next and hash_moment. key_next is key_after with the key's memory for the result. hash_moment is the calls
-%% of a portion in one: the replica would be locked meanwhile.
+%% The names of the calls in the header, without those by shares, which its inline functions make, C's own loop, and
+%% three others. key_next is key_after with the key's memory for the result. hash_moment is the calls of a portion in
+%% one, and rehash is rehash_some with no limit: other calls would wait for both.
 declared() ->
     Declared = "(?m)^(?:static inline )?(?:uint32_t|void) antientropy_(?!share_)(\\w+)\\(",
     All = found([text(?HEADER)], Declared),
     ?assertEqual([], ?LOOP -- All),
-    All -- ["key_next", "hash_moment" | ?LOOP].
+    All -- ["key_next", "hash_moment", "rehash" | ?LOOP].
 
 %% The first group of each match, sorted.
 found(Texts, Pattern) ->

@@ -36,11 +36,36 @@ modules_of_the_application_test() ->
     Files = filelib:wildcard("src/*.erl"),
     ?assertEqual(lists:sort([list_to_atom(filename:basename(File, ".erl")) || File <- Files]), lists:sort(Modules)).
 
-%% A new version of the module is refused in a running node, and calls go on.
-upgrade_is_refused_test() ->
-    #{level := Level} = logger:get_primary_config(),
-    ok = logger:set_primary_config(level, none),
-    {ok, Replica} = antientropy:new(),
-    ?assertEqual({error, on_load_failure}, code:load_file(antientropy_nif)),
-    ?assertMatch({ok, #{entries := 0}}, antientropy:count(Replica)),
-    ok = logger:set_primary_config(level, Level).
+%% A running node loads the module again, with the same library or another file of it. The handles of the instance
+%% before stay, with processes that wait in line.
+upgrade_test_() ->
+    {timeout, 60, fun() ->
+        Replica = support:fill(support:replica(#{limit => 100_000}), 1000),
+        Dropped = support:async(fun() ->
+            _ = support:fill(support:replica(), 1000),
+            receive stop -> ok end
+        end),
+        [ok = upgrade(Replica, Node) || Node <- [2, 3, 4]],
+        ok = support:stop(Dropped),
+        ok = antientropy:renew_in_place(Replica),
+        ?assertMatch({ok, #{entries := 1003}}, antientropy:count(Replica)),
+        ok = antientropy:close(Replica)
+    end}.
+
+upgrade(Replica, Node) ->
+    Holder = support:hold(Replica, change),
+    Put = support:in_line(support:async(fun() -> antientropy:put(Replica, Node, <<"k">>, <<>>) end)),
+    Library = filename:join(code:priv_dir(antientropy), "antientropy_nif.so"),
+    [ok = replace(Library) || Node rem 2 =:= 0],
+    _ = code:purge(antientropy_nif),
+    {module, antientropy_nif} = code:load_file(antientropy_nif),
+    false = code:purge(antientropy_nif),
+    {ok, _} = antientropy:root(support:fill(support:replica(), 500)),
+    support:kill(Holder),
+    {ok, _} = support:await(Put),
+    ok.
+
+%% Replaces a file by a copy. Programs that have the old one keep it.
+replace(File) ->
+    {ok, _} = file:copy(File, File ++ ".new"),
+    ok = file:rename(File ++ ".new", File).

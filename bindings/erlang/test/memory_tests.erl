@@ -28,7 +28,7 @@ exchanges_test_() ->
         {ok, [_]} = antientropy_exchange:asks(Exchange)
     end).
 
-%% A renewal frees the old range, and a refused one what it has made. One that nobody closed is freed.
+%% A renewal frees the old range, and a refused one the new range. A renewal that nobody closed is freed, too.
 renewals_test_() ->
     Replica = replica(),
     [{ok, _} = antientropy:put(Replica, 1, <<Key>>, ?VALUE) || Key <- lists:seq(1, 64)],
@@ -61,6 +61,17 @@ slots_test_() ->
         ok = antientropy_slots:lend(Slots)
     end).
 
+%% Processes that wait in line. Half of them are killed there, and one that has its turn.
+waiters_test_() ->
+    Replica = replica(),
+    freed(131_072, fun() ->
+        Holder = support:hold(Replica, change),
+        Waiting = [support:async(fun() -> antientropy:count(Replica) end) || _ <- lists:seq(1, 256)],
+        {Killed, Called} = lists:split(128, [support:in_line(Each) || Each <- Waiting]),
+        [support:kill(Each) || Each <- [Holder | Killed]],
+        [{ok, _} = support:await(Each) || Each <- Called]
+    end).
+
 %% Results and refusals of one replica.
 results_test_() ->
     Replica = replica(),
@@ -78,7 +89,7 @@ results_test_() ->
         {ok, _} = antientropy_snapshot:serve(Snapshot, 1, <<2, 1:32, 3, Leaf:16>>)
     end).
 
-%% Clocks with memory of their own, refused and of wrong types. Longer ones go to a dirty scheduler, for which a call
+%% Clocks that don't fit on the stack, refused and of wrong types. Longer ones go to a dirty scheduler, for which a call
 %% waits if the machine is busy.
 long_clocks_test_() ->
     Replica = replica(),
@@ -97,8 +108,46 @@ long_clocks_test_() ->
         support:badarg(fun() -> antientropy:compare(Pairs, none) end)
     end).
 
-%% Makes calls again and again, in processes that end. If `Bytes` were lost each time, that would be 64 MiB. Half
-%% as many calls before are for what the allocators keep. In a busy gate it takes minutes.
+%% Handles that are made and dropped, and made and closed, as often as MEMORY_ROUNDS says: 10,000 times, or 3,000 in the
+%% gate. Then the process has at most a tenth more than after the first thousand.
+many_dropped_test_() ->
+    many(fun() ->
+        {Replica, Snapshot, Exchange} = make_handles(),
+        {ok, [_]} = antientropy_exchange:asks(Exchange),
+        {ok, _} = antientropy:renewal(Replica, 100),
+        {ok, _} = antientropy_snapshot:root(Snapshot)
+    end).
+
+many_closed_test_() ->
+    many(fun() ->
+        {Replica, Snapshot, Exchange} = make_handles(),
+        {ok, Renewal} = antientropy:renewal(Replica, 100),
+        ok = antientropy_renewal:close(Renewal),
+        ok = antientropy_exchange:close(Exchange),
+        ok = antientropy_snapshot:close(Snapshot),
+        ok = antientropy:close(Replica)
+    end).
+
+%% A replica of 20 keys, its snapshot, and an exchange. In format 1 few nodes are hashed.
+make_handles() ->
+    Replica = support:fill(support:replica(#{format => 1, limit => 10_000}), 20),
+    {ok, Snapshot} = antientropy:snapshot(Replica),
+    {ok, Offer} = antientropy_snapshot:offer(Snapshot, 1),
+    {ok, _} = antientropy:put(Replica, 1, <<"later">>, binary:copy(<<"v">>, 1000)),
+    {ok, Exchange} = antientropy:exchange(Replica, 1, Offer, #{}),
+    {Replica, Snapshot, Exchange}.
+
+many(Call) ->
+    {timeout, 1200, fun() ->
+        Rounds = list_to_integer(os:getenv("MEMORY_ROUNDS", "3000")),
+        [run(Call) || _ <- lists:seq(1, 1000)],
+        Resident = resident(),
+        [run(Call) || _ <- lists:seq(1001, Rounds)],
+        ?assert(resident() * 10 =< Resident * 11)
+    end}.
+
+%% Makes calls again and again, in processes that end. If `Bytes' were lost each time, that would be 64 MiB. Half of
+%% that number of calls before them is for the allocators. On a busy machine it takes minutes.
 freed(Bytes, Call) ->
     {timeout, 600, fun() ->
         Count = 64 * ?MIB div Bytes,

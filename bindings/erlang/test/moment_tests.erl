@@ -1,11 +1,11 @@
-%% Moments: hashed in portions, and beside a process that puts without pause.
+%% Moments: hashed in portions, and while another process puts without pause.
 -module(moment_tests).
 
 -include_lib("eunit/include/eunit.hrl").
 
 -import(support, [replica/0, fill/2]).
 
-%% Keys of a process that puts, and its puts: fewer than the entries that a journal has room for.
+%% Numbers of keys and of puts of a process: a journal has more entries.
 -define(KEYS, 1000).
 -define(MOST_PUTS, 900_000).
 
@@ -27,7 +27,7 @@ hold_and_hash_test() ->
     ?assertMatch({ok, #{front := 50}}, antientropy:count(Replica)),
     ?assertEqual(antientropy:root(fill(replica(), 50)), antientropy_snapshot:root(Snapshot)).
 
-%% `front' stays that of the last whole moment until the next one is whole.
+%% `front' doesn't change until the next moment is whole.
 front_test() ->
     Replica = fill(replica(), 10),
     {ok, _} = antientropy:snapshot(Replica),
@@ -56,7 +56,7 @@ no_moment(Front, Replica) ->
     ?assertEqual({ok, 0}, antientropy:hash_moment(Replica, 0)),
     ?assertMatch({ok, #{front := Front}}, antientropy:count(Replica)).
 
-%% Moments that another process holds and drops don't keep a call from its end.
+%% Calls end while another process holds and drops moments.
 beside_moments_test_() ->
     {timeout, 60, fun() ->
         Replica = fill(replica(), 1000),
@@ -89,7 +89,7 @@ close_while_hashing_test() ->
     end,
     ?assertEqual({error, empty}, antientropy:hash_moment(Replica, 5000)).
 
-%% Checkpoints and syncs end, and are right, while another process puts without pause.
+%% Checkpoints and syncs end with the expected rows while another process puts without pause.
 beside_puts_test_() ->
     {timeout, 60, fun() ->
         Replica = support:replica(#{}),
@@ -104,7 +104,7 @@ beside_puts_test_() ->
         ?assertEqual(antientropy:root(Replica), antientropy:root(Partner))
     end}.
 
-%% Puts values of some keys, one after another, until it is stopped.
+%% Puts values of some keys in turn until it is stopped.
 write(_, ?MOST_PUTS) ->
     receive
         stop -> ok

@@ -149,7 +149,7 @@ no_version(Replica) ->
     {ok, #{leaf := Leaf}} = antientropy:place(2, 0, <<"k">>),
     refused(no_version, Replica, key_after, [Replica, Leaf, <<"k">>]).
 
-%% Numbers over the count, and those before the last renewal but for that of the first entry.
+%% Numbers over the count, and numbers before the last renewal, except the first entry's.
 bad_position(Replica) ->
     {ok, #{counter := 2}} = antientropy:put(Replica, 1, <<"k">>, <<"w">>, #{1 => 1}),
     {ok, new} = antientropy:accept(Replica, <<"k">>, live(#{2 => 1}, <<"other">>)),
@@ -298,11 +298,11 @@ long_values(Replica) ->
     refused({row_broken, 0}, Replica, load_rows, [Replica, Great]),
     refused(bad_message, Replica, read_offer, [Great]).
 
-%% The pairs 1 to `Last', each of which has a counter of 1.
+%% Returns pairs of the nodes 1 to `Last', with a counter of 1.
 pairs(Last) ->
     [{Node, 1} || Node <- lists:seq(1, Last)].
 
-%% A clock of more pairs than there are nodes is none; up to that number it may have too many pairs.
+%% Pairs that are more than all nodes aren't a clock. Fewer may be too many for a clock.
 long_clocks(Replica) ->
     Other = live(#{1 => 1}, <<>>),
     [

@@ -1,9 +1,9 @@
-%% Renewals in place, beside the puts of other processes, in two steps, and those that calls start.
+%% Renewals in place, while other processes put, in two steps, and started by calls.
 -module(renewal_tests).
 
 -include_lib("eunit/include/eunit.hrl").
 
--import(support, [replica/0, replica/1, live/2, fill/2, key/1, refused/3, badarg/1]).
+-import(support, [replica/0, replica/1, live/2, fill/2, key/1, refused/3, badarg/1, async/1, await/1, stop/1, kill/1]).
 
 -define(WRITERS, 3).
 -define(KEYS, 50).
@@ -152,7 +152,7 @@ in_two_steps_test() ->
     ?assertEqual({error, empty}, antientropy_renewal:finish(Renewal)),
     ?assertEqual({ok, [live(#{1 => 2_000}, <<>>)]}, antientropy:get(Replica, <<"k">>)).
 
-%% The second of two renewals, one that lacks room for what was put meanwhile, and one whose replica is closed.
+%% The second of two renewals is refused, and one whose limit is too low for later puts, and one of a closed replica.
 finish_refused_test() ->
     Replica = replica(),
     rewrite(Replica, 5),
@@ -167,7 +167,7 @@ finish_refused_test() ->
     ?assertEqual({error, empty}, antientropy_renewal:finish(Fourth)),
     [ok = antientropy_renewal:close(Renewal) || Renewal <- [First, Second, Third, Fourth]].
 
-%% A large replica takes puts while it is renewed. A process that is killed meanwhile completes the renewal.
+%% A large replica takes puts while it is renewed.
 large_test_() ->
     {timeout, 120, fun() ->
         Replica = fill(replica(#{limit => 100_000}), 50_000),
@@ -177,10 +177,50 @@ large_test_() ->
         ?assertEqual(ok, await(Renewing)),
         ?assert(Puts > 1_100),
         ?assertMatch({ok, #{first := First}} when First >= 999, antientropy:count(Replica)),
-        ?assertEqual({ok, [live(#{1 => Puts}, <<>>)]}, antientropy:get(Replica, <<"k">>)),
-        killed(Replica, first(Replica)),
         ?assertEqual({ok, [live(#{1 => Puts}, <<>>)]}, antientropy:get(Replica, <<"k">>))
     end}.
+
+%% Processes that are killed while they renew a replica leave it unchanged, or renewed, and no call waits for them.
+killed_test_() ->
+    {timeout, 60, fun() ->
+        Replica = fill(replica(#{limit => 100_000}), 10_000),
+        rewrite(Replica, 1_000),
+        [
+            begin
+                Renewing = async(fun() -> antientropy:renew_in_place(Replica, 100_000) end),
+                timer:sleep(Millis),
+                kill(Renewing),
+                ?assert(lists:member(first(Replica), [0, 999])),
+                ?assertEqual({ok, [live(#{1 => 1_000}, <<>>)]}, antientropy:get(Replica, <<"k">>))
+            end
+         || Millis <- lists:seq(0, 40, 2)
+        ],
+        ok = antientropy:renew_in_place(Replica, 100_000),
+        ?assertMatch({ok, #{entries := 11_000, first := 999}}, antientropy:count(Replica))
+    end}.
+
+%% A process that renews a kept replica is killed: a later put starts another one.
+killed_keeper_test() ->
+    Replica = replica(#{limit => 100}),
+    rewrite(Replica, 100),
+    ok = kept_by_other(Replica),
+    until(fun() -> first(Replica) =:= 99 end).
+
+%% Keeps a replica renewed, after another process has begun the renewal that is due and was killed.
+kept_by_other(Replica) ->
+    {renew, Replica, ok} = antientropy_nif:keep_renewed(Replica),
+    Self = self(),
+    Renewing = async(fun() ->
+        {ok, _, 100} = antientropy_nif:due_renewal(Replica),
+        Self ! begun,
+        receive after infinity -> ok end
+    end),
+    receive
+        begun -> ok
+    end,
+    ?assertEqual(ok, antientropy_nif:due_renewal(Replica)),
+    kill(Renewing),
+    until(fun() -> {error, journal_full} =/= antientropy:put(Replica, 2, <<"other">>, <<>>) end).
 
 puts_while({Process, _} = Call, Replica, Counter) ->
     case is_process_alive(Process) of
@@ -190,23 +230,6 @@ puts_while({Process, _} = Call, Replica, Counter) ->
         false ->
             Counter
     end.
-
-%% On a busy machine the process may be killed before its call begins: then the test tries again.
-killed(Replica, Before) ->
-    {Process, Monitor} = async(fun() -> antientropy:renew_in_place(Replica, 100_000) end),
-    timer:sleep(5),
-    exit(Process, kill),
-    receive
-        {'DOWN', Monitor, process, Process, _} -> ok
-    end,
-    is_renewed(Replica, Before, 2_000) orelse killed(Replica, Before).
-
-%% Waits at most this number of milliseconds for a renewal that drops entries.
-is_renewed(_, _, 0) ->
-    false;
-is_renewed(Replica, Before, Millis) ->
-    timer:sleep(1),
-    first(Replica) > Before orelse is_renewed(Replica, Before, Millis - 1).
 
 %% One key is put fifty times as often as the journal has entries, with no other call.
 kept_test_() ->
@@ -305,7 +328,7 @@ rewrite(Replica, Counter) ->
 put_next(Replica, Count) ->
     with_room(fun() -> antientropy:put(Replica, 1, <<"k">>, <<>>, context(Count)) end).
 
-%% Repeats a call until the journal has room for it.
+%% Repeats a call while the journal is full.
 with_room(Call) ->
     case Call() of
         {error, journal_full} ->
@@ -330,17 +353,4 @@ until(Condition) ->
         false ->
             timer:sleep(1),
             until(Condition)
-    end.
-
-%% Makes a call in another process.
-async(Call) ->
-    spawn_monitor(fun() -> exit({result, Call()}) end).
-
-stop({Process, _} = Call) ->
-    Process ! stop,
-    await(Call).
-
-await({Process, Monitor}) ->
-    receive
-        {'DOWN', Monitor, process, Process, {result, Result}} -> Result
     end.

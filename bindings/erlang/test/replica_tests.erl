@@ -180,7 +180,7 @@ packed_entries_test() ->
         ]
     ].
 
-%% Entries that don't fit into the room of one call.
+%% Entries that don't fit in one call.
 many_entries_test() ->
     Replica = replica(),
     Values = [binary:copy(<<Number>>, 65_536) || Number <- lists:seq(1, 40)],

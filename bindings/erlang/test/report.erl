@@ -18,7 +18,7 @@ main(Modules) ->
     io:format("~b passed, ~b failed~n", [Passed, Failed]),
     halt(min(Failed, 1)).
 
-%% Runs the tests of modules, one after another, and adds up what passed and failed.
+%% Runs the tests of modules in turn, and adds up their counts.
 run([], Counts) ->
     Counts;
 run([Module | Modules], {Passed, Failed}) ->

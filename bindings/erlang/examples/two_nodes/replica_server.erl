@@ -1,7 +1,7 @@
 %% @doc A replica as a process that other Erlang nodes reach under its name.
 %%
-%% It answers a partner's asks from its last snapshot while it goes on. It keeps everything in memory: a store brings a
-%% version to its disk before a response, an offer or an answer has it (docs/EMBEDDING_C.md, "Restarts").
+%% It serves a partner's asks from its last snapshot while it takes puts. It keeps everything in memory: a store writes
+%% a version to its disk before a response, an offer or an answer contains it (docs/EMBEDDING_C.md, "Restarts").
 -module(replica_server).
 -behaviour(gen_server).
 
@@ -27,7 +27,7 @@ put(Node, Key, Value, Context) ->
 get(Node, Key) ->
     gen_server:call({?MODULE, Node}, {get, Key}).
 
-%% @doc Takes what the replica of the Erlang node Partner has, and the one of Node lacks.
+%% @doc Syncs the replica of an Erlang node from the one of Partner.
 sync(Node, Partner) ->
     gen_server:call({?MODULE, Node}, {sync, Partner}, infinity).
 
@@ -40,7 +40,7 @@ handle_call({put, Key, Value, Context}, _From, #state{number = Number, replica =
 handle_call({get, Key}, _From, #state{replica = Replica} = State) ->
     {reply, antientropy:get(Replica, Key), State};
 handle_call({sync, Partner}, From, #state{replica = Replica} = State) ->
-    %% Another process syncs: this one answers meanwhile, maybe the asks of the same partner.
+    %% Another process syncs, while this one serves calls, maybe of the same partner.
     spawn_link(fun() -> gen_server:reply(From, take_from(Partner, Replica)) end),
     {noreply, State};
 handle_call(offer, _From, #state{number = Number, replica = Replica, offers = Offers} = State) ->
@@ -53,7 +53,7 @@ handle_call({serve, Asks}, _From, #state{offers = Number, snapshot = Snapshot} =
 handle_cast(_, State) ->
     {noreply, State}.
 
-%% Takes what the last offer of a partner has.
+%% Syncs the replica from a new offer of a partner.
 take_from(Partner, Replica) ->
     {Number, Offer} = gen_server:call({?MODULE, Partner}, offer),
     Reach = fun(Asks) -> gen_server:call({?MODULE, Partner}, {serve, Asks}) end,
