@@ -22,7 +22,7 @@ struct antientropy_go_receipt antientropy_go_put(antientropy_go_handle *replica,
     return result;
 }
 
-/* Returns the number of bytes of a record, with those that follow it. */
+/* Returns the size of a record in bytes, including the bytes that follow it. */
 static uint64_t size_of(const struct antientropy_go_record *record)
 {
     return (sizeof *record + record->key_len + record->value_len + 7) / 8 * 8;
@@ -34,20 +34,20 @@ static uint8_t *bytes_of(struct antientropy_go_record *record)
     return (uint8_t *)(record + 1);
 }
 
-/* Returns the result of a call that needs a number of bytes of room. */
+/* Returns the result of a call that needs a number of bytes. */
 static uint32_t fit(uint64_t bytes, size_t out_len, uint64_t *need)
 {
     *need = bytes;
     return bytes <= out_len ? ANTIENTROPY_OK : ANTIENTROPY_SMALL;
 }
 
-uint32_t antientropy_go_read(const antientropy_go_handle *replica, const uint8_t *key, size_t key_len, uint64_t index,
-                             uint64_t most, uint8_t *out, size_t out_len, uint64_t *need)
+uint32_t antientropy_go_read(const antientropy_go_handle *replica, const uint8_t *key, size_t key_len, uint8_t *out,
+                             size_t out_len, uint64_t *need)
 {
     struct antientropy_go_record spare;
     struct antientropy_reading reading;
-    uint64_t used = 0;
-    for (bool last = false; most > 0 && !last; most--, index++) {
+    uint64_t used = 0, index = 0;
+    for (bool last = false; !last; index++) {
         /* A record that doesn't fit is read for its size. */
         bool fits = used + sizeof spare <= out_len;
         struct antientropy_go_record *record = fits ? (struct antientropy_go_record *)(out + used) : &spare;

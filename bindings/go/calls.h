@@ -1,4 +1,4 @@
-/* Calls over the library's, by which a method of the package crosses from Go to C once.
+/* Calls that combine several of the library's, so that a method of the package crosses from Go to C once.
  *
  * They are refused as the calls that they make. */
 #ifndef ANTIENTROPY_GO_CALLS_H
@@ -38,12 +38,12 @@ struct antientropy_go_record {
     struct antientropy_pair clock[ANTIENTROPY_CLOCK_MAX];
 };
 
-/* Minimum room of a call that writes records, in bytes. The room is aligned for records. */
+/* Minimum size of the buffer of a call that writes records, in bytes. It is aligned for records. */
 #define ANTIENTROPY_GO_ROOM_MIN (sizeof(struct antientropy_go_record) + ANTIENTROPY_KEY_MAX)
 
-/* Writes a record for each version held for a key, from an index on: at most `most`. If there is none, `need` is 0. */
-uint32_t antientropy_go_read(const antientropy_go_handle *replica, const uint8_t *key, size_t key_len, uint64_t index,
-                             uint64_t most, uint8_t *out, size_t out_len, uint64_t *need);
+/* Writes a record for each version held for a key. For an unknown key, `need` is 0. */
+uint32_t antientropy_go_read(const antientropy_go_handle *replica, const uint8_t *key, size_t key_len, uint8_t *out,
+                             size_t out_len, uint64_t *need);
 
 /* Writes the record of an entry. */
 uint32_t antientropy_go_entry(const struct antientropy_replica *replica, uint64_t number, uint8_t *out, size_t out_len,

@@ -11,9 +11,6 @@ import (
 // A checkpoint is a head, and then the rows of each leaf with their length. See docs/FORMATS.md.
 const checkpointMagic = "antient\x01"
 
-// ErrDamaged is the cause in an error of [Load] if the file isn't a whole checkpoint.
-var ErrDamaged = errors.New("antientropy: the checkpoint is damaged")
-
 // A checkpointHead has the fields before the rows.
 type checkpointHead struct {
 	Magic  [len(checkpointMagic)]byte
@@ -23,8 +20,8 @@ type checkpointHead struct {
 	Root   Root
 }
 
-// Save writes a checkpoint of the rows now (docs/FORMATS.md). It returns the number of the first entry that isn't in
-// the checkpoint: a log goes on there. The caller brings the file to its disk.
+// Save writes a checkpoint of the current rows (docs/FORMATS.md). It returns the number of the first entry after the
+// checkpoint: a log continues there. The caller syncs the file to its disk. An error is a refusal, or wraps the file's.
 func (r *Replica) Save(file io.Writer) (entries uint64, err error) {
 	snapshot, err := r.Snapshot()
 	if err != nil {
@@ -34,7 +31,7 @@ func (r *Replica) Save(file io.Writer) (entries uint64, err error) {
 	return snapshot.Entries(), snapshot.Save(file)
 }
 
-// Save writes a checkpoint of the rows (docs/FORMATS.md).
+// Save writes a checkpoint of the rows (docs/FORMATS.md). An error is a refusal, or wraps the file's.
 func (s *Snapshot) Save(file io.Writer) error {
 	root, err := s.Root()
 	if err != nil {
@@ -44,14 +41,14 @@ func (s *Snapshot) Save(file io.Writer) error {
 	copy(head.Magic[:], checkpointMagic)
 	out := bufio.NewWriter(file)
 	if err := binary.Write(out, binary.BigEndian, head); err != nil {
-		return err
+		return unwritten(err)
 	}
 	for leaf := 0; leaf < leavesOf(head.Format); leaf++ {
 		if err := s.saveLeaf(out, uint16(leaf)); err != nil {
 			return err
 		}
 	}
-	return out.Flush()
+	return unwritten(out.Flush())
 }
 
 func (s *Snapshot) saveLeaf(out io.Writer, leaf uint16) error {
@@ -60,16 +57,30 @@ func (s *Snapshot) saveLeaf(out io.Writer, leaf uint16) error {
 		return err
 	}
 	if err := binary.Write(out, binary.BigEndian, uint64(len(rows))); err != nil {
-		return err
+		return unwritten(err)
 	}
 	_, err = out.Write(rows)
-	return err
+	return unwritten(err)
 }
 
-// Load returns a new replica with the rows of a checkpoint, and a journal of at most limit entries.
+// unwritten wraps the error of a write to a file: nil for nil.
+func unwritten(err error) error {
+	if err == nil {
+		return nil
+	}
+	return fmt.Errorf("antientropy: the checkpoint can't be written: %w", err)
+}
+
+// unread wraps the error of a read of a file.
+func unread(err error) error {
+	return fmt.Errorf("antientropy: the checkpoint can't be read: %w", err)
+}
+
+// Load returns a new replica with the rows of a checkpoint, and a journal of at most limit entries, numbered from 0.
+// Accept the logged entries, and save again.
 //
-// The root finds damage, but no forged file. Compare [Replica.Config] with the configuration. An error is [ErrDamaged],
-// one of the file, or a refusal: [ErrBadRing] (the file's bits or range, or the limit) or [ErrJournalFull].
+// The root detects damage, but not a forged file. Compare [Replica.Config] with the configuration. An error wraps the
+// file's, is a [Damage], or a refusal: [ErrBadRing] (the file's bits or range, or the limit) or [ErrJournalFull].
 func Load(file io.Reader, limit uint64) (*Replica, error) {
 	in := bufio.NewReader(file)
 	var head checkpointHead
@@ -78,7 +89,7 @@ func Load(file io.Reader, limit uint64) (*Replica, error) {
 	}
 	leaves := leavesOf(head.Format)
 	if string(head.Magic[:]) != checkpointMagic || leaves == 0 {
-		return nil, damaged("it doesn't begin as a checkpoint does")
+		return nil, &Damage{Kind: DamageNotCheckpoint}
 	}
 	r, err := NewReplica(Config{Format: head.Format, Bits: head.Bits, Range: head.Range, Limit: limit})
 	if err != nil {
@@ -91,7 +102,7 @@ func Load(file io.Reader, limit uint64) (*Replica, error) {
 	return r, nil
 }
 
-// leavesOf returns the number of leaves in a format: 0 if there is no such format.
+// leavesOf returns the number of leaves in a format: 0 for an unknown format.
 func leavesOf(format uint8) int {
 	switch format {
 	case 1:
@@ -111,13 +122,13 @@ func (r *Replica) loadLeaves(in *bufio.Reader, leaves int, root Root) error {
 		}
 	}
 	if _, err := in.ReadByte(); err == nil {
-		return damaged("bytes follow its last leaf")
-	} else if err != io.EOF {
-		return err
+		return &Damage{Kind: DamageTooLong}
+	} else if !errors.Is(err, io.EOF) {
+		return unread(err)
 	}
 	loaded, err := r.Root()
 	if err == nil && loaded != root {
-		err = damaged("its root differs")
+		err = &Damage{Kind: DamageRoot}
 	}
 	return err
 }
@@ -128,35 +139,39 @@ func (r *Replica) loadLeaf(in io.Reader, leaf int) error {
 		return err
 	}
 	_, err = r.LoadRows(rows)
-	if errors.Is(err, ErrRowBroken) || err == ErrOtherRange || err == ErrCrowded {
-		return damaged(fmt.Sprintf("the rows of leaf %d are refused: %v", leaf, err))
+	for _, cause := range []Refusal{ErrRowBroken, ErrOtherRange, ErrCrowded} {
+		if errors.Is(err, cause) {
+			return &Damage{Kind: DamageLeaf, Leaf: uint16(leaf)}
+		}
 	}
 	return err
 }
 
 // readRows reads a length, and that number of bytes. A damaged length may be huge, so the memory grows with the bytes
-// that are there.
+// in the file.
 func readRows(in io.Reader) ([]byte, error) {
 	var length uint64
 	if err := readField(in, &length); err != nil {
 		return nil, err
 	}
 	rows, err := io.ReadAll(io.LimitReader(in, int64(length)))
-	if err == nil && uint64(len(rows)) != length {
-		err = damaged("it is truncated, or a length in it is damaged")
+	if err != nil {
+		return nil, unread(err)
 	}
-	return rows, err
+	if uint64(len(rows)) != length {
+		return nil, &Damage{Kind: DamageTruncated}
+	}
+	return rows, nil
 }
 
 // readField reads a number, or a struct of numbers.
 func readField(in io.Reader, field any) error {
 	err := binary.Read(in, binary.BigEndian, field)
-	if err == io.EOF || err == io.ErrUnexpectedEOF {
-		return damaged("it is truncated, or a length in it is damaged")
+	if errors.Is(err, io.EOF) || errors.Is(err, io.ErrUnexpectedEOF) {
+		return &Damage{Kind: DamageTruncated}
 	}
-	return err
-}
-
-func damaged(how string) error {
-	return fmt.Errorf("%w: %s", ErrDamaged, how)
+	if err != nil {
+		return unread(err)
+	}
+	return nil
 }

@@ -5,13 +5,14 @@ import (
 	"crypto/sha256"
 	"encoding/hex"
 	"errors"
+	"fmt"
 	"io"
 	"os"
 	"strings"
 	"testing"
 	"testing/iotest"
 
-	"antientropy"
+	antientropy "example.org/antientropy/go"
 )
 
 const pageSum = "99be10254f4ab645598e1e0a737076963aef242486a714888e11e6a6324b77a0" // docs/FORMATS.md, "Checkpoints"
@@ -42,14 +43,19 @@ func load(file []byte) (*antientropy.Replica, error) {
 	return antientropy.Load(bytes.NewReader(file), 1000)
 }
 
-// isDamaged checks that a load finds damage, and says so.
-func isDamaged(t *testing.T, file []byte, how string) {
+// isDamaged checks that a load reports a kind of damage. It returns the damage.
+func isDamaged(t *testing.T, file []byte, kind antientropy.DamageKind, how string) (damage *antientropy.Damage) {
 	t.Helper()
 	_, err := load(file)
 	refused(t, err, antientropy.ErrDamaged)
-	if err != nil && !strings.Contains(err.Error(), how) {
+	if !errors.As(err, &damage) {
+		t.Fatalf("the error is %v", err)
+	}
+	equal(t, damage.Kind, kind)
+	if !strings.Contains(err.Error(), how) {
 		t.Errorf("the error is %q", err)
 	}
+	return damage
 }
 
 // changed returns the file with another byte at a place.
@@ -71,7 +77,7 @@ func TestSaveAndLoad(t *testing.T) {
 	loaded := must(load(saved(r)))
 	equal(t, must(loaded.Root()), must(r.Root()))
 	equal(t, must(loaded.Get([]byte("cart"))), must(r.Get([]byte("cart"))))
-	equal(t, must(loaded.Count()), antientropy.Counts{Entries: 3, Limit: 1000, Front: 3})
+	equal(t, must(loaded.Stats()), antientropy.Stats{Entries: 3, Limit: 1000, Front: 3})
 }
 
 func TestRangeOfTheFile(t *testing.T) {
@@ -103,23 +109,51 @@ func TestBrokenFile(t *testing.T) {
 	refused(t, err, broken)
 }
 
+// Rows of another range are damage of their leaf.
+func TestRowsOfAnotherRange(t *testing.T) {
+	spot := must(antientropy.Place(2, 8, []byte("cart")))
+	r := must(antientropy.NewReplica(antientropy.Config{Format: 2, Bits: 8, Range: spot.Range, Limit: 10}))
+	put(r, "cart", "milk")
+	damage := isDamaged(t, changed(saved(r), 11), antientropy.DamageLeaf, "the rows of leaf ")
+	equal(t, damage.Leaf, spot.Leaf)
+}
+
+// The error of a file that can't be read or written is wrapped, and isn't damage.
+func TestErrorsOfFiles(t *testing.T) {
+	file := saved(shopping())
+	for length := range file[:60] {
+		broken := io.MultiReader(bytes.NewReader(file[:length]), iotest.ErrReader(os.ErrPermission))
+		_, err := antientropy.Load(broken, 1000)
+		refused(t, err, os.ErrPermission)
+		equal(t, errors.Is(err, antientropy.ErrDamaged), false)
+		equal(t, strings.Contains(err.Error(), "the checkpoint can't be read: "), true)
+	}
+	_, err := shopping().Save(fullDisk{})
+	equal(t, strings.Contains(err.Error(), "the checkpoint can't be written: "), true)
+}
+
+func TestNamesOfDamage(t *testing.T) {
+	equal(t, fmt.Sprint(antientropy.DamageNotCheckpoint, antientropy.DamageTruncated, antientropy.DamageTooLong,
+		antientropy.DamageRoot, antientropy.DamageLeaf), "NotCheckpoint Truncated TooLong Root Leaf")
+}
+
 func TestCut(t *testing.T) {
 	file := saved(shopping())
 	for _, length := range []int{0, 7, 8, 43, 44, 50, len(file) / 2, len(file) - 1} {
-		isDamaged(t, file[:length], "it is truncated, or a length in it is damaged")
+		isDamaged(t, file[:length], antientropy.DamageTruncated, "it is truncated, or a length in it is damaged")
 	}
 }
 
 func TestTooLong(t *testing.T) {
-	isDamaged(t, append(saved(shopping()), 0), "bytes follow its last leaf")
+	isDamaged(t, append(saved(shopping()), 0), antientropy.DamageTooLong, "bytes follow its last leaf")
 }
 
 func TestChangedHead(t *testing.T) {
 	file := saved(shopping())
 	for place := 0; place < 9; place++ {
-		isDamaged(t, changed(file, place), "it doesn't begin as a checkpoint does")
+		isDamaged(t, changed(file, place), antientropy.DamageNotCheckpoint, "it doesn't begin as a checkpoint does")
 	}
-	isDamaged(t, changed(file, 20), "its root differs")
+	isDamaged(t, changed(file, 20), antientropy.DamageRoot, "its root differs")
 	for place := 9; place < 12; place++ {
 		_, err := load(changed(file, place))
 		refused(t, err, antientropy.ErrBadRing)
@@ -128,8 +162,10 @@ func TestChangedHead(t *testing.T) {
 
 func TestChangedRows(t *testing.T) {
 	file := saved(shopping())
-	isDamaged(t, changed(file, bytes.Index(file, []byte("eggs"))), "its root differs")
-	isDamaged(t, changed(file, bytes.Index(file, []byte("cart"))-1), "the rows of leaf ")
+	isDamaged(t, changed(file, bytes.Index(file, []byte("eggs"))), antientropy.DamageRoot, "its root differs")
+	leaf := must(antientropy.Place(2, 0, []byte("cart"))).Leaf
+	damage := isDamaged(t, changed(file, bytes.Index(file, []byte("cart"))-1), antientropy.DamageLeaf, "rows of leaf ")
+	equal(t, *damage, antientropy.Damage{Kind: antientropy.DamageLeaf, Leaf: leaf})
 }
 
 func TestHugeLength(t *testing.T) {
@@ -137,7 +173,7 @@ func TestHugeLength(t *testing.T) {
 		file := saved(shopping())
 		copy(file[44:], bytes.Repeat([]byte{0xff}, 8))
 		file[44] = first
-		isDamaged(t, file, "it is truncated, or a length in it is damaged")
+		isDamaged(t, file, antientropy.DamageTruncated, "it is truncated, or a length in it is damaged")
 	}
 }
 

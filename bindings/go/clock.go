@@ -3,13 +3,16 @@ package antientropy
 // #include <antientropy.h>
 import "C"
 
+// A Node is the number of a node, 1 to [NodeMax]. Calls refuse other numbers as [ErrBadClock].
+type Node uint64
+
 // A Pair is a pair of a clock: a node and its counter.
 type Pair struct {
-	Node    uint64 // number of the node, 1 to 65,535 in a valid clock
+	Node    Node   // number of the node
 	Counter uint64 // number of puts at the node that the clock has seen
 }
 
-// A Clock has the pairs of nodes and counters of a version or of a context. Nil has seen nothing.
+// A Clock is the list of pairs of nodes and counters of a version or of a context. Nil is the empty clock.
 //
 // A call takes the pairs in any order, and returns them by rising node.
 type Clock []Pair
@@ -31,7 +34,7 @@ func (o Order) String() string {
 }
 
 // Counter returns the counter of a node: 0 if the clock has no pair of it.
-func (c Clock) Counter(node uint64) uint64 {
+func (c Clock) Counter(node Node) uint64 {
 	for _, pair := range c {
 		if pair.Node == node {
 			return pair.Counter
@@ -48,8 +51,8 @@ func Compare(first, second Clock) (Order, error) {
 	return Order(order), err
 }
 
-// Merge merges clocks, for the context of a put that replaces the versions of all. Refused as [ErrBadClock] or
-// [ErrClockFull].
+// Merge merges clocks, for the context of a put that replaces the versions of all these clocks. Refused as
+// [ErrBadClock] or [ErrClockFull].
 func Merge(clocks ...Clock) (Clock, error) {
 	merged := Clock{}
 	for _, clock := range clocks {

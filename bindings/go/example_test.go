@@ -2,10 +2,11 @@ package antientropy_test
 
 import (
 	"bytes"
+	"context"
 	"errors"
 	"fmt"
 
-	"antientropy"
+	antientropy "example.org/antientropy/go"
 )
 
 func ExampleReplica_Put() {
@@ -32,14 +33,14 @@ func ExampleReplica_Put() {
 func ExampleReplica_Sync() {
 	a, b := filled(3), newReplica()
 	offered := must(a.Snapshot())
-	reach := func(asks [][]byte) ([][]byte, error) {
+	reach := func(_ context.Context, asks [][]byte) ([][]byte, error) {
 		answers := make([][]byte, len(asks))
 		for i, ask := range asks {
 			answers[i], _ = offered.Serve(7, ask) // nil if it is refused
 		}
 		return answers, nil
 	}
-	synced, err := b.Sync(1, must(offered.Offer(7)), reach)
+	synced, err := b.Sync(context.Background(), 1, must(offered.Offer(7)), reach)
 	fmt.Println(synced.Accepted, synced.Report, err)
 	// Output: 3 Finished <nil>
 }
@@ -92,7 +93,7 @@ func ExampleHints() {
 		}
 		check(hints.Confirm(hint.Number, !accepted)) // after the owner has the version on its disk
 	}
-	fmt.Printf("%+v\n", must(hints.Count()))
+	fmt.Printf("%+v\n", must(hints.Stats()))
 	// Output: {Pending:0 Delivered:1}
 }
 
@@ -101,7 +102,7 @@ func ExampleSlots() {
 	check(slots.Sample(1_000, 25_000))
 	micros, found, err := slots.Adjust(2_000)
 	fmt.Println(micros, found, err)
-	fmt.Printf("%+v\n", must(slots.Count()))
+	fmt.Printf("%+v\n", must(slots.Stats()))
 	// Output:
 	// 25000 true <nil>
 	// {Target:2 Lent:0 Free:2}

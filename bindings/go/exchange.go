@@ -4,17 +4,18 @@ package antientropy
 import "C"
 
 import (
+	"context"
 	"runtime"
 	"sync"
 )
 
 // Bounds are the bounds of an exchange.
 type Bounds struct {
-	Asks  uint64 // maximum of asks on their way; one may always be
-	Bytes uint64 // maximum of bytes of the answers to them, as far as they can be estimated; one may be longer
-	Bad   uint64 // maximum of bad answers: after one more the exchange is over
-	Lost  uint64 // maximum of lost asks: after one more the exchange is over
-	Plain bool   // no ask is an outline: that takes less of both processors, and more of the link
+	Asks  uint64 // maximum number of asks in flight; one is always allowed
+	Bytes uint64 // maximum number of estimated bytes of their answers; one may be longer
+	Bad   uint64 // maximum number of bad answers: one more ends the exchange
+	Lost  uint64 // maximum number of lost asks: one more ends the exchange
+	Plain bool   // no ask is an outline: that saves processor time on both sides, and sends more over the link
 }
 
 // DefaultBounds returns the bounds of [Replica.Sync]: 256 asks, 1 MiB, 8 bad answers, 256 lost asks.
@@ -22,7 +23,7 @@ func DefaultBounds() Bounds {
 	return Bounds{Asks: 256, Bytes: 1 << 20, Bad: 8, Lost: 256}
 }
 
-// A VerdictKind says what an exchange did with an answer.
+// A VerdictKind is the kind of an exchange's verdict on an answer.
 type VerdictKind uint64
 
 // Kinds of verdicts.
@@ -31,8 +32,8 @@ const (
 	VerdictLeft    VerdictKind = C.ANTIENTROPY_VERDICT_LEFT    // the leaf was left: a key in its text is crowded
 	VerdictBad     VerdictKind = C.ANTIENTROPY_VERDICT_BAD     // it counts as bad
 	VerdictLate    VerdictKind = C.ANTIENTROPY_VERDICT_LATE    // it is late or of another offer, or the exchange is over
-	VerdictRefused VerdictKind = C.ANTIENTROPY_VERDICT_REFUSED // there was no room for it
-	VerdictFailed  VerdictKind = C.ANTIENTROPY_VERDICT_FAILED  // the text isn't a node's: the session has failed
+	VerdictRefused VerdictKind = C.ANTIENTROPY_VERDICT_REFUSED // no space was left for it
+	VerdictFailed  VerdictKind = C.ANTIENTROPY_VERDICT_FAILED  // the text doesn't encode a node: the session has failed
 )
 
 // String returns the name of the kind.
@@ -50,15 +51,15 @@ type Verdict struct {
 	Known    uint64 // number of known versions
 }
 
-// A Report says how far an exchange is.
+// A Report is the state of an exchange.
 type Report uint64
 
 // Reports of an exchange.
 const (
 	ReportFinished    Report = C.ANTIENTROPY_REPORT_FINISHED      // the replica has seen each version of the offer
-	ReportWaiting     Report = C.ANTIENTROPY_REPORT_WAITING       // some node is to be asked, or its ask is on its way
+	ReportWaiting     Report = C.ANTIENTROPY_REPORT_WAITING       // an ask is in flight, or is still to be sent
 	ReportLeft        Report = C.ANTIENTROPY_REPORT_LEFT          // only leaves that were left are outstanding
-	ReportStopped     Report = C.ANTIENTROPY_REPORT_STOPPED       // there was no room for an answer: go on, or close
+	ReportStopped     Report = C.ANTIENTROPY_REPORT_STOPPED       // no space was left for an answer: call GoOn or Close
 	ReportTooManyBad  Report = C.ANTIENTROPY_REPORT_TOO_MANY_BAD  // more answers were bad than the bounds allow
 	ReportTooManyLost Report = C.ANTIENTROPY_REPORT_TOO_MANY_LOST // more asks were lost than the bounds allow
 	ReportFailed      Report = C.ANTIENTROPY_REPORT_FAILED        // the session has failed
@@ -76,117 +77,150 @@ func (r Report) String() string {
 type Progress struct {
 	Report     Report
 	Cause      error  // [ErrJournalFull] or [ErrNoMemory] if the exchange has stopped, otherwise nil
-	Asks       uint64 // asks that were sent
-	OnWay      uint64 // asks on their way
-	BytesOnWay uint64 // bytes of the answers to them, as far as they can be estimated
+	Asks       uint64 // asks sent
+	OnWay      uint64 // asks in flight
+	BytesOnWay uint64 // estimated bytes of their answers
 	Bad        uint64 // bad answers
 	Lost       uint64 // lost asks
-	Accepted   uint64 // new versions in the answers that were taken
+	Accepted   uint64 // new versions in the answers taken
 	Known      uint64 // known versions in them
-	Leaves     uint64 // leaves that were taken
+	Leaves     uint64 // leaves taken
 }
 
-// An Exchange carries on a sync with a partner: it says which asks to send, and takes the answers in any order. The
-// program carries both. It lasts as long as the program wants, with puts and other calls of the replica in between; a
-// renewal or a migration ends it.
+// An Exchange is a sync with a partner that the program polls: it returns the asks to send, and takes the answers in
+// any order. The program carries both. It lasts as long as the program wants, with puts and other calls of the replica
+// in between; a renewal or a migration ends it.
 //
 // It has the lock of its replica. After [Exchange.Close] its calls are refused as [ErrEmpty]. A copy is the same
-// exchange. One that is only collected is closed when its replica opens the next one, or by [Replica.DropSessions].
+// exchange. An exchange that is collected without Close is closed when its replica opens the next one, or by
+// [Replica.DropSessions].
 type Exchange struct {
 	at *exchange
 }
 
-// An exchange is what an [Exchange] and its copies share, with the lock of its replica.
+// An exchange is the state that an [Exchange] and its copies share, with the lock of its replica.
 type exchange struct {
 	*replica
-	handle C.struct_antientropy_exchange
-	plain  bool // no ask is an outline
+	session *session
+	plain   bool // no ask is an outline
 }
 
-// Exchange opens an exchange with a partner by its offer. It compares the rows now, which are held as a moment and
-// hashed while other goroutines put. If the roots are equal it is finished, and opens no session.
+// A session has the memory of an exchange. It doesn't refer to the replica, so the collector finds both at once.
+type session struct {
+	handle  C.struct_antientropy_exchange
+	weight  weight
+	orphans *orphans
+}
+
+// Exchange opens an exchange with a partner by its offer. It compares the current rows, which are held as a moment and
+// hashed while other goroutines put. If the roots are equal, the exchange is finished and opens no session.
 //
-// Refused as [ErrBadMessage], [ErrOtherFormat], [ErrOtherRange] or [ErrSessionsFull].
-func (r *Replica) Exchange(partner uint16, offer []byte, bounds Bounds) (*Exchange, error) {
-	return atMoment(r.at, func(held *replica) (*Exchange, error) {
+// Refused as [ErrBadClock] (the partner is over [NodeMax]), [ErrBadMessage], [ErrOtherFormat], [ErrOtherRange] or
+// [ErrSessionsFull].
+func (r *Replica) Exchange(partner Node, offer []byte, bounds Bounds) (*Exchange, error) {
+	return r.exchangeWhile(context.Background(), partner, offer, bounds)
+}
+
+// exchangeWhile opens an exchange, unless the context is done before.
+func (r *Replica) exchangeWhile(ctx context.Context, partner Node, offer []byte, bounds Bounds) (*Exchange, error) {
+	return atMoment(ctx, r.at, func(held *replica) (*Exchange, error) {
 		return held.exchange(partner, offer, bounds)
 	})
 }
 
-// An orphans has the exchanges of a replica that were collected, and not closed. It has a lock of its own, since the
-// garbage collector doesn't wait for that of the replica.
+// An orphans has the sessions of a replica that were collected without being closed. It has a separate lock, since no
+// finalizer waits for the replica's.
 type orphans struct {
-	lock    sync.Mutex
-	handles []C.struct_antientropy_exchange
+	lock     sync.Mutex
+	sessions []*session
+	isClosed bool // the replica is closed
 }
 
-// add adds an exchange.
-func (o *orphans) add(handle C.struct_antientropy_exchange) {
+// add adds a session. If the replica is closed, the freer gets it.
+func (o *orphans) add(session *session) {
 	o.lock.Lock()
 	defer o.lock.Unlock()
-	o.handles = append(o.handles, handle)
-}
-
-// take returns all, and keeps none.
-func (o *orphans) take() []C.struct_antientropy_exchange {
-	o.lock.Lock()
-	defer o.lock.Unlock()
-	handles := o.handles
-	o.handles = nil
-	return handles
-}
-
-// closeOrphans closes the exchanges that were collected. The caller holds the lock.
-func (r *replica) closeOrphans() {
-	handles := r.orphans.take()
-	for i := range handles {
-		C.antientropy_exchange_close(&handles[i], &r.handle)
-		C.antientropy_exchange_free(&handles[i])
+	if o.isClosed {
+		collected.add(session.free)
+	} else {
+		o.sessions = append(o.sessions, session)
 	}
-	if len(handles) > 0 {
+}
+
+// take removes and returns all sessions. If the replica is about to be freed, later ones aren't kept either.
+func (o *orphans) take(isLast bool) []*session {
+	o.lock.Lock()
+	defer o.lock.Unlock()
+	sessions := o.sessions
+	o.sessions, o.isClosed = nil, o.isClosed || isLast
+	return sessions
+}
+
+// closeOrphans closes the exchanges that were collected. The caller holds the lock, and then frees the replica if these
+// are the last ones.
+func (r *replica) closeOrphans(isLast bool) {
+	if r.orphans == nil {
+		return
+	}
+	sessions := r.orphans.take(isLast)
+	for _, session := range sessions {
+		C.antientropy_exchange_close(&session.handle, &r.handle)
+		session.free()
+	}
+	if len(sessions) > 0 {
 		C.antientropy_drop_sessions(&r.handle)
 	}
 }
 
+// free frees the memory. No other goroutine has the session, or the caller holds the lock of its replica.
+func (s *session) free() {
+	C.antientropy_exchange_free(&s.handle)
+	s.weight.set(0)
+}
+
 // exchange opens an exchange at the moment that the replica keeps. The garbage collector leaves it to the replica, once
 // no copy is used. The caller holds the lock.
-func (r *replica) exchange(partner uint16, offer []byte, bounds Bounds) (*Exchange, error) {
+func (r *replica) exchange(partner Node, offer []byte, bounds Bounds) (*Exchange, error) {
 	within := C.struct_antientropy_bounds{
 		asks:  C.uint64_t(bounds.Asks),
 		bytes: C.uint64_t(bounds.Bytes),
 		bad:   C.uint64_t(bounds.Bad),
 		lost:  C.uint64_t(bounds.Lost),
 	}
-	made := &exchange{replica: r, plain: bounds.Plain}
-	r.closeOrphans()
+	r.closeOrphans(false)
+	if r.orphans == nil {
+		r.orphans = new(orphans)
+	}
+	made := &session{orphans: r.orphans}
 	number := C.antientropy_exchange_open(&r.handle, &made.handle, C.uint64_t(partner), bytesAt(offer),
 		C.size_t(len(offer)), &within)
 	if err := check(number); err != nil {
 		return nil, err
 	}
-	runtime.SetFinalizer(made, (*exchange).leave)
-	return &Exchange{made}, nil
+	made.weight.set(r.tree)
+	runtime.SetFinalizer(made, (*session).leave)
+	return &Exchange{&exchange{replica: r, session: made, plain: bounds.Plain}}, nil
 }
 
-// leave leaves an exchange that isn't closed to its replica.
-func (e *exchange) leave() {
-	if e.handle.held {
-		e.replica.orphans.add(e.handle)
+// leave passes a session that isn't closed to its replica.
+func (s *session) leave() {
+	if s.handle.held {
+		s.orphans.add(s)
 	}
 }
 
-// locked takes the lock, which its caller gives back. An exchange that no call made holds nothing.
+// locked takes the lock, which the caller releases. A zero exchange is empty.
 func (e *exchange) locked() *exchange {
 	if e == nil {
-		e = &exchange{replica: new(replica)}
+		e = &exchange{replica: new(replica), session: new(session)}
 	}
 	e.lock.Lock()
 	return e
 }
 
-// Asks returns the asks to send now. There is none if each outstanding node is on its way or was left, if the bounds
-// leave no room, or if the exchange has stopped or is over. An ask may be an outline, to which the partner sends only
-// what differs.
+// Asks returns the asks to send now: none if each outstanding node is in flight or was left, if the bounds allow no
+// more, or if the exchange has stopped or is over. They are in flight from then on: send each of them, or lose it. An
+// ask may be an outline, which makes the partner send only the differences.
 func (e *Exchange) Asks() ([][]byte, error) {
 	held := e.at.locked()
 	defer held.lock.Unlock()
@@ -200,24 +234,25 @@ func (e *Exchange) Asks() ([][]byte, error) {
 	}
 }
 
-// next returns the next ask to send, and false if there is none now. The caller holds the lock.
+// next returns the next ask to send, or false without one. The caller holds the lock.
 func (e *exchange) next() (ask []byte, found bool, err error) {
 	return bytesIfAny(func(out *C.uint8_t, outLen C.size_t, need *C.uint64_t) C.uint32_t {
 		if e.plain {
 			outLen = AskLen
 		}
-		return C.antientropy_exchange_next(&e.handle, &e.replica.handle, out, outLen, need)
+		return C.antientropy_exchange_next(&e.session.handle, &e.handle, out, outLen, need)
 	})
 }
 
 // Take takes a partner's answer, which isn't trusted, and judges it by the node that it names. Answers may arrive in
-// any order, late or twice.
+// any order, late or twice. Lose each ask whose time is over, even if some answer arrived instead.
 func (e *Exchange) Take(answer []byte) (Verdict, error) {
 	var verdict C.struct_antientropy_verdict
 	held := e.at.locked()
 	defer held.lock.Unlock()
-	err := check(C.antientropy_exchange_take(&held.handle, &held.replica.handle, bytesAt(answer), C.size_t(len(answer)),
+	err := check(C.antientropy_exchange_take(&held.session.handle, &held.handle, bytesAt(answer), C.size_t(len(answer)),
 		&verdict))
+	held.weight.addVersions(int(verdict.accepted), len(answer))
 	return Verdict{
 		Kind:     VerdictKind(verdict.verdict),
 		Cause:    check(C.uint32_t(verdict.cause)),
@@ -226,27 +261,28 @@ func (e *Exchange) Take(answer []byte) (Verdict, error) {
 	}, err
 }
 
-// Lose counts an ask as lost if it is on its way, so that [Exchange.Asks] may return it again. Refused as
-// [ErrBadMessage] if the bytes aren't an ask or an outline.
+// Lose counts an ask in flight as lost, so that [Exchange.Asks] may return it again. Refused as [ErrBadMessage] if the
+// bytes aren't an ask or an outline.
 func (e *Exchange) Lose(ask []byte) error {
 	held := e.at.locked()
 	defer held.lock.Unlock()
-	return check(C.antientropy_exchange_lose(&held.handle, bytesAt(ask), C.size_t(len(ask))))
+	return check(C.antientropy_exchange_lose(&held.session.handle, bytesAt(ask), C.size_t(len(ask))))
 }
 
-// GoOn lets asks be sent again after there was no room for an answer. Each ask whose answer was refused counts as lost.
+// GoOn resumes an exchange that stopped because no space was left for an answer. Each ask whose answer was refused
+// counts as lost. If the journal is full, close the exchange and renew the replica instead.
 func (e *Exchange) GoOn() error {
 	held := e.at.locked()
 	defer held.lock.Unlock()
-	return check(C.antientropy_exchange_go_on(&held.handle))
+	return check(C.antientropy_exchange_go_on(&held.session.handle))
 }
 
-// Progress returns how far the exchange is.
+// Progress returns the report and the counts.
 func (e *Exchange) Progress() (Progress, error) {
 	var progress C.struct_antientropy_progress
 	held := e.at.locked()
 	defer held.lock.Unlock()
-	err := check(C.antientropy_exchange_report(&held.handle, &held.replica.handle, &progress))
+	err := check(C.antientropy_exchange_report(&held.session.handle, &held.handle, &progress))
 	return Progress{
 		Report:     Report(progress.report),
 		Cause:      check(C.uint32_t(progress.cause)),
@@ -261,7 +297,7 @@ func (e *Exchange) Progress() (Progress, error) {
 	}, err
 }
 
-// Left returns the leaves that were left, since a key in each of them is crowded.
+// Left returns the leaves that were left because a key in each of them is crowded. Merge the versions of these keys.
 func (e *Exchange) Left() ([]uint16, error) {
 	held := e.at.locked()
 	defer held.lock.Unlock()
@@ -269,7 +305,7 @@ func (e *Exchange) Left() ([]uint16, error) {
 	for {
 		var node C.struct_antientropy_node
 		place := C.uint64_t(len(leaves))
-		found, err := isFound(C.antientropy_exchange_left(&held.handle, &held.replica.handle, place, &node))
+		found, err := isFound(C.antientropy_exchange_left(&held.session.handle, &held.handle, place, &node))
 		if !found {
 			return leaves, err
 		}
@@ -288,10 +324,10 @@ func (e *Exchange) Close() error {
 func (e *exchange) close() {
 	held := e.locked()
 	defer held.lock.Unlock()
-	isOpen := C.antientropy_exchange_close(&held.handle, &held.replica.handle) == C.ANTIENTROPY_OK
-	C.antientropy_exchange_free(&held.handle)
+	isOpen := C.antientropy_exchange_close(&held.session.handle, &held.handle) == C.ANTIENTROPY_OK
+	held.session.free()
 	if isOpen {
-		C.antientropy_drop_sessions(&held.replica.handle)
+		C.antientropy_drop_sessions(&held.handle)
 		held.countAndRenewIfDue()
 	}
 }

@@ -7,7 +7,7 @@ import (
 	"testing"
 	"time"
 
-	"antientropy"
+	antientropy "example.org/antientropy/go"
 )
 
 // askFor returns the ask for a node of an offer.
@@ -20,8 +20,8 @@ func opened(r *antientropy.Replica, offer []byte) *antientropy.Exchange {
 	return must(r.Exchange(9, offer, antientropy.DefaultBounds()))
 }
 
-// takeAll takes the answers to all asks of an exchange with the offer of number 7, those to the last ones first. It
-// calls between after each batch, and returns the number of bytes of asks and answers.
+// takeAll takes the answers to all asks of an exchange with the offer of number 7, in reverse order. It calls between
+// after each batch, and returns the number of bytes of asks and answers.
 func takeAll(exchange *antientropy.Exchange, snapshot *antientropy.Snapshot, between func()) (sent int) {
 	for asks := must(exchange.Asks()); len(asks) > 0; asks = must(exchange.Asks()) {
 		for i := len(asks) - 1; i >= 0; i-- {
@@ -77,13 +77,24 @@ func TestBytesOfSessions(t *testing.T) {
 	equal(t, must(r.Bytes()), size)
 }
 
+// A partner's number has the limits of a node's.
+func TestAnExchangeWithNoNode(t *testing.T) {
+	_, offer := offered()
+	r := newReplica()
+	for _, partner := range []antientropy.Node{antientropy.NodeMax + 1, 1 << 63} {
+		_, err := r.Exchange(partner, offer, antientropy.DefaultBounds())
+		refused(t, err, antientropy.ErrBadClock)
+	}
+	noSession(t, r)
+}
+
 // The collector changes no replica: the next exchange of a replica closes those that were collected.
 func TestCollectedExchanges(t *testing.T) {
 	_, offer := offered()
 	r := newReplica()
 	for n := 0; n < 100; n++ {
 		opened(r, offer)
-		for must(r.Count()).OpenSessions > 32 { // at most 64 may be open
+		for must(r.Stats()).OpenSessions > 32 { // at most 64 may be open
 			runtime.GC()
 			time.Sleep(time.Millisecond)
 			check(r.DropSessions())
@@ -91,8 +102,8 @@ func TestCollectedExchanges(t *testing.T) {
 	}
 }
 
-// crowdedPair returns a replica that lacks 20 keys of a partner's, and the leaf of another key, which is crowded
-// between the two. The leaf is asked for before the others.
+// crowdedPair returns a replica without 20 keys of its partner, and the leaf of another key, which is crowded between
+// the two. The leaf is asked for before the others.
 func crowdedPair() (asker, partner *antientropy.Replica, leaf uint16) {
 	asker, partner = newReplica(), newReplica()
 	var crowded []byte
@@ -108,7 +119,7 @@ func crowdedPair() (asker, partner *antientropy.Replica, leaf uint16) {
 	return asker, partner, leaf
 }
 
-// A partner answers each ask for a leaf with the true text of the crowded leaf: no other leaf is left.
+// A partner that returns the true text of the crowded leaf for each ask for a leaf: no other leaf is left.
 func TestACrowdedLeafInPlaceOfEach(t *testing.T) {
 	b, a, leaf := crowdedPair()
 	l := link{}
@@ -134,7 +145,7 @@ func TestACrowdedLeafIsLeft(t *testing.T) {
 	noSession(t, b)
 }
 
-// largePair returns two replicas of 100,000 keys with values of 100 bytes, of which the partner has put some again.
+// largePair returns two replicas of 100,000 keys with values of 100 bytes. The partner has put some of the keys again.
 func largePair(differing int) (asker, partner *antientropy.Replica) {
 	key := func(n int) []byte { return []byte(fmt.Sprint("key ", n)) }
 	asker = withLimit(antientropy.EntriesMax)
@@ -150,7 +161,7 @@ func largePair(differing int) (asker, partner *antientropy.Replica) {
 	return asker, partner
 }
 
-// A deadline is over after each batch of asks. The replica goes on, and so does the exchange later, in one session.
+// A deadline passes after each batch of asks. The replica is changed, and the exchange continues later, in one session.
 func TestAnExchangeUnderDeadlines(t *testing.T) {
 	asker, partner := largePair(1_100)
 	snapshot := must(partner.Snapshot())
@@ -162,7 +173,7 @@ func TestAnExchangeUnderDeadlines(t *testing.T) {
 	})
 	progress := must(exchange.Progress())
 	equal(t, []any{progress.Report, progress.Accepted}, []any{antientropy.ReportFinished, uint64(1_100)})
-	equal(t, []any{must(asker.Count()).Sessions, puts > 1}, []any{uint64(1), true})
+	equal(t, []any{must(asker.Stats()).Sessions, puts > 1}, []any{uint64(1), true})
 	if sent > 4_000_000 {
 		t.Errorf("offer, asks and answers have %d bytes", sent)
 	}

@@ -1,3 +1,3 @@
-module antientropy
+module example.org/antientropy/go
 
 go 1.19

@@ -1,6 +1,8 @@
 package antientropy
 
 import (
+	"context"
+	"errors"
 	"fmt"
 	"io"
 	"reflect"
@@ -10,12 +12,12 @@ import (
 	"time"
 )
 
-// Methods that read no handle: what they return was fixed when the object was made.
+// Methods that read no handle: their results are fixed when the object is made.
 var fixed = map[string]bool{
 	"Snapshot.Config": true, "Snapshot.Entries": true,
 }
 
-// Methods of a replica, a snapshot or an exchange that change it: all others are made at once.
+// Methods of a replica, a snapshot or an exchange that change it: all others may run concurrently.
 var changes = map[string]bool{
 	"Replica.Accept": true, "Replica.Close": true, "Replica.DropMoment": true, "Replica.DropSessions": true,
 	"Replica.Exchange": true, "Replica.HashMoment": true, "Replica.Hold": true, "Replica.KeepRenewed": true,
@@ -33,7 +35,7 @@ type locker interface {
 	TryLock() bool
 }
 
-// A handle is an object that holds nothing, with the lock that its methods take.
+// A handle is an empty object, with the lock that its methods take.
 type handle struct {
 	object any
 	lock   locker
@@ -47,7 +49,7 @@ func emptyHandles() []handle {
 		{&Snapshot{at: s}, &s.lock},
 		{&Hints{h}, &h.lock},
 		{&Slots{l}, &l.lock},
-		{&Exchange{&exchange{replica: r}}, &r.lock},
+		{&Exchange{&exchange{replica: r, session: new(session)}}, &r.lock},
 	}
 }
 
@@ -57,8 +59,8 @@ func zeroHandles() []handle {
 		{object: new(Exchange)}}
 }
 
-// callMethod calls a method with arguments that are 0, except that bytes are an offer, and that a reach brings nothing.
-// It returns the error of the method, or of the scanner that the method returns.
+// callMethod calls a method with arguments that are 0, except that bytes are an offer, and that a reach returns no
+// answers. It returns the error of the method, or of the scanner that the method returns.
 func callMethod(method reflect.Value) error {
 	var arguments []reflect.Value
 	for i := 0; i < method.Type().NumIn(); i++ {
@@ -67,7 +69,9 @@ func callMethod(method reflect.Value) error {
 		case reflect.TypeOf([]byte{}):
 			argument = reflect.ValueOf(append([]byte{1}, make([]byte, OfferLen-1)...))
 		case reflect.TypeOf(Reach(nil)):
-			argument = reflect.ValueOf(Reach(func([][]byte) ([][]byte, error) { return nil, nil }))
+			argument = reflect.ValueOf(Reach(func(context.Context, [][]byte) ([][]byte, error) { return nil, nil }))
+		case reflect.TypeOf((*context.Context)(nil)).Elem():
+			argument = reflect.ValueOf(context.Background())
 		}
 		arguments = append(arguments, argument)
 	}
@@ -99,7 +103,7 @@ func TestEachMethodOfAHandleThatHoldsNothing(t *testing.T) {
 	eachMethod(append(emptyHandles(), zeroHandles()...), func(name string, method reflect.Value, _ locker) {
 		err := callMethod(method)
 		isFree := method.Type().NumIn() == 0 && method.Type().NumOut() == 1 && err == nil
-		if err != ErrEmpty && !isFree {
+		if !errors.Is(err, ErrEmpty) && !isFree {
 			t.Errorf("%s returns the error %v", name, err)
 		}
 		count++
@@ -125,7 +129,7 @@ func started(method reflect.Value) (done chan bool, ended bool) {
 	}
 }
 
-// No method passes a lock that is held, and each gives it back.
+// Each method waits for the lock, and releases it.
 func TestEachMethodTakesTheLock(t *testing.T) {
 	eachMethod(emptyHandles(), func(name string, method reflect.Value, lock locker) {
 		lock.Lock()
@@ -176,12 +180,12 @@ func TestCloseTwice(t *testing.T) {
 			t.Error(err)
 		}
 	}
-	if _, err := r.Count(); err != ErrEmpty {
+	if _, err := r.Stats(); !errors.Is(err, ErrEmpty) {
 		t.Error(err)
 	}
 }
 
-// A copy of an object is the same one: it lives on without the original, and after a Close both are refused.
+// A copy of an object is the same one: it stays usable without the original, and after a Close both are refused.
 func TestCopiesShareAHandle(t *testing.T) {
 	r, err := NewReplica(Config{Format: 2, Limit: 1})
 	if err != nil {
@@ -209,10 +213,10 @@ func TestCopiesShareAHandle(t *testing.T) {
 	}
 	replicas, snapshots, hints, slots, exchanges := *r, *s, *h, *l, *e
 	calls := []func() error{
-		func() error { _, err := replicas.Count(); return err },
+		func() error { _, err := replicas.Stats(); return err },
 		func() error { _, err := snapshots.Root(); return err },
-		func() error { _, err := hints.Count(); return err },
-		func() error { _, err := slots.Count(); return err },
+		func() error { _, err := hints.Stats(); return err },
+		func() error { _, err := slots.Stats(); return err },
 		func() error { _, err := exchanges.Progress(); return err },
 	}
 	r, s, h, l, e = nil, nil, nil, nil, nil
@@ -229,7 +233,7 @@ func TestCopiesShareAHandle(t *testing.T) {
 		}
 	}
 	for _, call := range calls {
-		if err := call(); err != ErrEmpty {
+		if err := call(); !errors.Is(err, ErrEmpty) {
 			t.Errorf("after Close of a copy the error is %v", err)
 		}
 	}
@@ -239,8 +243,8 @@ func TestCopiesShareAHandle(t *testing.T) {
 	runtime.GC()
 }
 
-// Locks are apart: a replica that is in use doesn't stop its snapshots, or others, and a snapshot doesn't stop those
-// that share its rows.
+// Locks are independent: a replica in use doesn't block its snapshots, or other replicas, and a snapshot doesn't block
+// those that share its rows.
 func TestALockForEachHandle(t *testing.T) {
 	r, err := NewReplica(Config{Format: 2, Limit: 1})
 	if err != nil {

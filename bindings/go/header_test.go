@@ -9,7 +9,7 @@ import (
 	"strings"
 	"testing"
 
-	"antientropy"
+	antientropy "example.org/antientropy/go"
 )
 
 var (
@@ -55,13 +55,14 @@ func camel(name string) string {
 	return strings.Join(words, "")
 }
 
-// The calls that only C has: its own loop of a sync, since here an exchange is that loop.
+// The calls that only C programs make: the loop of a sync, which an exchange replaces here, and reads of a part of a
+// version, since one call here reads all versions of a key.
 var onlyC = map[string]bool{
 	"open": true, "open_at_moment": true, "outstanding": true, "ask_at": true, "ask": true, "outline_at": true,
-	"take": true, "session": true, "cancel": true,
+	"take": true, "session": true, "cancel": true, "versions": true, "value": true, "clock": true,
 }
 
-// Each call of the header is used, but for those that only C has.
+// Each call of the header is used, except the calls that only C programs make.
 func TestEachCallOfTheHeaderIsUsed(t *testing.T) {
 	source := textOf(t, "*.go") + textOf(t, "*.c")
 	declared := regexp.MustCompile(`(?m)^(?:static inline )?(?:uint32_t|void) antientropy_(\w+)\(`)
@@ -116,10 +117,10 @@ func TestEachLockIsHeldToTheEnd(t *testing.T) {
 	for take, give := range map[string]string{"locked": "Unlock", "reading": "RUnlock"} {
 		locks := regexp.MustCompile(`\S\.`+take+`\(\)`).FindAllString(source, -1)
 		held := regexp.MustCompile(`held := \S+\.`+take+`\(\)\n\s+defer held\.lock\.`+give+`\(\)`).FindAllString(source, -1)
-		equal(t, []any{len(locks) > 25, len(held)}, []any{true, len(locks)})
+		equal(t, []any{len(locks) > 20, len(held)}, []any{true, len(locks)})
 	}
-	// five handles, and two methods of orphans
-	equal(t, []int{strings.Count(source, ".Lock()"), strings.Count(source, ".RLock()")}, []int{5 + 2, 2})
+	// five handles, two methods of orphans, and two of the freer
+	equal(t, []int{strings.Count(source, ".Lock()"), strings.Count(source, ".RLock()")}, []int{5 + 2 + 2, 2})
 }
 
 func TestEnumsOfTheHeader(t *testing.T) {

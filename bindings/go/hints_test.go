@@ -5,7 +5,7 @@ import (
 	"strings"
 	"testing"
 
-	"antientropy"
+	antientropy "example.org/antientropy/go"
 )
 
 func TestKeptAndConfirmed(t *testing.T) {
@@ -24,11 +24,11 @@ func TestKeptAndConfirmed(t *testing.T) {
 	equal(t, []any{hint, found, err}, []any{third, true, nil})
 	equal(t, must(hints.Pending(2).All()), []antientropy.Hint{first, third})
 	check(hints.Confirm(1, false))
-	equal(t, must(hints.Count()), antientropy.HintCounts{Pending: 2, Delivered: 1})
+	equal(t, must(hints.Stats()), antientropy.HintStats{Pending: 2, Delivered: 1})
 	hint, found, err = hints.Hint(1)
 	equal(t, []any{hint, found, err}, []any{first, true, nil})
 	check(hints.Renew())
-	equal(t, must(hints.Count()), antientropy.HintCounts{Pending: 2, Delivered: 0})
+	equal(t, must(hints.Stats()), antientropy.HintStats{Pending: 2, Delivered: 0})
 	third.Number = 5
 	equal(t, must(hints.Pending(2).All()), []antientropy.Hint{third})
 }
@@ -59,7 +59,7 @@ func TestDelivered(t *testing.T) {
 		check(hints.Confirm(hint.Number, !accepted))
 	}
 	check(pending.Err())
-	equal(t, must(hints.Count()), antientropy.HintCounts{Pending: 0, Delivered: 2})
+	equal(t, must(hints.Stats()), antientropy.HintStats{Pending: 0, Delivered: 2})
 	equal(t, must(owner.Get([]byte("list"))), []antientropy.Version{live(1, 1, strings.Repeat("long", 10_000))})
 }
 
@@ -78,11 +78,12 @@ func TestRefusedHints(t *testing.T) {
 	hints := must(antientropy.NewHints())
 	for _, kept := range []struct {
 		cause   antientropy.Refusal
-		owner   uint16
+		owner   antientropy.Node
 		key     string
 		version antientropy.Version
 	}{
 		{antientropy.ErrBadClock, 0, "cart", live(1, 1, "")},
+		{antientropy.ErrBadClock, antientropy.NodeMax + 1, "cart", live(1, 1, "")},
 		{antientropy.ErrBadClock, 2, "cart", live(0, 1, "")},
 		{antientropy.ErrClockFull, 2, "cart", antientropy.Version{Clock: clockOfNodes(33)}},
 		{antientropy.ErrBadKey, 2, "", live(1, 1, "")},
@@ -93,13 +94,13 @@ func TestRefusedHints(t *testing.T) {
 		refused(t, err, kept.cause)
 	}
 	refused(t, hints.Confirm(1, true), antientropy.ErrUnknownHint)
-	equal(t, must(hints.Count()), antientropy.HintCounts{})
+	equal(t, must(hints.Stats()), antientropy.HintStats{})
 	must(hints.Keep(2, []byte("cart"), live(1, 1, "")))
 	check(hints.Confirm(1, true))
 	refused(t, hints.Confirm(1, true), antientropy.ErrUnknownHint)
 }
 
-// A number of before a renewal names no other hint, and neither do those of a log after a restart.
+// The number of a hint before a renewal names no other hint, and neither does a logged number after a restart.
 func TestNumbersOfHints(t *testing.T) {
 	hints := must(antientropy.NewHints())
 	must(hints.Keep(2, []byte("cart"), live(1, 1, "")))
@@ -112,7 +113,7 @@ func TestNumbersOfHints(t *testing.T) {
 	equal(t, []any{found, err}, []any{false, nil})
 	hint, found, err := hints.Hint(payment)
 	equal(t, []any{string(hint.Key), found, err}, []any{"payment", true, nil})
-	equal(t, must(hints.Count()), antientropy.HintCounts{Pending: 2})
+	equal(t, must(hints.Stats()), antientropy.HintStats{Pending: 2})
 
 	restored := must(antientropy.RestoreHints(math.MaxUint64))
 	equal(t, must(restored.Keep(2, []byte("cart"), live(1, 1, ""))), uint64(math.MaxUint64))

@@ -21,7 +21,7 @@ func (s Source) String() string {
 
 // An Entry is an entry of a journal: an accepted version, with its key and its source.
 type Entry struct {
-	Number  uint64 // number of the entry; the numbers go on over renewals
+	Number  uint64 // number of the entry; numbering continues over renewals
 	Key     []byte // key of the version
 	Version Version
 	Source  Source // source of the version
@@ -44,11 +44,12 @@ func (r *Replica) Entry(number uint64) (entry Entry, found bool, err error) {
 	return entry, true, nil
 }
 
-// Entries returns a scanner of the journal's entries, from a number on. The whole journal begins at First of the counts.
-// A log reads on from the number of its next entry, and lacks none after a renewal if it had all before.
+// Entries returns a scanner of the journal's entries, from a number on. The whole journal begins at First of the Stats.
+// A log reads on from the number of its next entry. A renewal skips no entry for a log that had all of them.
 //
 // Its error is [ErrBadPosition] if entries were missed, or if the number isn't one of this journal: it is over the
-// count of entries, or below that at the last renewal and not First of the counts. Read the whole journal then.
+// count of entries, or below the count at the last renewal and not First of the Stats. After that error, read the whole
+// journal.
 func (r *Replica) Entries(start uint64) *Scanner[Entry] {
 	packed, texts := Packed{Next: start}, new(unpacker)
 	return scan(func() (Entry, bool, error) {
@@ -63,9 +64,9 @@ func (r *Replica) Entries(start uint64) *Scanner[Entry] {
 	})
 }
 
-// TopCounter returns the greatest counter of a node in the clocks of a key's versions, or 0. It is that of the
-// journal's entries of numbers below `entries` (all, if there are fewer). Refused as [ErrBadClock] if the node is 0.
-func (r *Replica) TopCounter(node uint16, key []byte, entries uint64) (uint64, error) {
+// TopCounter returns the greatest counter of a node in the clocks of a key's versions, or 0. It looks at the journal's
+// entries of numbers below `entries`, or at all if there are fewer. Refused as [ErrBadClock] if the node is 0.
+func (r *Replica) TopCounter(node Node, key []byte, entries uint64) (uint64, error) {
 	var counter C.uint64_t
 	held := r.at.reading()
 	defer held.lock.RUnlock()

@@ -1,6 +1,10 @@
 package antientropy
 
-import "testing"
+import (
+	"context"
+	"errors"
+	"testing"
+)
 
 // filledJournal returns a replica of one key that was put a number of times.
 func filledJournal(t *testing.T, limit uint64, puts int) *Replica {
@@ -14,28 +18,34 @@ func filledJournal(t *testing.T, limit uint64, puts int) *Replica {
 	return r
 }
 
+// begun returns a renewal that has begun.
+func begun(r *Replica, limit uint64) (*renewal, error) {
+	begin := func(held *replica) (*renewal, error) { return held.beginRenewal(limit) }
+	return atMoment(context.Background(), r.at, begin)
+}
+
 // A renewal that began before another one is refused, and leaves the replica unchanged.
 func TestStaleRenewal(t *testing.T) {
 	r := filledJournal(t, 10, 5)
-	made, err := atMoment(r.at, func(held *replica) (*renewal, error) { return held.beginRenewal(10) })
+	made, err := begun(r, 10)
 	if err == nil {
 		err = made.build()
 	}
 	if err == nil {
-		err = r.RenewInPlace(9)
+		err = r.RenewInPlace(context.Background(), 9)
 	}
 	if err != nil {
 		t.Fatal(err)
 	}
 	defer made.free()
-	before, _ := r.Count()
-	if err := made.catchUp(r.at); err != ErrStale {
+	before, _ := r.Stats()
+	if err := made.catchUp(context.Background(), r.at); !errors.Is(err, ErrStale) {
 		t.Errorf("to catch up returns the error %v", err)
 	}
-	if err := made.finish(r.at); err != ErrStale {
+	if err := made.finish(r.at); !errors.Is(err, ErrStale) {
 		t.Errorf("the finish returns the error %v", err)
 	}
-	if after, err := r.Count(); after != before || after.Limit != 9 || err != nil {
+	if after, err := r.Stats(); after != before || after.Limit != 9 || err != nil {
 		t.Errorf("the counts are %v and %v, with the error %v", before, after, err)
 	}
 }
@@ -43,7 +53,7 @@ func TestStaleRenewal(t *testing.T) {
 // A renewal that finds many entries catches up.
 func TestCatchUp(t *testing.T) {
 	r := filledJournal(t, 10_000, 10)
-	made, err := atMoment(r.at, func(held *replica) (*renewal, error) { return held.beginRenewal(10_000) })
+	made, err := begun(r, 10_000)
 	if err == nil {
 		err = made.build()
 	}
@@ -51,7 +61,7 @@ func TestCatchUp(t *testing.T) {
 		_, err = r.Put(1, []byte("key"), nil, Clock{{Node: 1, Counter: 11 + n}})
 	}
 	if err == nil {
-		err = made.catchUp(r.at)
+		err = made.catchUp(context.Background(), r.at)
 	}
 	if err == nil {
 		err = made.finish(r.at)
@@ -60,7 +70,7 @@ func TestCatchUp(t *testing.T) {
 		t.Fatal(err)
 	}
 	made.free()
-	if counts, err := r.Count(); counts.Entries != 2_010 || counts.First != 9 || err != nil {
+	if counts, err := r.Stats(); counts.Entries != 2_010 || counts.First != 9 || err != nil {
 		t.Errorf("the counts are %v, with the error %v", counts, err)
 	}
 }
@@ -87,7 +97,7 @@ func TestWhenARenewalIsDue(t *testing.T) {
 	}
 }
 
-// A journal that its rows fill is renewed some times, and then refuses puts.
+// A journal that its rows fill is renewed a few times, and then refuses puts.
 func TestAJournalThatRowsFill(t *testing.T) {
 	r, err := NewReplica(Config{Format: 2, Limit: 100})
 	if err == nil {
@@ -106,7 +116,7 @@ func TestAJournalThatRowsFill(t *testing.T) {
 		isAtWork = held.keeper.isAtWork
 		held.lock.RUnlock()
 	}
-	if _, err := r.Put(1, []byte("last"), nil, nil); err != ErrJournalFull {
+	if _, err := r.Put(1, []byte("last"), nil, nil); !errors.Is(err, ErrJournalFull) {
 		t.Errorf("the error is %v", err)
 	}
 }

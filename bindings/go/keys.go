@@ -3,6 +3,8 @@ package antientropy
 // #include <antientropy.h>
 import "C"
 
+import "errors"
+
 // KeyAfter returns the least key of a leaf above a key, or the first one for a key of no bytes.
 //
 // Refused as [ErrBadMessage] if the tree has no such leaf.
@@ -14,14 +16,14 @@ func (r *Replica) KeyAfter(leaf uint16, key []byte) (next []byte, found bool, er
 	})
 }
 
-// A seenKey is the key of a leaf that a scanner has read last.
+// A seenKey is the last key of a leaf that a scanner has read.
 type seenKey struct {
 	leaf C.uint64_t
 	key  [KeyMax]byte
 	len  C.uint64_t
 }
 
-// A keyNext returns the key of a leaf after the one that was seen, and takes it for seen.
+// A keyNext returns the key of a leaf after the seen one, and marks it as seen.
 type keyNext func(seen *seenKey) (next []byte, found bool, err error)
 
 // read returns the key that a call has written, unless the call was refused.
@@ -38,7 +40,7 @@ func scanKeys(next keyNext) *Scanner[[]byte] {
 	return scan(func() ([]byte, bool, error) {
 		for {
 			key, found, err := next(&seen)
-			if err == ErrBadMessage {
+			if errors.Is(err, ErrBadMessage) {
 				return nil, false, nil // there are no more leaves
 			}
 			if found || err != nil {
@@ -63,7 +65,7 @@ func (r *Replica) keyNext(seen *seenKey) (next []byte, found bool, err error) {
 	return seen.read(C.antientropy_key_next(&held.handle, seen.leaf, bytesAt(seen.key[:]), KeyMax, &seen.len))
 }
 
-// Keys returns a scanner of the keys, leaf by leaf. Keys that are put meanwhile are scanned if they lie ahead.
+// Keys returns a scanner of the keys, leaf by leaf. Keys put meanwhile are included if the scan hasn't passed them.
 func (r *Replica) Keys() *Scanner[[]byte] {
 	return scanKeys(r.keyNext)
 }

@@ -1,14 +1,18 @@
 // Package antientropy has replicas of a range of a Dynamo-style store, over the proved C library antientropy.
 //
-// A [Replica] holds versions of keys. [Replica.Sync] takes from a partner what it lacks, by messages that the program
-// carries. [Hints] and [Slots] are apart.
+// A [Replica] holds versions of keys. [Replica.Sync] fetches missing versions from a partner by messages that the
+// program carries. [Hints] and [Slots] are independent of it.
 //
 // A call that the library refuses returns a [Refusal] as its error, and changes nothing: compare it by [errors.Is] with
-// [ErrStaleContext], [ErrCrowded] and so on. Absence is no error: the result named found is false then.
+// [ErrStaleContext], [ErrCrowded] and so on. Absence isn't an error: the result named found is false.
 //
-// Goroutines may share all objects, since each handle has a lock. They read a replica or a snapshot at once. A call
-// that changes it waits for those reads, and others wait for it. Close frees the memory, and so does the garbage
-// collector later. Calls after Close are refused as [ErrEmpty].
+// Goroutines may share all objects, since each handle has a lock. Reads of a replica or a snapshot run concurrently; a
+// call that changes it is exclusive.
+//
+// Close frees the memory. Calls after Close are refused as [ErrEmpty]. The garbage collector doesn't see the memory of
+// C, so the package estimates it, and runs the collector when handles hold over twice the bytes that were left after
+// the last collection, and 32 MiB. A goroutine of the package frees the handles that the collector finds, so no other
+// finalizer waits for a large replica. Programs that close their handles cause few collections.
 //
 // The page docs/EMBEDDING_C.md has the duties of the program, above all that counters don't go back when it restarts.
 package antientropy
@@ -19,7 +23,7 @@ package antientropy
 // #include <antientropy.h>
 import "C"
 
-// Limits, in bytes if nothing else is said.
+// Limits, in bytes unless noted otherwise.
 const (
 	KeyMax          = C.ANTIENTROPY_KEY_MAX
 	ValueMax1       = C.ANTIENTROPY_VALUE_MAX_1       // a value in format 1

@@ -5,7 +5,7 @@ import (
 	"fmt"
 	"testing"
 
-	"antientropy"
+	antientropy "example.org/antientropy/go"
 )
 
 func TestPlaces(t *testing.T) {

@@ -5,10 +5,10 @@ import "C"
 
 import "unsafe"
 
-// nothing is the place of bytes and pairs if there are none: no pointer may be NULL.
+// nothing is the address of empty bytes and pairs: no pointer may be NULL.
 var nothing C.struct_antientropy_pair
 
-// bytesAt returns the place of bytes.
+// bytesAt returns the address of bytes.
 func bytesAt(data []byte) *C.uint8_t {
 	if len(data) == 0 {
 		return (*C.uint8_t)(unsafe.Pointer(&nothing))
@@ -16,7 +16,7 @@ func bytesAt(data []byte) *C.uint8_t {
 	return (*C.uint8_t)(unsafe.Pointer(&data[0]))
 }
 
-// pairsAt returns the place of a clock's pairs. The struct of C has the same fields.
+// pairsAt returns the address of a clock's pairs. The struct of C has the same fields.
 func pairsAt(clock Clock) *C.struct_antientropy_pair {
 	if len(clock) == 0 {
 		return &nothing
@@ -28,7 +28,7 @@ func pairsAt(clock Clock) *C.struct_antientropy_pair {
 func clockOf(pairs []C.struct_antientropy_pair) Clock {
 	clock := make(Clock, len(pairs))
 	for i := range pairs {
-		clock[i].Node = uint64(pairs[i].node)
+		clock[i].Node = Node(pairs[i].node)
 		clock[i].Counter = uint64(pairs[i].counter)
 	}
 	return clock

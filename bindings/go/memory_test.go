@@ -2,13 +2,14 @@ package antientropy_test
 
 import (
 	"bytes"
+	"context"
 	"fmt"
 	"os"
 	"runtime"
 	"strings"
 	"testing"
 
-	"antientropy"
+	antientropy "example.org/antientropy/go"
 )
 
 const mebibyte = 1 << 20
@@ -34,7 +35,7 @@ var makers = map[string]maker{
 		}
 		snapshot, renewed := must(r.Snapshot()), must(r.Renew(64))
 		shared := must(snapshot.Share())
-		check(r.RenewInPlace(65))
+		check(r.RenewInPlace(context.Background(), 65))
 		put(r, "later", "")
 		exchange := opened(r, must(snapshot.Offer(7)))
 		if close {
@@ -44,7 +45,7 @@ var makers = map[string]maker{
 			check(snapshot.Close())
 			must(shared.Root())
 			check(shared.Close())
-			must(renewed.Count())
+			must(renewed.Stats())
 			check(renewed.Close())
 		}
 	}},
@@ -66,9 +67,9 @@ var makers = map[string]maker{
 	}},
 }
 
-// collect waits until the collector has finalized what was dropped before.
+// collect waits until the collector has finalized the objects that were dropped.
 func collect() {
-	for n := 0; n < 2; n++ { // those of the first collection are finalized in any order
+	for n := 0; n < 2; n++ { // finalizers of the first collection run in any order
 		done := make(chan bool)
 		runtime.SetFinalizer(new([64]byte), func(*[64]byte) { close(done) })
 		runtime.GC()
@@ -77,7 +78,7 @@ func collect() {
 }
 
 // freed makes 128 MiB of handles, and checks that the process grows by less than 64 MiB. All are made by one thread,
-// since malloc keeps free memory apart for each.
+// since malloc keeps free memory separately for each.
 func freed(t *testing.T, m maker, close bool) {
 	if testing.Short() {
 		t.Skip("it takes seconds")
@@ -105,5 +106,83 @@ func TestCloseFrees(t *testing.T) {
 func TestTheCollectorFrees(t *testing.T) {
 	for name, m := range makers {
 		t.Run(name, func(t *testing.T) { freed(t, m, false) })
+	}
+}
+
+// smallReplicas makes replicas of 100 values of 1,000 bytes, and drops them. It returns the greatest memory of the
+// process meanwhile.
+func smallReplicas(replicas int) (most int) {
+	value := bytes.Repeat([]byte("v"), 1_000)
+	for n := 0; n < replicas; n++ {
+		r := newReplica()
+		for key := 0; key < 100; key++ {
+			must(r.Put(1, []byte{byte(key)}, value, nil))
+		}
+		if now := resident(); now > most {
+			most = now
+		}
+	}
+	return most
+}
+
+// The collector finds replicas that were dropped, though they have no Go memory. If kept, 2,000 have 680 MB.
+func TestDroppedReplicasAreCollected(t *testing.T) {
+	collect()
+	before := resident()
+	grown := smallReplicas(2_000) - before
+	t.Logf("the process has grown by at most %d MiB", grown/mebibyte)
+	if grown > 400_000_000 {
+		t.Error("replicas that were dropped aren't collected")
+	}
+}
+
+// peaks makes a number of replicas, each with four snapshots and an exchange, and closes them or drops them. It returns
+// the greatest memory of the process in the first third, and later.
+func peaks(number int, close bool) (first, later int) {
+	snapshot := must(must(antientropy.NewReplica(antientropy.Config{Format: 1, Limit: 10})).Snapshot())
+	defer snapshot.Close()
+	offer, value := must(snapshot.Offer(7)), strings.Repeat("v", antientropy.ValueMax1)
+	for n := 0; n < number; n++ {
+		r := must(antientropy.NewReplica(antientropy.Config{Format: 1, Limit: 10}))
+		put(r, "key", value)
+		taken, exchange := must(r.Snapshot()), opened(r, offer)
+		shares := []*antientropy.Snapshot{taken, must(taken.Share()), must(taken.Share()), must(taken.Share())}
+		if close {
+			check(exchange.Close())
+			for _, share := range shares {
+				check(share.Close())
+			}
+			check(r.Close())
+		}
+		if now := resident(); n < number/3 && now > first {
+			first = now
+		} else if n >= number/3 && now > later {
+			later = now
+		}
+	}
+	return first, later
+}
+
+// forced returns the number of collections that were forced.
+func forced() uint32 {
+	var stats runtime.MemStats
+	runtime.ReadMemStats(&stats)
+	return stats.NumForcedGC
+}
+
+// The process stops growing in the first third of 1,500 replicas with their snapshots and exchanges. A program that
+// closes them causes no collection.
+func TestManyHandles(t *testing.T) {
+	for _, close := range []bool{true, false} {
+		collect()
+		before := forced()
+		first, later := peaks(1_500, close)
+		t.Logf("closed: %v: the process has at most %d MiB at first, and %d later", close, first/mebibyte, later/mebibyte)
+		if 10*later > 11*first {
+			t.Error("the process grows")
+		}
+		if close {
+			equal(t, forced(), before)
+		}
 	}
 }

@@ -3,37 +3,40 @@ package antientropy
 // #include <antientropy.h>
 import "C"
 
-import "errors"
+import (
+	"context"
+	"errors"
+)
 
 // portionNodes is the maximum number of nodes of a portion.
 const portionNodes = 64
 
-// A portion has nodes of a replica's moment, which are hashed while the replica is in other calls.
+// A portion has nodes of a replica's moment, which are hashed while other calls use the replica.
 type portion struct {
 	handle C.struct_antientropy_portion
 }
 
-// Hold keeps the rows now as the replica's moment, in the place of another one. No later call changes it.
+// Hold keeps the current rows as the replica's moment, in place of the previous one. No later call changes it.
 //
-// While a moment is kept, the first change of each block of some rows copies the block. The next hold frees the blocks
-// that only this moment has, and other goroutines wait meanwhile: so call [Replica.DropMoment] before its snapshot is
-// closed.
+// While a moment is kept, the first change in a block of rows copies the block. The next hold frees the blocks that
+// only this moment has, and other goroutines wait meanwhile. To avoid that, call [Replica.DropMoment] before its
+// snapshot is closed.
 //
-// [Replica.Snapshot], [Replica.Root], [Replica.Save], [Replica.Exchange] and [Replica.Sync] hold a moment in the place
-// of another one, and drop it before they return.
+// [Replica.Snapshot], [Replica.Root], [Replica.Save], [Replica.Exchange] and [Replica.Sync] hold a moment in place of
+// the previous one, and drop it before they return. They end even if puts never pause.
 func (r *Replica) Hold() error {
 	held := r.at.locked()
 	defer held.lock.Unlock()
 	return held.hold()
 }
 
-// hold keeps the rows now as the moment. The caller holds the lock.
+// hold keeps the current rows as the moment. The caller holds the lock.
 func (r *replica) hold() error {
 	return check(C.antientropy_hold(&r.handle))
 }
 
-// DropMoment lets go of the moment, if there is one. Snapshots of it stay. A [Replica.Snapshot] or a [Replica.Sync]
-// that hashes the moment in another goroutine holds another one.
+// DropMoment drops the moment, if any. Its snapshots stay valid. A [Replica.Snapshot] or a [Replica.Sync] that hashes
+// the moment in another goroutine holds another one.
 func (r *Replica) DropMoment() error {
 	held := r.at.locked()
 	defer held.lock.Unlock()
@@ -41,7 +44,7 @@ func (r *Replica) DropMoment() error {
 }
 
 // HashMoment hashes at most `most` of the moment's nodes that have no digest though all their children have one. It
-// returns the number of its nodes that have none then: 0 if it is whole, or if there is no moment.
+// returns the number of its nodes still without one: 0 if the moment is whole or doesn't exist.
 func (r *Replica) HashMoment(most uint64) (left uint64, err error) {
 	var nodes C.uint64_t
 	held := r.at.locked()
@@ -50,19 +53,24 @@ func (r *Replica) HashMoment(most uint64) (left uint64, err error) {
 	return uint64(nodes), err
 }
 
-// Moment returns a snapshot of the moment. Refused as [ErrDirty] if there is no moment, or if it isn't whole.
+// Moment returns a snapshot of the moment. Refused as [ErrDirty] if the moment isn't whole or doesn't exist.
 func (r *Replica) Moment() (*Snapshot, error) {
 	held := r.at.reading()
 	defer held.lock.RUnlock()
 	return held.moment()
 }
 
-// atMoment holds the rows now as a moment, hashes them, and returns what use returns.
+// atMoment holds the current rows as a moment, hashes them, and returns the result of use.
 //
-// It calls use with the lock held, as soon as the moment is whole. The lock is free while nodes are hashed. So another
-// goroutine may hold a later moment meanwhile: then use finds that one. The moment is dropped then: its rows stay with
-// what use made, and no later hold frees them under the lock.
-func atMoment[T any](r *replica, use func(held *replica) (T, error)) (result T, err error) {
+// It calls use with the lock held, as soon as the moment is whole. The lock is free while nodes are hashed, so another
+// goroutine may hold a later moment meanwhile, which use then finds. After use the moment is dropped: its rows stay
+// with the result, and no later hold frees them under the lock.
+//
+// If the context is done before the moment is whole, the error wraps the context's, and the moment is dropped.
+func atMoment[T any](ctx context.Context, r *replica, use func(held *replica) (T, error)) (result T, err error) {
+	if err = isDone(ctx); err != nil {
+		return result, err
+	}
 	nodes := new(portion)
 	defer nodes.free()
 	err = r.beginMoment(nodes)
@@ -70,11 +78,22 @@ func atMoment[T any](r *replica, use func(held *replica) (T, error)) (result T, 
 		if err = nodes.hash(); err == nil {
 			isWhole, result, err = afterPortion(r, nodes, use)
 		}
+		if done := isDone(ctx); done != nil && err == nil && !isWhole {
+			return result, r.leaveMoment(done)
+		}
 	}
 	return result, err
 }
 
-// beginMoment holds the rows now as a moment, and takes its first portion.
+// leaveMoment drops the moment, and returns the error that prevented its use.
+func (r *replica) leaveMoment(cause error) error {
+	held := r.locked()
+	defer held.lock.Unlock()
+	C.antientropy_drop_moment(&held.handle)
+	return cause
+}
+
+// beginMoment holds the current rows as a moment, and takes its first portion.
 func (r *replica) beginMoment(nodes *portion) error {
 	held := r.locked()
 	defer held.lock.Unlock()
@@ -84,7 +103,7 @@ func (r *replica) beginMoment(nodes *portion) error {
 	return held.takePortion(nodes)
 }
 
-// afterPortion installs a portion. It calls use if the moment is whole then, and takes the next portion otherwise.
+// afterPortion installs a portion. If the moment is whole, it calls use. Otherwise it takes the next portion.
 func afterPortion[T any](r *replica, nodes *portion, use func(*replica) (T, error)) (whole bool, result T, err error) {
 	held := r.locked()
 	defer held.lock.Unlock()
@@ -94,7 +113,7 @@ func afterPortion[T any](r *replica, nodes *portion, use func(*replica) (T, erro
 			C.antientropy_drop_moment(&held.handle)
 			return true, result, err
 		}
-		// (another goroutine let go of the moment)
+		// (another goroutine dropped the moment)
 		err = held.hold()
 	}
 	if err == nil {
@@ -108,8 +127,8 @@ func (r *replica) takePortion(nodes *portion) error {
 	return check(C.antientropy_take_portion(&r.handle, portionNodes, &nodes.handle))
 }
 
-// installPortion installs the digests of a portion, and returns the number of the moment's nodes that have none then.
-// The caller holds the lock.
+// installPortion installs the digests of a portion, and returns the number of the moment's nodes still without one. The
+// caller holds the lock.
 func (r *replica) installPortion(nodes *portion) (left uint64, err error) {
 	var count C.uint64_t
 	err = check(C.antientropy_install_portion(&r.handle, &nodes.handle, &count))

@@ -1,18 +1,19 @@
 package antientropy_test
 
 import (
+	"context"
 	"fmt"
 	"math/rand"
 	"testing"
 	"time"
 
-	"antientropy"
+	antientropy "example.org/antientropy/go"
 )
 
 // copyOf returns a replica with the first entries of another one.
 func copyOf(r *antientropy.Replica, entries uint64) *antientropy.Replica {
 	copied := must(antientropy.NewReplica(r.Config()))
-	for scanner := r.Entries(0); must(copied.Count()).Entries < entries && scanner.Next(); {
+	for scanner := r.Entries(0); must(copied.Stats()).Entries < entries && scanner.Next(); {
 		must(copied.Accept(scanner.Item().Key, scanner.Item().Version))
 	}
 	return copied
@@ -22,18 +23,18 @@ func TestAMoment(t *testing.T) {
 	r := filled(20)
 	check(r.Hold())
 	put(r, "later", "value")
-	equal(t, must(r.Count()).Front, uint64(0))
+	equal(t, must(r.Stats()).Front, uint64(0))
 	for left := must(r.HashMoment(0)); left > 0; {
 		before := left
 		left = must(r.HashMoment(5))
 		equal(t, left < before && left+5 >= before, true)
 	}
-	equal(t, must(r.Count()).Front, uint64(20))
+	equal(t, must(r.Stats()).Front, uint64(20))
 	moment := must(r.Moment())
 	equal(t, []any{moment.Entries(), moment.Config()}, []any{uint64(20), antientropy.Config{Format: 2, Limit: 20_000}})
 	equal(t, must(moment.Root()), must(copyOf(r, 20).Root()))
 	check(r.DropMoment())
-	equal(t, must(r.Count()).Front, uint64(20))
+	equal(t, must(r.Stats()).Front, uint64(20))
 }
 
 // A call that holds a moment drops it, also if it is refused.
@@ -42,12 +43,12 @@ func TestNoMomentIsLeft(t *testing.T) {
 	noMoment := func(front uint64) {
 		t.Helper()
 		unchanged(t, r, antientropy.ErrDirty, func() error { _, err := r.Moment(); return err })
-		equal(t, []uint64{must(r.HashMoment(0)), must(r.Count()).Front}, []uint64{0, front})
+		equal(t, []uint64{must(r.HashMoment(0)), must(r.Stats()).Front}, []uint64{0, front})
 	}
 	snapshot := must(r.Snapshot())
 	noMoment(20)
 	offer := must(snapshot.Offer(7))
-	equal(t, must(r.Sync(2, offer, reachOf(snapshot, 7))).Asks, uint64(0))
+	equal(t, must(r.Sync(context.Background(), 2, offer, reachOf(snapshot, 7))).Asks, uint64(0))
 	noMoment(20)
 	put(r, "later", "value")
 	_, err := r.Exchange(2, nil, antientropy.DefaultBounds())
@@ -87,13 +88,13 @@ func putUntil(stop chan bool, r *antientropy.Replica, keys int) {
 	}
 }
 
-// syncBothWays lets a busy replica take a version that another one has put, and the other one take a snapshot of the
+// syncBothWays syncs a busy replica from another one that has put a version, and the other one from a snapshot of the
 // busy one, which it returns.
-func syncBothWays(t *testing.T, busy, other *antientropy.Replica, node uint16, n int) *antientropy.Snapshot {
+func syncBothWays(t *testing.T, busy, other *antientropy.Replica, node antientropy.Node, n int) *antientropy.Snapshot {
 	must(other.Put(node, []byte(fmt.Sprintf("%d of %d", n, node)), nil, nil))
 	equal(t, must(syncFrom(busy, other)).Accepted, uint64(1))
 	offered := must(busy.Snapshot())
-	equal(t, must(other.Sync(1, must(offered.Offer(1)), reachOf(offered, 1))).Finished(), true)
+	equal(t, must(other.Sync(context.Background(), 1, must(offered.Offer(1)), reachOf(offered, 1))).Finished(), true)
 	return offered
 }
 
@@ -107,9 +108,9 @@ func TestSnapshotsAndSyncsBesidePuts(t *testing.T) {
 	for i := range others {
 		go func(i int) {
 			for n := 1; n <= rounds; n++ {
-				for must(busy.Count()).Entries < uint64(n*keys) {
+				for must(busy.Stats()).Entries < uint64(n*keys) {
 				}
-				taken[i] = syncBothWays(t, busy, others[i], uint16(2+i), n)
+				taken[i] = syncBothWays(t, busy, others[i], antientropy.Node(2+i), n)
 			}
 			ended <- true
 		}(i)

@@ -3,31 +3,31 @@ package antientropy
 // #include <antientropy.h>
 import "C"
 
-// packedRoom is the number of bytes of packed entries that are read at once.
+// packedRoom is the number of bytes of packed entries to read at a time.
 const packedRoom = 1 << 20
 
-// Packed has entries of a journal as their texts, one after another (docs/FORMATS.md, "Row texts").
+// Packed has the concatenated texts of journal entries (docs/FORMATS.md, "Row texts").
 type Packed struct {
 	Bytes  []byte // texts of the entries: none if no entry follows
 	First  uint64 // number of the first entry
-	Next   uint64 // number after the last entry: go on there
+	Next   uint64 // number after the last entry: continue there
 	Format uint8  // format of the texts
 }
 
-// PackedEntries returns entries from a number on as their texts: as many as fit in 1 MiB, for a log that keeps them as
-// they are. Refused as [Replica.Entries].
+// PackedEntries returns the texts of entries from a number on, up to 1 MiB, for a log that stores them unchanged.
+// Refused as [Replica.Entries].
 func (r *Replica) PackedEntries(start uint64) (Packed, error) {
 	return r.pack(start, nil)
 }
 
-// pack returns packed entries in a room, or in another one if there is none, or if no entry fits.
+// pack returns packed entries in a buffer: in a new one if room is nil or too small for an entry.
 func (r *Replica) pack(start uint64, room []byte) (Packed, error) {
 	held := r.at.reading()
 	defer held.lock.RUnlock()
 	return held.pack(start, room)
 }
 
-// pack returns packed entries in a room. The caller holds the lock.
+// pack returns packed entries in a buffer. The caller holds the lock.
 func (r *replica) pack(start uint64, room []byte) (Packed, error) {
 	about, err := r.about()
 	if err != nil {
@@ -51,7 +51,7 @@ func (r *replica) pack(start uint64, room []byte) (Packed, error) {
 	return Packed{Bytes: room[:need], First: start, Next: uint64(next), Format: about.Format}, nil
 }
 
-// packedLen returns the number of bytes of a room for a number of entries: it holds one at least.
+// packedLen returns the size of a buffer for a number of entries: it fits at least one.
 func packedLen(entries uint64) int {
 	if entries < packedRoom/EntryMax {
 		return int(entries) * EntryMax
@@ -60,7 +60,7 @@ func packedLen(entries uint64) int {
 }
 
 // Entries returns a scanner of the entries. Its error is [ErrRowBroken] if the bytes aren't whole entries of the
-// format. That finds little damage of a log, which needs checksums.
+// format. That detects little damage of a log, which needs checksums.
 func (p Packed) Entries() *Scanner[Entry] {
 	return scan(p.unpacker().next)
 }
@@ -69,7 +69,7 @@ func (p Packed) unpacker() *unpacker {
 	return &unpacker{rest: p.Bytes, number: p.First, hasKind: p.Format != 1}
 }
 
-// An unpacker goes through packed entries.
+// An unpacker iterates over packed entries.
 type unpacker struct {
 	rest    []byte // entries that remain
 	number  uint64 // number of the first of them
@@ -77,7 +77,7 @@ type unpacker struct {
 	isCut   bool   // true if bytes were missing
 }
 
-// next returns a copy of the first entry that remains, and false if there is none.
+// next returns a copy of the first remaining entry, or false at the end.
 func (u *unpacker) next() (Entry, bool, error) {
 	if len(u.rest) == 0 {
 		return Entry{}, false, nil
@@ -93,20 +93,20 @@ func (u *unpacker) next() (Entry, bool, error) {
 	return entry, true, nil
 }
 
-// takeVersion returns a copy of the version that comes first.
+// takeVersion returns a copy of the first remaining version.
 func (u *unpacker) takeVersion() (version Version) {
 	if u.hasKind {
 		version.Kind = Kind(u.takeNumber(1))
 	}
 	version.Clock = make(Clock, u.takeNumber(1))
 	for i := range version.Clock {
-		version.Clock[i] = Pair{Node: u.takeNumber(2), Counter: u.takeNumber(8)}
+		version.Clock[i] = Pair{Node: Node(u.takeNumber(2)), Counter: u.takeNumber(8)}
 	}
 	version.Value = clone(u.take(u.takeNumber(4)))
 	return version
 }
 
-// takeNumber returns the number of some bytes, whose first one is the highest.
+// takeNumber returns the number in the next bytes, most significant byte first.
 func (u *unpacker) takeNumber(bytes uint64) (number uint64) {
 	for _, digit := range u.take(bytes) {
 		number = number<<8 | uint64(digit)

@@ -6,7 +6,7 @@ import (
 	"strings"
 	"testing"
 
-	"antientropy"
+	antientropy "example.org/antientropy/go"
 )
 
 // journalOf returns a replica of a format with entries of all sources and shapes that the format has.
@@ -41,7 +41,7 @@ func entriesOf(r *antientropy.Replica) []antientropy.Entry {
 	return entries
 }
 
-// The entry of docs/FORMATS.md, and that of format 1, which has no byte for the kind.
+// The entry of docs/FORMATS.md, and its form in format 1, which has no byte for the kind.
 func TestPackedEntryOfThePage(t *testing.T) {
 	for format, text := range map[uint8]string{
 		1: "00" + "000161" + "0001" + "01" + "0001" + "0000000000000001" + "00000001" + "78",
@@ -59,7 +59,7 @@ func TestEntriesOfAllKinds(t *testing.T) {
 	for format := uint8(1); format <= 2; format++ {
 		r := journalOf(format)
 		entries := entriesOf(r)
-		equal(t, uint64(len(entries)), must(r.Count()).Entries)
+		equal(t, uint64(len(entries)), must(r.Stats()).Entries)
 		for start := range entries {
 			equal(t, must(r.Entries(uint64(start)).All()), entries[start:])
 		}
@@ -67,7 +67,7 @@ func TestEntriesOfAllKinds(t *testing.T) {
 	}
 }
 
-// A journal of more bytes than are read at once, and an entry that is accepted while it is scanned. Entries are copies,
+// A journal of more bytes than one read returns, and an entry that is accepted during the scan. Entries are copies,
 // which later reads leave unchanged.
 func TestEntriesOfSeveralRooms(t *testing.T) {
 	r := newReplica()
@@ -168,14 +168,15 @@ func TestALogOfPackedEntriesOverRenewals(t *testing.T) {
 	restores(t, r, must(antientropy.Packed{Bytes: log, Format: 2}.Entries().All()))
 }
 
-// A reader that has missed entries is refused. From the journal's first number on there is all that it has missed.
+// A reader that has missed entries is refused. From the journal's first number on, it reads everything that it has
+// missed.
 func TestPositionsOfNoEntry(t *testing.T) {
 	r := withLimit(60)
 	for n := 0; n < 2; n++ {
 		use(t, r, n)
 		r = must(r.Renew(60))
 	}
-	counts := must(r.Count())
+	counts := must(r.Stats())
 	equal(t, []uint64{counts.First, counts.Entries}, []uint64{9, 14})
 	for position := uint64(0); position <= 15; position++ {
 		if position == 9 || position == 14 {

@@ -3,35 +3,40 @@ package antientropy
 // #include <antientropy.h>
 import "C"
 
-import "time"
+import (
+	"context"
+	"time"
+)
 
 const (
-	// catchUpEntries is the number of entries that a renewal accepts under the lock to read, at first.
+	// catchUpEntries is the initial number of entries that a renewal accepts under the read lock at a time.
 	catchUpEntries = 64
 	// fewEntries is the maximum number of entries that a renewal leaves to its finish.
 	fewEntries = 64
 )
 
-// A renewal has the new replica that is made beside the old one, and after its finish the old one.
+// A renewal holds the new replica, which is built while the old one is in use, and after its finish the old one.
 type renewal struct {
 	handle C.struct_antientropy_renewal
 }
 
-// RenewInPlace renews the replica as [Replica.Renew] does, in its place, while other goroutines put.
+// RenewInPlace renews the replica like [Replica.Renew], but in place, while other goroutines put.
 //
-// It holds the rows now as a moment, as [Replica.Snapshot] does, makes the new journal of them without the lock, and
-// accepts what was put meanwhile. Puts wait only for its steps under the lock: the last one accepts a few entries. The
-// sessions and the moment are gone then, so an exchange ends as [ReportGone]. The numbers of entries go on: those since
-// the moment keep theirs, and a log that has all entries before it reads on.
+// It holds the current rows as a moment, like [Replica.Snapshot], builds the new journal from them without the lock,
+// and accepts the entries put meanwhile. Puts wait only for its steps under the lock: the last one accepts a few
+// entries. It drops the sessions and the moment, so an exchange ends as [ReportGone]. Entry numbers continue: entries
+// since the moment keep theirs, and a log that has all earlier entries reads on.
 //
 // Refused as [ErrBadRing] (the limit), [ErrJournalFull] (more versions are held than the limit, or accepted meanwhile)
-// or [ErrStale] (another goroutine has renewed or migrated the replica meanwhile). It is unchanged then.
-func (r *Replica) RenewInPlace(limit uint64) error {
-	return r.at.renewInPlace(limit)
+// or [ErrStale] (another goroutine has renewed or migrated the replica meanwhile). A context that is done ends the
+// renewal at its next step, except the last one: the error wraps the context's. After a refusal or an error the replica
+// is unchanged.
+func (r *Replica) RenewInPlace(ctx context.Context, limit uint64) error {
+	return r.at.renewInPlace(ctx, limit)
 }
 
-func (r *replica) renewInPlace(limit uint64) error {
-	made, err := atMoment(r, func(held *replica) (*renewal, error) { return held.beginRenewal(limit) })
+func (r *replica) renewInPlace(ctx context.Context, limit uint64) error {
+	made, err := atMoment(ctx, r, func(held *replica) (*renewal, error) { return held.beginRenewal(limit) })
 	if err != nil {
 		return err
 	}
@@ -39,7 +44,7 @@ func (r *replica) renewInPlace(limit uint64) error {
 	if err := made.build(); err != nil {
 		return err
 	}
-	if err := made.catchUp(r); err != nil {
+	if err := made.catchUp(ctx, r); err != nil {
 		return err
 	}
 	return made.finish(r)
@@ -51,30 +56,35 @@ func (r *replica) beginRenewal(limit uint64) (*renewal, error) {
 	return made, check(C.antientropy_renewal_begin(&r.handle, C.uint64_t(limit), &made.handle))
 }
 
-// build makes the new replica of the rows of the moment.
+// build builds the new replica from the rows of the moment.
 func (n *renewal) build() error {
 	return check(C.antientropy_renewal_build(&n.handle))
 }
 
-// catchUp accepts entries until few are left. After each step it leaves the lock to others for as long, so that all puts
-// that waited are made. If they outrun it nevertheless, it accepts more at once and waits no more, so it ends.
-func (n *renewal) catchUp(r *replica) error {
+// catchUp accepts entries until few are left. After each step the lock is free for the same time, so that all waiting
+// puts are made. If they still outrun it, it accepts more at a time without waiting, so it ends.
+func (n *renewal) catchUp(ctx context.Context, r *replica) error {
 	most, outrun := uint64(catchUpEntries), false
 	left, took, err := n.catchUpSome(r, most)
 	for err == nil && left > fewEntries {
 		if !outrun {
 			time.Sleep(took)
 		}
+		if err := isDone(ctx); err != nil {
+			return err
+		}
 		before := left
 		if left, took, err = n.catchUpSome(r, most); left >= before {
 			most, outrun = 2*most, true
 		}
 	}
+	if err == nil {
+		err = isDone(ctx)
+	}
 	return err
 }
 
-// catchUpSome accepts the next entries. It returns the number of those that are left, and the time for which it had the
-// lock.
+// catchUpSome accepts the next entries. It returns the number of entries left, and the time for which it held the lock.
 func (n *renewal) catchUpSome(r *replica, most uint64) (left uint64, took time.Duration, err error) {
 	var count C.uint64_t
 	held := r.reading()
@@ -84,14 +94,20 @@ func (n *renewal) catchUpSome(r *replica, most uint64) (left uint64, took time.D
 	return uint64(count), time.Since(begin), err
 }
 
-// finish accepts the entries that are left, and puts the new replica in the place of the old one.
+// finish accepts the remaining entries, and replaces the old replica by the new one.
 func (n *renewal) finish(r *replica) error {
 	held := r.locked()
 	defer held.lock.Unlock()
+	before, err := held.stats()
+	if err != nil {
+		return err
+	}
 	if err := check(C.antientropy_renewal_finish(&n.handle, &held.handle)); err != nil {
 		return err
 	}
-	return held.noteRenewed()
+	after, err := held.noteRenewed()
+	held.weight.set(held.tree + held.rowsLeft(before, after))
+	return err
 }
 
 // free frees the memory.

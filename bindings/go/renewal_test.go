@@ -1,12 +1,13 @@
 package antientropy_test
 
 import (
+	"context"
 	"errors"
 	"fmt"
 	"runtime"
 	"testing"
 
-	"antientropy"
+	antientropy "example.org/antientropy/go"
 )
 
 // A writer puts keys in turn, each after its last put, and logs the entries after each put.
@@ -35,7 +36,7 @@ func (w *writer) put(t *testing.T) {
 		context = clock(1, w.counters[index])
 	}
 	receipt, err := w.r.Put(1, w.key(index), []byte(fmt.Sprint(w.puts)), context)
-	for err == antientropy.ErrJournalFull {
+	for errors.Is(err, antientropy.ErrJournalFull) {
 		runtime.Gosched()
 		receipt, err = w.r.Put(1, w.key(index), []byte(fmt.Sprint(w.puts)), context)
 	}
@@ -46,11 +47,11 @@ func (w *writer) put(t *testing.T) {
 	w.puts++
 }
 
-// read logs the entries from the position on, or all that are there if some before a renewal weren't logged.
+// read logs the entries from the position on, or the whole journal if some before a renewal weren't logged.
 func (w *writer) read() {
 	entries, err := w.r.Entries(w.position).All()
 	if errors.Is(err, antientropy.ErrBadPosition) {
-		entries = must(w.r.Entries(must(w.r.Count()).First).All())
+		entries = must(w.r.Entries(must(w.r.Stats()).First).All())
 	}
 	for _, entry := range entries {
 		w.log[entry.Number] = entry
@@ -70,7 +71,7 @@ func (w *writer) check(t *testing.T) {
 		versions := must(w.r.Get(w.key(uint64(index))))
 		equal(t, []any{len(versions), versions[0].Clock}, []any{1, clock(1, counter)})
 	}
-	equal(t, []any{must(w.r.Count()).Entries, must(restored.Root())}, []any{w.puts, must(w.r.Root())})
+	equal(t, []any{must(w.r.Stats()).Entries, must(restored.Root())}, []any{w.puts, must(w.r.Root())})
 }
 
 func TestRenewInPlace(t *testing.T) {
@@ -78,25 +79,25 @@ func TestRenewInPlace(t *testing.T) {
 	first := put(r, "cart", "milk")
 	must(r.Put(1, []byte("cart"), []byte("eggs"), clock(1, first.Counter)))
 	versions, root := must(r.Get([]byte("cart"))), must(r.Root())
-	check(r.RenewInPlace(5))
-	counts := must(r.Count())
+	check(r.RenewInPlace(context.Background(), 5))
+	counts := must(r.Stats())
 	equal(t, []uint64{counts.Entries, counts.Limit, counts.First}, []uint64{2, 5, 1})
 	equal(t, []any{must(r.Get([]byte("cart"))), must(r.Root())}, []any{versions, root})
 	equal(t, must(r.Entries(2).All()), []antientropy.Entry(nil))
 	equal(t, put(r, "gift", "toys").Number, uint64(2))
 	equal(t, string(must(r.Entries(2).All())[0].Key), "gift")
-	refused(t, r.RenewInPlace(0), antientropy.ErrBadRing)
-	refused(t, r.RenewInPlace(1), antientropy.ErrJournalFull)
+	refused(t, r.RenewInPlace(context.Background(), 0), antientropy.ErrBadRing)
+	refused(t, r.RenewInPlace(context.Background(), 1), antientropy.ErrJournalFull)
 	_, err := r.Moment()
 	refused(t, err, antientropy.ErrDirty)
-	equal(t, must(r.Count()).Entries, uint64(3))
+	equal(t, must(r.Stats()).Entries, uint64(3))
 }
 
 // A renewal ends an exchange in progress.
 func TestRenewInPlaceEndsSessions(t *testing.T) {
 	r, partner := newReplica(), filled(3)
 	exchange := opened(r, must(must(partner.Snapshot()).Offer(7)))
-	check(r.RenewInPlace(100))
+	check(r.RenewInPlace(context.Background(), 100))
 	equal(t, must(exchange.Progress()).Report, antientropy.ReportGone)
 	equal(t, must(syncFrom(r, partner)).Accepted, uint64(3))
 }
@@ -117,24 +118,24 @@ func TestRenewalsBesidePuts(t *testing.T) {
 		}
 	}()
 	for n := uint64(1); n <= renewals; n++ {
-		for must(w.r.Count()).Entries < n*2*keys {
+		for must(w.r.Stats()).Entries < n*2*keys {
 			runtime.Gosched()
 		}
-		check(w.r.RenewInPlace(antientropy.EntriesMax))
+		check(w.r.RenewInPlace(context.Background(), antientropy.EntriesMax))
 	}
 	close(stop)
 	<-ended
-	equal(t, must(w.r.Count()).First > keys, true)
+	equal(t, must(w.r.Stats()).First > keys, true)
 	w.check(t)
 }
 
-// Goroutines renew a replica at once: one is refused, or both are done, and nothing is lost.
+// Goroutines renew a replica concurrently: one is refused, or both succeed, and nothing is lost.
 func TestRenewalsAtOnce(t *testing.T) {
 	w := newWriter(newReplica(), 20)
 	errs := make(chan error)
 	for n := 0; n < 10; n++ {
 		for i := 0; i < 2; i++ {
-			go func() { errs <- w.r.RenewInPlace(20_000) }()
+			go func() { errs <- w.r.RenewInPlace(context.Background(), 20_000) }()
 		}
 		for i := 0; i < 40; i++ {
 			w.put(t)
@@ -149,7 +150,7 @@ func TestRenewalsAtOnce(t *testing.T) {
 	w.check(t)
 }
 
-// One key is put fifty times as often as the journal has entries, with no other call.
+// One key is put fifty times as often as the journal has entries, without any other call.
 func TestAKeptReplica(t *testing.T) {
 	const limit = 2_000
 	w := newWriter(withLimit(limit), 1)
@@ -159,7 +160,7 @@ func TestAKeptReplica(t *testing.T) {
 	}
 	w.read()
 	w.check(t)
-	equal(t, must(w.r.Count()).First > 48*limit, true)
+	equal(t, must(w.r.Stats()).First > 48*limit, true)
 }
 
 // Copies count as puts.
@@ -168,7 +169,7 @@ func TestAKeptReplicaThatAccepts(t *testing.T) {
 	check(r.KeepRenewed())
 	for n := uint64(1); n <= 1_000; n++ {
 		_, err := r.Accept([]byte("key"), live(1, n, ""))
-		for err == antientropy.ErrJournalFull {
+		for errors.Is(err, antientropy.ErrJournalFull) {
 			runtime.Gosched()
 			_, err = r.Accept([]byte("key"), live(1, n, ""))
 		}
@@ -184,9 +185,9 @@ func ExampleReplica_KeepRenewed() {
 	for n := 0; n < 950; n++ {
 		context = antientropy.Clock{{Node: 1, Counter: must(replica.Put(1, []byte("cart"), nil, context)).Counter}}
 	}
-	for must(replica.Count()).First == 0 {
+	for must(replica.Stats()).First == 0 {
 		runtime.Gosched() // a goroutine renews
 	}
-	fmt.Println(must(replica.Count()).Entries, context)
+	fmt.Println(must(replica.Stats()).Entries, context)
 	// Output: 950 [{1 950}]
 }

@@ -17,39 +17,41 @@ type Config struct {
 	Limit  uint64 // maximum number of the journal's entries, 1 to EntriesMax
 }
 
-// A Replica is a replica of one range of a ring. Goroutines may share it, and read it at once. A copy is the same
+// A Replica is a replica of one range of a ring. Goroutines may share it, and read it concurrently. A copy is the same
 // replica.
 type Replica struct {
-	at *replica // so a copy has no handle of its own, which would be freed twice
+	at *replica // a copy shares the handle, which is freed once
 }
 
-// A replica is what a [Replica] and its copies share.
+// A replica is the state that a [Replica] and its copies share.
 type replica struct {
-	lock    sync.RWMutex // goroutines read at once
+	lock    sync.RWMutex // goroutines read concurrently
 	handle  C.struct_antientropy_replica
-	orphans orphans
+	orphans *orphans
 	keeper  keeper
+	weight  weight
+	tree    int64 // weight of an empty replica of its format
 }
 
-// Counts are the counts of a replica.
-type Counts struct {
-	Entries      uint64 // entries, with those before renewals: the number of the next entry
-	Limit        uint64 // maximum of Entries less First: there the journal is full
+// Stats has the counts of a replica.
+type Stats struct {
+	Entries      uint64 // entries, including those before renewals: the number of the next entry
+	Limit        uint64 // maximum of Entries minus First, at which the journal is full
 	Dirty        uint64 // nodes of the tree that have no digest
 	Sessions     uint64 // sessions that are kept: at 1,024 no other can be opened until ended ones are dropped
 	OpenSessions uint64 // open sessions: at 64 no other can be opened until one has ended
 	First        uint64 // number of the journal's first entry: 0 before the first renewal
-	Front        uint64 // Entries at the last moment that was whole; First if there was none since a renewal
+	Front        uint64 // Entries at the last moment that was whole; First without one since a renewal
 }
 
 // Bytes is the size of a replica: lengths of contents in bytes. Its memory differs.
 type Bytes struct {
 	Rows     uint64 // the rows, as [Snapshot.Rows] returns them
 	Journal  uint64 // the keys, values and clocks of the entries from First on: 10 bytes for each pair of a clock
-	Sessions uint64 // what sessions keep in addition: texts that they took, and leaves of their rows that have changed
+	Sessions uint64 // additional contents of sessions: texts that they took, and leaves of their rows that have changed
 }
 
-// About has what a checkpoint or a log has to name: the range of a replica or a snapshot, and its position.
+// About is the identity to store in a checkpoint or a log: the range of a replica or a snapshot, and its position.
 type About struct {
 	Format  uint8  // format of the tree: 1 or 2
 	Bits    uint8  // bits of the ring
@@ -57,10 +59,15 @@ type About struct {
 	Entries uint64 // number of the next entry, as in the counts
 }
 
+// journal returns the number of the journal's entries.
+func (c Stats) journal() uint64 {
+	return c.Entries - c.First
+}
+
 // A Receipt is the result of a put.
 type Receipt struct {
-	Number  uint64 // number of the entry, for [Replica.Entry]; after a renewal it may be that of another version
-	Counter uint64 // the node's counter in the new version's clock; the other counters are those of the context
+	Number  uint64 // number of the entry, for [Replica.Entry]; after a renewal it may name another version
+	Counter uint64 // the node's counter in the new version's clock: Merge it with the context for a copy
 }
 
 // NewReplica makes an empty replica. Refused as [ErrBadRing] if a number is outside its limits.
@@ -70,12 +77,12 @@ func NewReplica(config Config) (*Replica, error) {
 	if err := check(C.antientropy_new(&made.handle, C.uint64_t(config.Format), bits, number, limit)); err != nil {
 		return nil, err
 	}
-	return made.owned(), nil
+	return made.owned(config.Format, 0), nil
 }
 
-// NewSeededReplica makes an empty replica that finds keys by a hash with a seed of two words. Random words make it hard
-// for clients to choose keys with equal hashes, which are slow to find. Refused as [ErrBadRing] if a number is outside
-// its limits.
+// NewSeededReplica makes an empty replica with a seed of two words for the hash of keys. Random words make it hard for
+// clients to choose keys with equal hashes, which are slow to find. Refused as [ErrBadRing] if a number is outside its
+// limits.
 func NewSeededReplica(config Config, first, second uint64) (*Replica, error) {
 	made := new(replica)
 	format, bits, number := C.uint64_t(config.Format), C.uint64_t(config.Bits), C.uint64_t(config.Range)
@@ -83,11 +90,11 @@ func NewSeededReplica(config Config, first, second uint64) (*Replica, error) {
 	if err := check(C.antientropy_new_seeded(&made.handle, format, bits, number, limit, low, high)); err != nil {
 		return nil, err
 	}
-	return made.owned(), nil
+	return made.owned(config.Format, 0), nil
 }
 
-// Close frees the memory. Later calls are refused as [ErrEmpty], those of copies too; another Close does nothing. The
-// error is nil.
+// Close frees the memory. Later calls are refused as [ErrEmpty], also on copies; another Close does nothing. The error
+// is nil.
 //
 // Each method holds the lock to its end, so the garbage collector doesn't close a replica that is in use.
 func (r *Replica) Close() error {
@@ -95,7 +102,7 @@ func (r *Replica) Close() error {
 	return nil
 }
 
-// locked takes the lock, which its caller gives back. A replica that no call made holds nothing.
+// locked takes the lock, which the caller releases. A zero replica is empty.
 func (r *replica) locked() *replica {
 	if r == nil {
 		r = new(replica)
@@ -104,7 +111,7 @@ func (r *replica) locked() *replica {
 	return r
 }
 
-// reading takes the lock, which its caller gives back, for calls that only read.
+// reading takes the lock for calls that only read. The caller releases it.
 func (r *replica) reading() *replica {
 	if r == nil {
 		r = new(replica)
@@ -113,9 +120,11 @@ func (r *replica) reading() *replica {
 	return r
 }
 
-// owned returns a replica that was made. The garbage collector closes it, once no copy is used.
-func (r *replica) owned() *Replica {
-	runtime.SetFinalizer(r, (*replica).close)
+// owned returns a new replica, with the weight of its rows. The freer closes it, once no copy is used.
+func (r *replica) owned(format uint8, rows int64) *Replica {
+	r.tree = treeWeight(format)
+	r.weight.set(r.tree + rows)
+	runtime.SetFinalizer(r, func(r *replica) { collected.add(r.close) })
 	return &Replica{r}
 }
 
@@ -123,28 +132,43 @@ func (r *replica) owned() *Replica {
 func (r *replica) close() {
 	held := r.locked()
 	defer held.lock.Unlock()
-	held.closeOrphans()
+	held.closeOrphans(true)
 	C.antientropy_free(&held.handle)
+	held.weight.set(0)
 }
 
-// Renew returns a new replica with the versions that are held: one entry for each, and no sessions.
+// Renew returns a new replica with the held versions: one entry for each, and no sessions.
 //
-// This one is left unchanged: close it, and go on with the new one under the same node number. The numbers of entries
-// go on: both count as many, and the next entry gets a number that was never used. The new journal begins at First of
-// the counts.
+// This replica is unchanged: close it, and use the new one under the same node number. Entry numbers continue: both
+// replicas have the same entry count, and the next entry gets a number that was never used. The new journal begins at
+// First of the Stats. Renew takes time in proportion to the rows, and puts wait meanwhile.
 //
 // Refused as [ErrBadRing] (the limit) or [ErrJournalFull] (more versions are held than the limit).
 func (r *Replica) Renew(limit uint64) (*Replica, error) {
 	held := r.at.reading()
 	defer held.lock.RUnlock()
+	config, before, err := held.describe()
+	if err != nil {
+		return nil, err
+	}
 	renewed := new(replica)
 	if err := check(C.antientropy_renew(&held.handle, &renewed.handle, C.uint64_t(limit))); err != nil {
 		return nil, err
 	}
-	return renewed.owned(), nil
+	after, err := renewed.stats()
+	return renewed.owned(config.Format, held.rowsLeft(before, after)), err
 }
 
-// memory returns the memory of the handle, for the calls that are made most.
+// rowsLeft returns the weight of the rows that a renewal leaves, by the counts of both journals. The caller holds the
+// lock.
+func (r *replica) rowsLeft(before, after Stats) int64 {
+	if before.journal() == 0 {
+		return 0
+	}
+	return int64(float64(r.weight.bytes-r.tree) / float64(before.journal()) * float64(after.journal()))
+}
+
+// memory returns the memory of the handle, for the most frequent calls.
 func (r *replica) memory() *C.antientropy_go_handle {
 	return (*C.antientropy_go_handle)(unsafe.Pointer(&r.handle))
 }
@@ -154,15 +178,20 @@ func (r *replica) memory() *C.antientropy_go_handle {
 func (r *Replica) Migrate() error {
 	held := r.at.locked()
 	defer held.lock.Unlock()
-	return check(C.antientropy_migrate(&held.handle))
+	if err := check(C.antientropy_migrate(&held.handle)); err != nil {
+		return err
+	}
+	held.weight.add(treeWeight2 - treeWeight1)
+	held.tree = treeWeight2
+	return nil
 }
 
-// DropSessions drops the sessions that have ended, and the rows that they keep. Those of exchanges in progress stay.
-// Entries of the source [SourcePartner] have [SourceCopy] then.
+// DropSessions drops the sessions that have ended, and the rows that they keep. Sessions of exchanges in progress stay.
+// Entries of the source [SourcePartner] get the source [SourceCopy].
 func (r *Replica) DropSessions() error {
 	held := r.at.locked()
 	defer held.lock.Unlock()
-	held.closeOrphans()
+	held.closeOrphans(false)
 	return check(C.antientropy_drop_sessions(&held.handle))
 }
 
@@ -198,27 +227,27 @@ func aboutOf(number C.uint32_t, about *C.struct_antientropy_about) (About, error
 }
 
 // describe returns the numbers and the counts of the replica. The caller holds the lock.
-func (r *replica) describe() (Config, Counts, error) {
+func (r *replica) describe() (Config, Stats, error) {
 	about, err := r.about()
 	if err != nil {
-		return Config{}, Counts{}, err
+		return Config{}, Stats{}, err
 	}
-	counts, err := r.count()
+	counts, err := r.stats()
 	return Config{Format: about.Format, Bits: about.Bits, Range: about.Range, Limit: counts.Limit}, counts, err
 }
 
-// Count returns the counts of entries, dirty nodes and sessions, and of the entries at the last whole moment.
-func (r *Replica) Count() (Counts, error) {
+// Stats returns the counts of entries, dirty nodes and sessions, and of the entries at the last whole moment.
+func (r *Replica) Stats() (Stats, error) {
 	held := r.at.reading()
 	defer held.lock.RUnlock()
-	return held.count()
+	return held.stats()
 }
 
-// count returns the counts. The caller holds the lock.
-func (r *replica) count() (Counts, error) {
+// stats returns the counts. The caller holds the lock.
+func (r *replica) stats() (Stats, error) {
 	var counts C.struct_antientropy_counts
 	err := check(C.antientropy_count(&r.handle, &counts))
-	return Counts{
+	return Stats{
 		Entries:      uint64(counts.entries),
 		Limit:        uint64(counts.limit),
 		Dirty:        uint64(counts.dirty),
@@ -229,8 +258,8 @@ func (r *replica) count() (Counts, error) {
 	}, err
 }
 
-// Bytes returns the size of the replica. It looks at each chunk of 15 rows and at the digests of each session's leaves:
-// call it once in some seconds, not at each put.
+// Bytes returns the size of the replica. It visits each chunk of 15 rows and the digests of each session's leaves: call
+// it every few seconds, not at each put.
 func (r *Replica) Bytes() (Bytes, error) {
 	var bytes C.struct_antientropy_bytes
 	held := r.at.reading()
@@ -243,55 +272,57 @@ func (r *Replica) Bytes() (Bytes, error) {
 //
 // The new version replaces each held version whose clock is at most its clock. The client has read each of these:
 // [ErrStaleContext] means that a held version has a greater counter of the node than the context, so another client has
-// put in between. Read again then.
+// put in between; read again.
 //
 // Refused as [ErrBadClock], [ErrClockFull], [ErrBadKey], [ErrBadValue], [ErrOtherRange], [ErrCounterFull],
 // [ErrStaleContext], [ErrCrowded] or [ErrJournalFull].
-func (r *Replica) Put(node uint16, key, value []byte, context Clock) (Receipt, error) {
+func (r *Replica) Put(node Node, key, value []byte, context Clock) (Receipt, error) {
 	return r.put(node, key, context, Live, value)
 }
 
-// PutTombstone puts a tombstone, which says that the key was removed. Refused as [Replica.Put], and as [ErrBadValue] in
+// PutTombstone puts a tombstone, which marks the key as removed. Refused as [Replica.Put], and as [ErrBadValue] in
 // format 1.
-func (r *Replica) PutTombstone(node uint16, key []byte, context Clock) (Receipt, error) {
+func (r *Replica) PutTombstone(node Node, key []byte, context Clock) (Receipt, error) {
 	return r.put(node, key, context, Tombstone, nil)
 }
 
-func (r *Replica) put(node uint16, key []byte, context Clock, kind Kind, value []byte) (Receipt, error) {
+func (r *Replica) put(node Node, key []byte, context Clock, kind Kind, value []byte) (Receipt, error) {
 	held := r.at.locked()
 	defer held.lock.Unlock()
 	got := C.antientropy_go_put_read(held.memory(), C.uint64_t(node), bytesAt(key), C.size_t(len(key)), pairsAt(context),
 		C.size_t(len(context)), C.uint8_t(kind), bytesAt(value), C.size_t(len(value)))
-	return held.receipt(got)
+	return held.receipt(got, contentsOf(key, value, context))
 }
 
-// PutUnread puts as [Replica.Put], for a caller that has made its check itself: the new version replaces even a held
-// version that the client hasn't read. Refused as [Replica.Put], but as [ErrStaleContext] only if a held version has
-// seen all of the new version's clock.
-func (r *Replica) PutUnread(node uint16, key, value []byte, context Clock) (Receipt, error) {
+// PutUnread puts like [Replica.Put], without its check, which the caller must make: the new version replaces even a
+// held version that the client hasn't read. Refused as [Replica.Put], but as [ErrStaleContext] only if a held version's
+// clock includes the new version's.
+func (r *Replica) PutUnread(node Node, key, value []byte, context Clock) (Receipt, error) {
 	return r.putUnread(node, key, context, Live, value)
 }
 
-// PutTombstoneUnread puts a tombstone as [Replica.PutUnread] puts a value. Refused as [Replica.PutUnread], and as
-// [ErrBadValue] in format 1.
-func (r *Replica) PutTombstoneUnread(node uint16, key []byte, context Clock) (Receipt, error) {
+// PutTombstoneUnread puts a tombstone like [Replica.PutUnread]. Refused as [Replica.PutUnread], and as [ErrBadValue] in
+// format 1.
+func (r *Replica) PutTombstoneUnread(node Node, key []byte, context Clock) (Receipt, error) {
 	return r.putUnread(node, key, context, Tombstone, nil)
 }
 
-func (r *Replica) putUnread(node uint16, key []byte, context Clock, kind Kind, value []byte) (Receipt, error) {
+func (r *Replica) putUnread(node Node, key []byte, context Clock, kind Kind, value []byte) (Receipt, error) {
 	held := r.at.locked()
 	defer held.lock.Unlock()
 	got := C.antientropy_go_put(held.memory(), C.uint64_t(node), bytesAt(key), C.size_t(len(key)), pairsAt(context),
 		C.size_t(len(context)), C.uint8_t(kind), bytesAt(value), C.size_t(len(value)))
-	return held.receipt(got)
+	return held.receipt(got, contentsOf(key, value, context))
 }
 
-// receipt returns the result of a put, after which a renewal may be due. The caller holds the lock.
-func (r *replica) receipt(got C.struct_antientropy_go_receipt) (Receipt, error) {
+// receipt returns the result of a put with the length of its contents in bytes. It starts a renewal if one is due. The
+// caller holds the lock.
+func (r *replica) receipt(got C.struct_antientropy_go_receipt, contents int) (Receipt, error) {
 	if err := check(got.number); err != nil {
 		r.countAndRenewIfDue()
 		return Receipt{}, err
 	}
+	r.weight.addVersions(1, contents)
 	receipt := Receipt{Number: uint64(got.receipt.number), Counter: uint64(got.receipt.counter)}
 	r.renewIfDue(receipt.Number + 1)
 	return receipt, nil
@@ -308,6 +339,7 @@ func (r *Replica) Accept(key []byte, version Version) (bool, error) {
 	defer held.lock.Unlock()
 	number := C.antientropy_accept(&held.handle, bytesAt(key), C.size_t(len(key)), pairsAt(clock), C.size_t(len(clock)),
 		C.uint8_t(version.Kind), bytesAt(value), C.size_t(len(value)), &taken)
+	held.weight.addVersions(int(taken), contentsOf(key, value, clock))
 	held.countAndRenewIfDue()
 	return taken != 0, check(number)
 }

@@ -1,13 +1,14 @@
 package antientropy_test
 
 import (
+	"errors"
 	"fmt"
 	"math"
 	"sort"
 	"strings"
 	"testing"
 
-	"antientropy"
+	antientropy "example.org/antientropy/go"
 )
 
 func TestPutAndRead(t *testing.T) {
@@ -17,14 +18,6 @@ func TestPutAndRead(t *testing.T) {
 	equal(t, must(r.Accept(key, live(2, 4, "eggs"))), false)
 	both := []antientropy.Version{live(1, 1, "milk"), live(2, 4, "eggs")}
 	equal(t, must(r.Get(key)), both)
-	equal(t, must(r.Versions(key).All()), both)
-	equal(t, must(r.CountVersions(key)), uint64(2))
-	version, found, err := r.Read(key, 1)
-	equal(t, []any{version, found, err}, []any{both[1], true, nil})
-	value, kind, found, err := r.Value(key, 0)
-	equal(t, []any{string(value), kind, found, err}, []any{"milk", antientropy.Live, true, nil})
-	pairs, found, err := r.Clock(key, 1)
-	equal(t, []any{pairs, found, err}, []any{clock(2, 4), true, nil})
 	row, found, err := r.Row(key)
 	equal(t, []any{strings.HasPrefix(string(row), "\x00\x04cart\x00\x02"), found, err}, []any{true, true, nil})
 }
@@ -32,22 +25,13 @@ func TestPutAndRead(t *testing.T) {
 func TestNothingIsHeld(t *testing.T) {
 	r, key := newReplica(), []byte("cart")
 	equal(t, must(r.Get(key)), []antientropy.Version(nil))
-	version, found, err := r.Read(key, 0)
-	equal(t, []any{version, found, err}, []any{antientropy.Version{}, false, nil})
-	_, _, found, err = r.Value(key, 0)
-	equal(t, []any{found, err}, []any{false, nil})
-	_, found, err = r.Clock(key, 0)
-	equal(t, []any{found, err}, []any{false, nil})
-	_, found, err = r.Row(key)
+	_, found, err := r.Row(key)
 	equal(t, []any{found, err}, []any{false, nil})
 	_, found, err = r.Entry(0)
 	equal(t, []any{found, err}, []any{false, nil})
 	_, found, err = r.KeyAfter(0, nil)
 	equal(t, []any{found, err}, []any{false, nil})
 	equal(t, len(must(r.Keys().All())), 0)
-	put(r, "cart", "milk")
-	_, found, err = r.Read(key, math.MaxUint64)
-	equal(t, []any{found, err}, []any{false, nil})
 }
 
 func TestTombstonesAndEmptyValues(t *testing.T) {
@@ -56,14 +40,12 @@ func TestTombstonesAndEmptyValues(t *testing.T) {
 	put(r, "empty", "")
 	gone := antientropy.Version{Clock: clock(1, 1), Value: []byte{}, Kind: antientropy.Tombstone}
 	equal(t, must(r.Get([]byte("gone"))), []antientropy.Version{gone})
-	value, kind, found, err := r.Value([]byte("gone"), 0)
-	equal(t, []any{len(value), kind, found, err}, []any{0, antientropy.Tombstone, true, nil})
 	equal(t, must(r.Get([]byte("empty"))), []antientropy.Version{live(1, 1, "")})
 	entry, _, err := r.Entry(0)
 	equal(t, []any{entry.Version, err}, []any{gone, nil})
 }
 
-// Values around the lengths of rooms, in one version and in several.
+// Values around the lengths of buffers, in one version and in several.
 func TestLongValues(t *testing.T) {
 	for _, length := range []int{3500, 3536, 3537, 4096, 60_000, antientropy.ValueMax2} {
 		r, key, value := newReplica(), []byte("long"), strings.Repeat("value", 1+length/5)[:length]
@@ -72,8 +54,6 @@ func TestLongValues(t *testing.T) {
 		must(r.Accept(key, live(3, 1, value)))
 		equal(t, must(r.Get(key)), []antientropy.Version{live(1, 1, value), live(2, 1, "short"), live(3, 1, value)})
 		equal(t, must(r.Get(key))[1], live(2, 1, "short"))
-		long, _, _, err := r.Value(key, 0)
-		equal(t, []any{string(long), err}, []any{value, nil})
 		entry, _, err := r.Entry(2)
 		equal(t, []any{entry.Version, err}, []any{live(3, 1, value), nil})
 	}
@@ -84,7 +64,7 @@ func TestVersionsOfTheGreatestSize(t *testing.T) {
 	for node := uint64(1); node <= antientropy.VersionsMax; node++ {
 		version := live(100+node, 1, value)
 		for counter := uint64(1); counter < antientropy.ClockMax; counter++ {
-			version.Clock = append(version.Clock, antientropy.Pair{Node: 1000*node + counter, Counter: counter})
+			version.Clock = append(version.Clock, clock(1000*node+counter, counter)...)
 		}
 		must(r.Accept(key, version))
 	}
@@ -92,8 +72,7 @@ func TestVersionsOfTheGreatestSize(t *testing.T) {
 	equal(t, len(versions), antientropy.VersionsMax)
 	for i, version := range versions {
 		equal(t, string(version.Value) == value && len(version.Clock) == antientropy.ClockMax, true)
-		read, found, err := r.Read(key, uint64(i))
-		equal(t, []any{read, found, err}, []any{version, true, nil})
+		equal(t, version.Clock.Counter(antientropy.Node(101+i)), uint64(1))
 	}
 }
 
@@ -131,7 +110,7 @@ func TestKeysAndEntries(t *testing.T) {
 	equal(t, last, []antientropy.Entry{want})
 }
 
-// Of two clients that read the same versions, the second to put is refused, or replaces what the first has put.
+// Of two clients that read the same versions, the second to put is refused, or replaces the version of the first.
 func TestTwoClients(t *testing.T) {
 	r, key, both := newReplica(), []byte("cart"), clock(1, 1, 2, 1)
 	put(r, "cart", "milk")
@@ -148,7 +127,7 @@ func TestTwoClients(t *testing.T) {
 	equal(t, must(r.Get(key))[0].Kind, antientropy.Tombstone)
 }
 
-// Who changes a key that was scanned doesn't change the scan.
+// Changing a scanned key doesn't change the scan.
 func TestScannedKeysAreTheCallers(t *testing.T) {
 	r, count := filled(300), 0
 	keys := r.Keys()
@@ -173,16 +152,16 @@ func TestCountsAndRenewal(t *testing.T) {
 	first := put(r, "cart", "milk")
 	must(r.Put(1, []byte("cart"), []byte("eggs"), clock(1, first.Counter)))
 	check(r.Rehash())
-	equal(t, must(r.Count()), antientropy.Counts{Entries: 2, Limit: 10})
+	equal(t, must(r.Stats()), antientropy.Stats{Entries: 2, Limit: 10})
 	renewed := must(r.Renew(5))
-	equal(t, must(renewed.Count()), antientropy.Counts{Entries: 2, Limit: 5, First: 1, Front: 1})
+	equal(t, must(renewed.Stats()), antientropy.Stats{Entries: 2, Limit: 5, First: 1, Front: 1})
 	equal(t, renewed.Config(), antientropy.Config{Format: 2, Limit: 5})
 	equal(t, must(renewed.Get([]byte("cart"))), must(r.Get([]byte("cart"))))
 	_, err := r.Renew(0)
 	refused(t, err, antientropy.ErrBadRing)
 }
 
-// lengthOfRows returns the lengths of the rows that a replica holds, in all.
+// lengthOfRows returns the total length of the rows that a replica holds.
 func lengthOfRows(r *antientropy.Replica) (length uint64) {
 	for _, row := range stateOf(r).rows {
 		length += uint64(len(row))
@@ -190,7 +169,7 @@ func lengthOfRows(r *antientropy.Replica) (length uint64) {
 	return length
 }
 
-// lengthOfEntries returns the lengths of the entries of a journal in all, with 10 bytes for each pair of a clock.
+// lengthOfEntries returns the total length of the entries of a journal, with 10 bytes for each pair of a clock.
 func lengthOfEntries(r *antientropy.Replica) (length uint64) {
 	for _, entry := range stateOf(r).entries {
 		length += uint64(len(entry.Key) + len(entry.Version.Value) + 10*len(entry.Version.Clock))
@@ -260,11 +239,12 @@ func TestRefusedPuts(t *testing.T) {
 	r := filled(1)
 	for _, put := range []struct {
 		cause      antientropy.Refusal
-		node       uint16
+		node       antientropy.Node
 		key, value string
 		context    antientropy.Clock
 	}{
 		{antientropy.ErrBadClock, 0, "key", "", nil},
+		{antientropy.ErrBadClock, antientropy.NodeMax + 1, "key", "", nil},
 		{antientropy.ErrBadClock, 1, "key", "", clock(1, 0)},
 		{antientropy.ErrBadClock, 1, "key", "", clock(65_536, 1)},
 		{antientropy.ErrBadClock, 1, "key", "", clock(2, 1, 2, 3)},
@@ -353,8 +333,8 @@ func TestRowsOfBeforeAMigration(t *testing.T) {
 	unchanged(t, to, antientropy.ErrBadRing, func() error { _, err := to.LoadFormat(3, rows); return err })
 	unchanged(t, again, antientropy.ErrOtherFormat, func() error { _, err := again.LoadFormat(2, rows); return err })
 	_, err := to.LoadFormat(1, rows[:len(rows)-1])
-	broken, ok := err.(*antientropy.RowError)
-	equal(t, ok && broken.Offset > 0, true)
+	var broken *antientropy.RowError
+	equal(t, errors.As(err, &broken) && broken.Offset > 0, true)
 }
 
 func TestBrokenRows(t *testing.T) {
@@ -362,8 +342,8 @@ func TestBrokenRows(t *testing.T) {
 	row, _, err := r.Row([]byte("key 1"))
 	check(err)
 	_, err = r.LoadRows(row[:len(row)-1])
-	broken, ok := err.(*antientropy.RowError)
-	equal(t, ok && broken.Offset > 0 && broken.Offset < uint64(len(row)), true)
+	var broken *antientropy.RowError
+	equal(t, errors.As(err, &broken) && broken.Offset > 0 && broken.Offset < uint64(len(row)), true)
 	equal(t, strings.HasPrefix(err.Error(), "antientropy: RowBroken at byte "), true)
 	unchanged(t, r, antientropy.ErrRowBroken, func() error { _, err := r.LoadRows([]byte("?")); return err })
 }
@@ -380,13 +360,13 @@ func TestRowsOfTwoLeaves(t *testing.T) {
 
 func TestRehashSome(t *testing.T) {
 	r, steps := filled(50), 0
-	all := must(r.Count()).Dirty
+	all := must(r.Stats()).Dirty
 	equal(t, must(r.RehashSome(0)), all)
 	for last := all; last > 0; steps++ {
 		left := must(r.RehashSome(100))
 		equal(t, left < last && left+100 >= last, true)
 		last = left
 	}
-	equal(t, []any{must(r.Count()).Dirty, steps > 1}, []any{uint64(0), true})
+	equal(t, []any{must(r.Stats()).Dirty, steps > 1}, []any{uint64(0), true})
 	check(must(r.SnapshotIfClean()).Close())
 }

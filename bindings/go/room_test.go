@@ -9,7 +9,7 @@ import (
 
 const guardLen = 64
 
-// guard makes a room for the next call, with some bytes after its end, which no call may write. It returns those bytes.
+// guard makes a buffer for the next call, followed by bytes that no call may write. It returns these bytes.
 func guard() []byte {
 	memory := bytes.Repeat([]byte{0xa5}, roomLen+guardLen)
 	rooms = sync.Pool{New: func() any { return &room{bytes: memory[:roomLen:roomLen]} }}
@@ -22,7 +22,7 @@ func TestNoPointerIsNull(t *testing.T) {
 	}
 }
 
-// Results of all lengths around that of a room: the calls write what they return, and nothing after the room.
+// Results of all lengths around a buffer's: the calls write their results, and nothing after the buffer.
 func TestResultsAroundTheLengthOfARoom(t *testing.T) {
 	defer func() { rooms = sync.Pool{New: func() any { return new(room) }} }()
 	for length := roomLen - recordLen - 16; length <= roomLen+16; length++ {
@@ -42,8 +42,7 @@ func TestResultsAroundTheLengthOfARoom(t *testing.T) {
 			t.Fatal(err)
 		}
 		for name, read := range map[string]func() ([]byte, error){
-			"Read":  func() ([]byte, error) { read, _, err := r.Read([]byte("key"), 0); return read.Value, err },
-			"Value": func() ([]byte, error) { value, _, _, err := r.Value([]byte("key"), 0); return value, err },
+			"Get":   func() ([]byte, error) { read, err := r.Get([]byte("key")); return read[0].Value, err },
 			"Entry": func() ([]byte, error) { entry, _, err := r.Entry(0); return entry.Version.Value, err },
 			"Hint":  func() ([]byte, error) { hint, _, err := hints.Hint(1); return hint.Version.Value, err },
 		} {
@@ -59,7 +58,7 @@ func TestResultsAroundTheLengthOfARoom(t *testing.T) {
 	}
 }
 
-// A room for packed entries takes as many whole ones as fit. If the first one doesn't fit, another room is made.
+// A buffer for packed entries gets all whole entries that fit. If the first one doesn't fit, a new buffer is made.
 func TestRoomsOfPackedEntries(t *testing.T) {
 	r, err := NewReplica(Config{Format: 2, Limit: 3})
 	if err != nil {

@@ -3,7 +3,10 @@ package antientropy
 // #include <antientropy.h>
 import "C"
 
-import "fmt"
+import (
+	"errors"
+	"fmt"
+)
 
 // Loaded is the result of loading rows.
 type Loaded struct {
@@ -11,7 +14,7 @@ type Loaded struct {
 	Known uint64 // number of known versions
 }
 
-// A RowError is a refusal of rows as [ErrRowBroken], with the place of the damage.
+// A RowError is a refusal of rows as [ErrRowBroken], with the offset of the damage.
 type RowError struct {
 	Offset uint64 // offset of the broken field, in bytes
 }
@@ -26,8 +29,8 @@ func (e *RowError) Unwrap() error {
 	return ErrRowBroken
 }
 
-// LoadRows accepts all versions in rows of one leaf as copies, or none. [Snapshot.Rows] and [Replica.Row] return such
-// rows.
+// LoadRows accepts all versions in rows of one leaf as copies, or none of them. [Snapshot.Rows] and [Replica.Row]
+// return such rows.
 //
 // Refused as [ErrRowBroken] by a [RowError], and as [ErrOtherRange], [ErrCrowded] or [ErrJournalFull].
 func (r *Replica) LoadRows(rows []byte) (Loaded, error) {
@@ -35,12 +38,13 @@ func (r *Replica) LoadRows(rows []byte) (Loaded, error) {
 	held := r.at.locked()
 	defer held.lock.Unlock()
 	number := C.antientropy_load(&held.handle, bytesAt(rows), C.size_t(len(rows)), &loaded)
+	held.weight.addVersions(int(loaded.taken), len(rows))
 	held.countAndRenewIfDue()
 	return loadedOf(number, &loaded)
 }
 
-// LoadFormat accepts all versions in rows of a format and of any leaves, in ascending order of key, as copies, or none.
-// A replica of format 2 loads rows of format 1 too.
+// LoadFormat accepts all versions in rows of a format and of any leaves, in ascending order of key, as copies, or none
+// of them. A replica of format 2 loads rows of format 1 too.
 //
 // Refused as [ErrBadRing] (the format is neither 1 nor 2) and [ErrOtherFormat] (rows of format 2, replica of format 1),
 // as [ErrRowBroken] by a [RowError], and as [ErrOtherRange], [ErrCrowded] or [ErrJournalFull].
@@ -49,6 +53,7 @@ func (r *Replica) LoadFormat(format uint8, rows []byte) (Loaded, error) {
 	held := r.at.locked()
 	defer held.lock.Unlock()
 	number := C.antientropy_load_format(&held.handle, C.uint64_t(format), bytesAt(rows), C.size_t(len(rows)), &loaded)
+	held.weight.addVersions(int(loaded.taken), len(rows))
 	held.countAndRenewIfDue()
 	return loadedOf(number, &loaded)
 }
@@ -56,7 +61,7 @@ func (r *Replica) LoadFormat(format uint8, rows []byte) (Loaded, error) {
 // loadedOf returns the result of a call that loads rows.
 func loadedOf(number C.uint32_t, loaded *C.struct_antientropy_loaded) (Loaded, error) {
 	err := check(number)
-	if err == ErrRowBroken {
+	if errors.Is(err, ErrRowBroken) {
 		err = &RowError{Offset: uint64(loaded.offset)}
 	}
 	return Loaded{Taken: uint64(loaded.taken), Known: uint64(loaded.known)}, err

@@ -1,6 +1,6 @@
 package antientropy
 
-// A Scanner goes through items. Each is read when it is its turn:
+// A Scanner iterates over items. It reads each item when Next is called:
 //
 //	keys := replica.Keys()
 //	for keys.Next() {
@@ -43,7 +43,7 @@ func (s *Scanner[T]) Err() error {
 	return s.err
 }
 
-// All returns the items that remain. It returns those before a refusal with the refusal.
+// All returns the remaining items. At a refusal, it returns the items before it with the refusal.
 func (s *Scanner[T]) All() ([]T, error) {
 	var items []T
 	for s.Next() {

@@ -4,33 +4,35 @@ package antientropy
 import "C"
 
 import (
+	"context"
 	"runtime"
 	"sync"
 )
 
 // A Snapshot has the rows of a replica at one moment.
 //
-// It serves a partner's asks while the replica goes on, and may outlive the replica. Goroutines may share it, and read
-// it at once; by [Snapshot.Share] one has a snapshot of its own to close. A copy is the same snapshot.
+// It serves a partner's asks while the replica changes, and may outlive the replica. Goroutines may share it, and read
+// it concurrently; [Snapshot.Share] makes another one to close separately. A copy is the same snapshot.
 type Snapshot struct {
 	at      *snapshot
 	config  Config
 	entries uint64
 }
 
-// A snapshot is what a [Snapshot] and its copies share.
+// A snapshot is the state that a [Snapshot] and its copies share.
 type snapshot struct {
-	lock   sync.RWMutex // goroutines read at once
+	lock   sync.RWMutex // goroutines read concurrently
 	handle C.struct_antientropy_snapshot
+	weight weight
 }
 
-// Snapshot returns a snapshot of the rows now, which are held as a moment and hashed while other goroutines put. The
-// replica keeps no moment then.
+// Snapshot returns a snapshot of the current rows, which are held as a moment and hashed while other goroutines put.
+// The moment is dropped at the end.
 func (r *Replica) Snapshot() (*Snapshot, error) {
-	return atMoment(r.at, (*replica).moment)
+	return atMoment(context.Background(), r.at, (*replica).moment)
 }
 
-// SnapshotIfClean returns a snapshot of the rows now. Refused as [ErrDirty] if a node of the tree has no digest.
+// SnapshotIfClean returns a snapshot of the current rows. Refused as [ErrDirty] if a node of the tree has no digest.
 func (r *Replica) SnapshotIfClean() (*Snapshot, error) {
 	held := r.at.reading()
 	defer held.lock.RUnlock()
@@ -39,7 +41,7 @@ func (r *Replica) SnapshotIfClean() (*Snapshot, error) {
 		return nil, err
 	}
 	made := new(snapshot)
-	return made.owned(config, counts.Entries, C.antientropy_snapshot(&held.handle, &made.handle))
+	return made.owned(config, counts.Entries, held.weight.bytes, C.antientropy_snapshot(&held.handle, &made.handle))
 }
 
 // moment returns a snapshot of the moment. The caller holds the lock.
@@ -49,36 +51,37 @@ func (r *replica) moment() (*Snapshot, error) {
 		return nil, err
 	}
 	made := new(snapshot)
-	return made.owned(config, counts.Front, C.antientropy_moment(&r.handle, &made.handle))
+	return made.owned(config, counts.Front, r.weight.bytes, C.antientropy_moment(&r.handle, &made.handle))
 }
 
-// owned returns the snapshot, unless the call that makes it was refused. The garbage collector closes it, once no copy
-// is used.
-func (s *snapshot) owned(config Config, entries uint64, number C.uint32_t) (*Snapshot, error) {
+// owned returns the snapshot, unless the call that makes it was refused. The freer closes it, once no copy is used. It
+// weighs as much as its replica, since it may be the last one to hold the rows.
+func (s *snapshot) owned(config Config, entries uint64, weight int64, number C.uint32_t) (*Snapshot, error) {
 	if err := check(number); err != nil {
 		return nil, err
 	}
-	runtime.SetFinalizer(s, (*snapshot).close)
+	s.weight.set(weight)
+	runtime.SetFinalizer(s, func(s *snapshot) { collected.add(s.close) })
 	return &Snapshot{at: s, config: config, entries: entries}, nil
 }
 
-// Share returns another snapshot of the same rows, with a lock of its own. It copies no row. The rows are freed with
-// the last one.
+// Share returns another snapshot of the same rows, with a separate lock. It copies no row. The last one frees the rows.
 func (s *Snapshot) Share() (*Snapshot, error) {
 	held := s.at.reading()
 	defer held.lock.RUnlock()
 	made := new(snapshot)
-	return made.owned(s.config, s.entries, C.antientropy_snapshot_share(&held.handle, &made.handle))
+	number := C.antientropy_snapshot_share(&held.handle, &made.handle)
+	return made.owned(s.config, s.entries, held.weight.bytes, number)
 }
 
-// Close frees the memory, unless another snapshot shares the rows. Later calls are refused as [ErrEmpty], those of
-// copies too; another Close does nothing. The error is nil.
+// Close frees the memory, unless another snapshot shares the rows. Later calls are refused as [ErrEmpty], also on
+// copies; another Close does nothing. The error is nil.
 func (s *Snapshot) Close() error {
 	s.at.close()
 	return nil
 }
 
-// locked takes the lock, which its caller gives back. A snapshot that no call made holds nothing.
+// locked takes the lock, which the caller releases. A zero snapshot is empty.
 func (s *snapshot) locked() *snapshot {
 	if s == nil {
 		s = new(snapshot)
@@ -87,7 +90,7 @@ func (s *snapshot) locked() *snapshot {
 	return s
 }
 
-// reading takes the lock, which its caller gives back, for calls that only read.
+// reading takes the lock for calls that only read. The caller releases it.
 func (s *snapshot) reading() *snapshot {
 	if s == nil {
 		s = new(snapshot)
@@ -101,6 +104,7 @@ func (s *snapshot) close() {
 	held := s.locked()
 	defer held.lock.Unlock()
 	C.antientropy_snapshot_free(&held.handle)
+	held.weight.set(0)
 }
 
 // Config returns the numbers of the replica at the moment of the snapshot.
@@ -125,7 +129,7 @@ func (s *Snapshot) Bytes() (uint64, error) {
 	return uint64(bytes), err
 }
 
-// Entries returns the number of the next entry at the moment of the snapshot: a log goes on there.
+// Entries returns the number of the next entry at the moment of the snapshot: a log continues there.
 func (s *Snapshot) Entries() uint64 {
 	return s.entries
 }
@@ -152,7 +156,7 @@ func (s *Snapshot) Digest(depth uint8, index uint16) (Root, error) {
 	return digest, err
 }
 
-// Offer returns the message that offers the snapshot. The caller gives each of its offers a number.
+// Offer returns the message that offers the snapshot. The caller numbers its offers.
 func (s *Snapshot) Offer(number uint32) ([]byte, error) {
 	held := s.at.reading()
 	defer held.lock.RUnlock()

@@ -3,7 +3,7 @@ package antientropy_test
 import (
 	"testing"
 
-	"antientropy"
+	antientropy "example.org/antientropy/go"
 )
 
 // offered returns a snapshot of 50 keys, with its offer of number 7.

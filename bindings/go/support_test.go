@@ -1,12 +1,13 @@
 package antientropy_test
 
 import (
+	"context"
 	"errors"
 	"fmt"
 	"reflect"
 	"testing"
 
-	"antientropy"
+	antientropy "example.org/antientropy/go"
 )
 
 // must returns the result of a call that mustn't fail.
@@ -71,7 +72,7 @@ func live(node, counter uint64, value string) antientropy.Version {
 func clock(numbers ...uint64) antientropy.Clock {
 	pairs := antientropy.Clock{}
 	for i := 0; i < len(numbers); i += 2 {
-		pairs = append(pairs, antientropy.Pair{Node: numbers[i], Counter: numbers[i+1]})
+		pairs = append(pairs, antientropy.Pair{Node: antientropy.Node(numbers[i]), Counter: numbers[i+1]})
 	}
 	return pairs
 }
@@ -80,7 +81,7 @@ func clock(numbers ...uint64) antientropy.Clock {
 func clockOfNodes(nodes uint64) antientropy.Clock {
 	pairs := antientropy.Clock{}
 	for node := uint64(1); node <= nodes; node++ {
-		pairs = append(pairs, antientropy.Pair{Node: node, Counter: 1})
+		pairs = append(pairs, antientropy.Pair{Node: antientropy.Node(node), Counter: 1})
 	}
 	return pairs
 }
@@ -94,7 +95,7 @@ func crowd(r *antientropy.Replica, key string) {
 
 // reachOf returns the link to a partner that is called directly.
 func reachOf(snapshot *antientropy.Snapshot, number uint32) antientropy.Reach {
-	return func(asks [][]byte) ([][]byte, error) {
+	return func(_ context.Context, asks [][]byte) ([][]byte, error) {
 		answers := make([][]byte, len(asks))
 		for i, ask := range asks {
 			answers[i], _ = snapshot.Serve(number, ask)
@@ -105,14 +106,14 @@ func reachOf(snapshot *antientropy.Snapshot, number uint32) antientropy.Reach {
 
 // held is all that a replica holds.
 type held struct {
-	counts  antientropy.Counts
+	counts  antientropy.Stats
 	entries []antientropy.Entry
 	rows    []string
 }
 
 // stateOf returns all that a replica holds.
 func stateOf(r *antientropy.Replica) held {
-	counts := must(r.Count())
+	counts := must(r.Stats())
 	state := held{counts: counts, entries: must(r.Entries(counts.First).All())}
 	for _, key := range must(r.Keys().All()) {
 		row, _, err := r.Row(key)

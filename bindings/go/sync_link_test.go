@@ -2,29 +2,28 @@ package antientropy_test
 
 import (
 	"bytes"
+	"context"
 	"fmt"
 	"testing"
 	"time"
 
-	"antientropy"
+	antientropy "example.org/antientropy/go"
 )
 
-// Answers arrive 50 ms after their asks are sent.
+// A sync needs few round trips, since it sends many asks at a time: over a link with a delay of 50 ms, 20 of them take
+// a second.
 func TestASyncOverALongLink(t *testing.T) {
 	asker, partner := largePair(1_000)
 	snapshot := must(partner.Snapshot())
 	offer := must(snapshot.Offer(1))
-	start := time.Now()
-	synced := must(asker.Sync(2, offer, func(asks [][]byte) ([][]byte, error) {
-		arrival := time.Now().Add(50 * time.Millisecond)
-		answers, err := reachOf(snapshot, 1)(asks)
-		time.Sleep(time.Until(arrival))
-		return answers, err
+	reach, reached := reachOf(snapshot, 1), 0
+	synced := must(asker.Sync(context.Background(), 2, offer, func(ctx context.Context, asks [][]byte) ([][]byte, error) {
+		reached++
+		return reach(ctx, asks)
 	}))
-	took := time.Since(start)
 	equal(t, []any{synced.Report, synced.Accepted}, []any{antientropy.ReportFinished, uint64(1_000)})
-	if took > time.Second {
-		t.Errorf("the sync took %v", took)
+	if reached > 20 {
+		t.Errorf("the sync reached its partner %d times", reached)
 	}
 }
 
@@ -43,11 +42,11 @@ func largeLeaves() *antientropy.Replica {
 	return r
 }
 
-// A slowLink carries answers one after another, 10 MB in a second of a clock that is counted.
+// A slowLink carries answers in sequence, at 10 MB per second of simulated time.
 type slowLink struct {
 	exchange *antientropy.Exchange
 	snapshot *antientropy.Snapshot
-	asks     map[string]int // how often each was sent
+	asks     map[string]int // number of times each was sent
 	queue    [][]byte       // asks that wait for their answers
 	now      time.Duration
 }
@@ -65,8 +64,8 @@ func (l *slowLink) send() {
 	}
 }
 
-// receive brings the next answer, in pieces. An ask would be lost if no piece arrived in the time of the answers on
-// their way, and a second. (The estimate of the first leaves is 0, so that time begins anew with each piece.)
+// receive brings the next answer, in pieces. An ask would be lost if no piece arrived in the time of the answers in
+// flight plus a second. (The estimate of the first leaves is 0, so that time restarts with each piece.)
 func (l *slowLink) receive(t *testing.T) {
 	const piece = 1 << 20
 	answer := must(l.snapshot.Serve(7, l.queue[0]))

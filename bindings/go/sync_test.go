@@ -2,37 +2,38 @@ package antientropy_test
 
 import (
 	"bytes"
+	"context"
 	"crypto/sha256"
 	"errors"
 	"fmt"
 	"strings"
 	"testing"
 
-	"antientropy"
+	antientropy "example.org/antientropy/go"
 )
 
-// A link carries asks to a partner's snapshot, and may change the answers. It notes the lengths of the lists.
+// A link carries asks to a partner's snapshot, and may change the answers. It records the lengths of the lists.
 type link struct {
 	snapshot *antientropy.Snapshot
 	change   func(asks, answers [][]byte) ([][]byte, error)
 	rounds   []int
 }
 
-func (l *link) reach(asks [][]byte) ([][]byte, error) {
+func (l *link) reach(ctx context.Context, asks [][]byte) ([][]byte, error) {
 	if l.rounds = append(l.rounds, len(asks)); len(l.rounds) > 10_000 {
 		panic("the sync doesn't end")
 	}
-	answers, err := reachOf(l.snapshot, 1)(asks)
+	answers, err := reachOf(l.snapshot, 1)(ctx, asks)
 	if l.change != nil {
 		return l.change(asks, answers)
 	}
 	return answers, err
 }
 
-// sync takes what a partner has, over a link.
+// sync syncs from a partner, over a link.
 func (l *link) sync(r, partner *antientropy.Replica, bounds antientropy.Bounds) (antientropy.Synced, error) {
 	l.snapshot = must(partner.Snapshot())
-	return r.SyncWithin(bounds, 9, must(l.snapshot.Offer(1)), l.reach)
+	return r.SyncWithin(context.Background(), bounds, 9, must(l.snapshot.Offer(1)), l.reach)
 }
 
 // reversed changes the order of answers.
@@ -46,11 +47,11 @@ func reversed(_, answers [][]byte) ([][]byte, error) {
 // noSession checks that a replica keeps no session.
 func noSession(t *testing.T, r *antientropy.Replica) {
 	t.Helper()
-	counts := must(r.Count())
+	counts := must(r.Stats())
 	equal(t, []uint64{counts.Sessions, counts.OpenSessions}, []uint64{0, 0})
 }
 
-// syncFrom takes what a partner has.
+// syncFrom syncs from a partner.
 func syncFrom(r, partner *antientropy.Replica) (antientropy.Synced, error) {
 	return new(link).sync(r, partner, antientropy.DefaultBounds())
 }
@@ -58,7 +59,20 @@ func syncFrom(r, partner *antientropy.Replica) (antientropy.Synced, error) {
 // A sync without a reach opens no session, and hashes nothing.
 func TestASyncWithoutReach(t *testing.T) {
 	r, offer := filled(1), must(must(filled(2).Snapshot()).Offer(1))
-	unchanged(t, r, antientropy.ErrNoReach, func() error { _, err := r.Sync(9, offer, nil); return err })
+	unchanged(t, r, antientropy.ErrNoReach, func() error {
+		synced, err := r.Sync(context.Background(), 9, offer, nil)
+		equal(t, synced.Finished(), false)
+		return err
+	})
+}
+
+// A sync that opens no session isn't finished.
+func TestARefusedSync(t *testing.T) {
+	r, other := newReplica(), antientropy.Config{Format: 2, Bits: 1, Range: 1, Limit: 10}
+	offer := must(must(must(antientropy.NewReplica(other)).Snapshot()).Offer(1))
+	synced, err := r.Sync(context.Background(), 9, offer, reachOf(must(r.Snapshot()), 1))
+	refused(t, err, antientropy.ErrOtherRange)
+	equal(t, synced, antientropy.Synced{Report: antientropy.ReportWaiting})
 }
 
 func TestBothWays(t *testing.T) {
@@ -95,7 +109,7 @@ func TestAPartnerThatLies(t *testing.T) {
 	}}
 	synced := must(l.sync(b, filled(300), antientropy.Bounds{Bad: 5}))
 	equal(t, synced, antientropy.Synced{Report: antientropy.ReportTooManyBad, Asks: 6, Bad: 6})
-	equal(t, must(b.Count()).Entries, uint64(0))
+	equal(t, must(b.Stats()).Entries, uint64(0))
 }
 
 func TestALinkThatFails(t *testing.T) {
@@ -139,7 +153,7 @@ func longRows() (asker, partner *antientropy.Replica) {
 }
 
 // syncLongRows syncs them over a link that changes the patches. It returns the number of bytes of outlines and patches,
-// and of the answers in whose place they are.
+// and of the answers that they replace.
 func syncLongRows(t *testing.T, change func(patch []byte) []byte) (sent, answered int) {
 	t.Helper()
 	asker, partner := longRows()
@@ -160,7 +174,7 @@ func syncLongRows(t *testing.T, change func(patch []byte) []byte) (sent, answere
 	return sent, answered
 }
 
-// What both have doesn't travel.
+// Common versions aren't sent.
 func TestPatches(t *testing.T) {
 	sent, answered := syncLongRows(t, func(patch []byte) []byte { return patch })
 	if 3*sent >= answered {
@@ -183,7 +197,7 @@ func TestPlainAsks(t *testing.T) {
 	equal(t, must(l.sync(asker, partner, bounds)).Accepted, uint64(20))
 }
 
-// A partner is asked plainly if it lies in each patch, or refuses the outlines, as one does that doesn't know them.
+// Asks are plain if all the partner's patches are wrong, or if it refuses outlines, as an older partner does.
 func TestOutlinesWithoutATextCountAsNothing(t *testing.T) {
 	lie := func(patch []byte) []byte {
 		patch[len(patch)-1] ^= 1
@@ -196,7 +210,7 @@ func TestOutlinesWithoutATextCountAsNothing(t *testing.T) {
 	}
 }
 
-// Asks stop when the journal is full. What was taken before stays.
+// Asks stop when the journal is full. Versions taken before stay.
 func TestAFullJournal(t *testing.T) {
 	snapshot, offer := offered()
 	small := withLimit(10)
@@ -207,20 +221,21 @@ func TestAFullJournal(t *testing.T) {
 	check(exchange.GoOn())
 	equal(t, len(must(exchange.Asks())) > 0, true)
 	check(exchange.Close())
-	synced, err := small.Sync(9, offer, reachOf(snapshot, 7))
+	synced, err := small.Sync(context.Background(), 9, offer, reachOf(snapshot, 7))
 	refused(t, err, antientropy.ErrJournalFull)
 	taken := progress.Accepted + synced.Accepted
-	equal(t, []any{taken > 0, taken}, []any{true, must(small.Count()).Entries})
+	equal(t, []any{taken > 0, taken}, []any{true, must(small.Stats()).Entries})
 	noSession(t, small)
 }
 
-// A sync whose partner's text isn't a node's fails, and leaves no session.
+// A sync fails if a partner's text doesn't encode a node, and leaves no session.
 func TestASyncThatFails(t *testing.T) {
 	digest := sha256.Sum256([]byte("junk"))
 	offer := bytes.Join([][]byte{{1, 0, 0, 0, 1, 2, 0}, digest[:]}, nil)
 	answer := bytes.Join([][]byte{{3, 0, 0, 0, 1, 0, 0, 0, 0, 0, 0, 0, 0, 0, 0, 4}, []byte("junk")}, nil)
 	b := newReplica()
-	synced, err := b.Sync(9, offer, func([][]byte) ([][]byte, error) { return [][]byte{answer}, nil })
+	reach := func(context.Context, [][]byte) ([][]byte, error) { return [][]byte{answer}, nil }
+	synced, err := b.Sync(context.Background(), 9, offer, reach)
 	refused(t, err, antientropy.ErrNotCanonical)
 	equal(t, synced, antientropy.Synced{Report: antientropy.ReportFailed, Asks: 1})
 	noSession(t, b)

@@ -1,12 +1,14 @@
 package antientropy_test
 
 import (
+	"context"
 	"fmt"
 	"runtime"
+	"strings"
 	"sync"
 	"testing"
 
-	"antientropy"
+	antientropy "example.org/antientropy/go"
 )
 
 const (
@@ -15,7 +17,7 @@ const (
 )
 
 // putAll puts keys at a node, and reads each back.
-func putAll(t *testing.T, r *antientropy.Replica, node uint16) {
+func putAll(t *testing.T, r *antientropy.Replica, node antientropy.Node) {
 	for n := 0; n < puts; n++ {
 		key := fmt.Sprintf("%d of %d", n, node)
 		must(r.Put(node, []byte(key), []byte(key), nil))
@@ -26,7 +28,7 @@ func putAll(t *testing.T, r *antientropy.Replica, node uint16) {
 func TestGoroutinesShareAReplica(t *testing.T) {
 	r, other := newReplica(), newReplica()
 	var group sync.WaitGroup
-	for node := uint16(1); node <= writers; node++ {
+	for node := antientropy.Node(1); node <= writers; node++ {
 		node := node
 		group.Add(1)
 		go func() {
@@ -34,26 +36,26 @@ func TestGoroutinesShareAReplica(t *testing.T) {
 			putAll(t, r, node)
 		}()
 	}
-	for must(r.Count()).Entries < writers*puts {
+	for must(r.Stats()).Entries < writers*puts {
 		equal(t, must(syncFrom(other, r)).Finished(), true)
 	}
 	group.Wait()
 	must(syncFrom(other, r))
-	equal(t, []any{must(other.Count()).Entries, must(other.Root())}, []any{uint64(writers * puts), must(r.Root())})
+	equal(t, []any{must(other.Stats()).Entries, must(other.Root())}, []any{uint64(writers * puts), must(r.Root())})
 }
 
 // read returns the versions held for a key, by calls that must agree, while other goroutines read too.
 func read(t *testing.T, r *antientropy.Replica, key []byte) []antientropy.Version {
 	versions := must(r.Get(key))
-	for n, version := range versions {
-		value, _, found, err := r.Value(key, uint64(n))
-		equal(t, []any{string(value), found, err}, []any{string(key), true, nil})
+	for _, version := range versions {
+		row, found, err := r.Row(key)
+		equal(t, []any{strings.Contains(string(row), string(key)), found, err}, []any{true, true, nil})
 		equal(t, string(version.Value), string(key))
 	}
 	return versions
 }
 
-// Goroutines read a replica at once while another one puts, and then one snapshot of it.
+// Goroutines read a replica concurrently while another one puts, and then one snapshot of it.
 func TestGoroutinesReadAtOnce(t *testing.T) {
 	const readers = 4
 	r := newReplica()
@@ -105,13 +107,14 @@ func TestAGoroutineServesASnapshotWhileAnotherPuts(t *testing.T) {
 		putAll(t, a, 2)
 		close(done)
 	}()
-	synced := must(b.Sync(1, offer, func(some [][]byte) (answered [][]byte, err error) {
+	reach := func(_ context.Context, some [][]byte) (answered [][]byte, err error) {
 		for _, ask := range some {
 			asks <- ask
 			answered = append(answered, <-answers)
 		}
 		return answered, nil
-	}))
+	}
+	synced := must(b.Sync(context.Background(), 1, offer, reach))
 	close(asks)
 	<-done
 	equal(t, []any{synced.Accepted, must(b.Root())}, []any{uint64(puts), must(snapshot.Root())})

@@ -22,7 +22,7 @@ func Place(format, bits uint8, key []byte) (Spot, error) {
 }
 
 // Rehash hashes all nodes of the tree that have no digest. Other goroutines wait meanwhile. Only
-// [Replica.SnapshotIfClean] needs it.
+// [Replica.SnapshotIfClean] requires it.
 func (r *Replica) Rehash() error {
 	held := r.at.locked()
 	defer held.lock.Unlock()
@@ -30,7 +30,7 @@ func (r *Replica) Rehash() error {
 }
 
 // RehashSome hashes at most `most` of the nodes that have no digest though all their children have one. It returns the
-// number of nodes that have none then: repeat it until that is 0, and other goroutines make their calls between.
+// number of nodes still without one. Repeat it until it returns 0; other goroutines make their calls in between.
 func (r *Replica) RehashSome(most uint64) (left uint64, err error) {
 	var nodes C.uint64_t
 	held := r.at.locked()
@@ -39,7 +39,7 @@ func (r *Replica) RehashSome(most uint64) (left uint64, err error) {
 	return uint64(nodes), err
 }
 
-// Root returns the digest of the root now. The rows are held as a moment, and hashed while other goroutines put.
+// Root returns the digest of the current root. The rows are held as a moment, and hashed while other goroutines put.
 func (r *Replica) Root() (Root, error) {
 	snapshot, err := r.Snapshot()
 	if err != nil {

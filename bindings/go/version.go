@@ -9,7 +9,7 @@ type Kind uint8
 // Kinds of versions.
 const (
 	Live      Kind = C.ANTIENTROPY_LIVE      // the version has a value
-	Tombstone Kind = C.ANTIENTROPY_TOMBSTONE // the version says that the key was removed
+	Tombstone Kind = C.ANTIENTROPY_TOMBSTONE // the version marks the key as removed
 )
 
 // String returns the name of the kind.

@@ -1,13 +1,14 @@
-// Outage shows an outage and its repair: two replicas write apart, take over what they lack, and merge the key that both
+// Outage shows an outage and its repair: two replicas accept writes separately, sync, and merge the key that both
 // wrote.
 package main
 
 import (
+	"context"
 	"fmt"
 	"log"
 	"strings"
 
-	"antientropy"
+	antientropy "example.org/antientropy/go"
 )
 
 const (
@@ -23,11 +24,11 @@ func must[T any](result T, err error) T {
 	return result
 }
 
-// sync takes what the partner has. Here its snapshot is called directly; elsewhere the messages go over a network.
-func sync(replica, partner *antientropy.Replica, node uint16) antientropy.Synced {
+// sync syncs from the partner. Its snapshot is called directly here; in production the messages travel over a network.
+func sync(replica, partner *antientropy.Replica, node antientropy.Node) antientropy.Synced {
 	snapshot := must(partner.Snapshot())
 	defer snapshot.Close()
-	return must(replica.Sync(node, must(snapshot.Offer(1)), func(asks [][]byte) ([][]byte, error) {
+	return must(replica.Sync(context.Background(), node, must(snapshot.Offer(1)), func(_ context.Context, asks [][]byte) ([][]byte, error) {
 		answers := make([][]byte, len(asks))
 		for i, ask := range asks {
 			answers[i], _ = snapshot.Serve(1, ask) // nil if it is refused
@@ -36,7 +37,7 @@ func sync(replica, partner *antientropy.Replica, node uint16) antientropy.Synced
 	}))
 }
 
-// count returns a number of versions in words.
+// count formats a number of versions.
 func count(number uint64) string {
 	if number == 1 {
 		return "1 version"
