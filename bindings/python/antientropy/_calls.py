@@ -1,6 +1,6 @@
-"""Declarations of the calls of include/antientropy.h for ctypes.
+"""The raw calls: declarations of all calls of include/antientropy.h for ctypes.
 
-A struct that a call writes is an array of 64-bit words here, whose names are those of a tuple in `_values`.
+A struct that a call writes is an array of 64-bit words here, named by the fields of a tuple in `_values`.
 """
 
 from __future__ import annotations
@@ -10,19 +10,19 @@ from typing import Any, Dict, Tuple
 
 PREFIX = "antientropy_"
 
-#: What the name of a call by a share begins with, without the prefix.
+#: Prefix of the names of calls by a share, after the library's prefix.
 SHARE = "share_"
 
 #: Bytes of the longest key.
 KEY_MAX = 255
 
-#: The most pairs of a clock.
+#: Maximum number of pairs of a clock.
 CLOCK_MAX = 32
 
 #: Bytes of a digest.
 ROOT_LEN = 32
 
-#: Bytes of an ask. With room for no more, no ask is an outline.
+#: Bytes of an ask. In a buffer of this length, no ask is an outline.
 ASK_LEN = 8
 
 #: Bytes of the longest packed entry.
@@ -73,6 +73,10 @@ CALLS: Dict[str, Tuple[Any, Tuple[Any, ...]]] = {
     "read_offer": (c_uint32, (*_BYTES, *_STRUCT)),
     "load": (c_uint32, (*_HANDLE, *_BYTES, *_STRUCT)),
     "load_format": (c_uint32, (*_HANDLE, c_uint64, *_BYTES, *_STRUCT)),
+    "open": (c_uint32, (*_HANDLE, c_uint64, *_BYTES, *_NUMBER)),
+    "open_at_moment": (c_uint32, (*_HANDLE, c_uint64, *_BYTES, *_NUMBER)),
+    "take": (c_uint32, (*_HANDLE, c_uint64, c_uint32, *_BYTES, *_STRUCT)),
+    "cancel": (c_uint32, (*_HANDLE, c_uint64)),
     "drop_sessions": (c_uint32, _HANDLE),
     "exchange_open": (c_uint32, (*_HANDLE, *_HANDLE, c_uint64, *_BYTES, *_STRUCT)),
     "exchange_take": (c_uint32, (*_HANDLE, *_HANDLE, *_BYTES, *_STRUCT)),
@@ -101,7 +105,7 @@ CALLS: Dict[str, Tuple[Any, Tuple[Any, ...]]] = {
     "slots_adjust": (c_uint32, (*_HANDLE, c_uint64, *_STRUCT)),
     "slots_set_target": (c_uint32, (*_HANDLE, c_uint32)),
     "slots_count": (c_uint32, (*_HANDLE, *_STRUCT)),
-    # calls by shares: the handle is a copy, which the call alone uses
+    # calls by shares: the handle is a copy, which only the call uses
     "share_renew": (c_uint32, (*_HANDLE, *_HANDLE, c_uint64)),
     "share_renewal_begin": (c_uint32, (*_HANDLE, c_uint64, *_HANDLE)),
     "share_count": (c_uint32, (*_HANDLE, *_STRUCT)),
@@ -120,6 +124,11 @@ CALLS: Dict[str, Tuple[Any, Tuple[Any, ...]]] = {
     "share_entry_clock": (c_uint32, (*_HANDLE, c_uint64, *_OUT)),
     "share_entry_source": (c_uint32, (*_HANDLE, c_uint64, *_NUMBER)),
     "share_top_counter": (c_uint32, (*_HANDLE, c_uint64, *_BYTES, c_uint64, *_NUMBER)),
+    "share_outstanding": (c_uint32, (*_HANDLE, c_uint64, *_NUMBER)),
+    "share_ask_at": (c_uint32, (*_HANDLE, c_uint64, c_uint64, c_uint32, *_OUT)),
+    "share_ask": (c_uint32, (*_HANDLE, c_uint64, c_uint32, *_OUT)),
+    "share_outline_at": (c_uint32, (*_HANDLE, c_uint64, c_uint64, c_uint32, c_uint64, *_OUT)),
+    "share_session": (c_uint32, (*_HANDLE, c_uint64, *_NUMBER)),
     "share_take_portion": (c_uint32, (*_HANDLE, c_uint64, *_HANDLE)),
     "share_moment": (c_uint32, (*_HANDLE, *_HANDLE)),
     "share_snapshot": (c_uint32, (*_HANDLE, *_HANDLE)),
@@ -140,7 +149,7 @@ CALLS: Dict[str, Tuple[Any, Tuple[Any, ...]]] = {
     "share_exchange_left": (c_uint32, (*_HANDLE, *_HANDLE, c_uint64, *_STRUCT)),
 }
 
-#: What the names begin with of calls that have their own handle alone, and read a replica.
+#: Prefixes of the names of calls that change only their own handle, and read a replica.
 _BY_REPLICA = ("share_renewal_catch_up", "share_exchange")
 
 #: The calls that only read a handle, by their names without `share_`.

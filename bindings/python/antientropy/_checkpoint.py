@@ -6,7 +6,8 @@ from struct import Struct
 from typing import TYPE_CHECKING, BinaryIO, Callable
 
 from ._calls import ROOT_LEN
-from ._refused import BadRing, Crowded, OtherRange, RowBroken
+from ._damage import Damage, DamagedError
+from ._refused import CrowdedError, OtherRangeError, RowBrokenError
 
 if TYPE_CHECKING:
     from ._replica import Replica
@@ -32,15 +33,12 @@ def load(file: BinaryIO, new: Callable[[int, int, int], Replica]) -> Replica:
     """Return a replica with the rows of a checkpoint. `new` makes it for a format, bits and a range."""
     magic, tree_format, bits, number, root = _HEAD.unpack(_read(file, _HEAD.size))
     if magic != _MAGIC or tree_format not in _LEAVES:
-        raise ValueError("this is no checkpoint")
-    try:
-        replica = new(tree_format, bits, number)
-    except BadRing as refused:
-        raise ValueError(f"the limit, or bits {bits} and range {number} of the file, are refused") from refused
+        raise DamagedError(Damage.NOT_CHECKPOINT)
+    replica = new(tree_format, bits, number)
     try:
         _load_leaves(file, replica, _LEAVES[tree_format])
         if replica.root() != root:
-            raise ValueError("the checkpoint is damaged: its root differs")
+            raise DamagedError(Damage.ROOT)
     except BaseException:
         replica.close()
         raise
@@ -53,14 +51,14 @@ def _load_leaves(file: BinaryIO, replica: Replica, leaves: int) -> None:
         if rows:
             _load_rows(replica, leaf, rows)
     if file.read(1):
-        raise ValueError("the checkpoint is damaged: bytes follow its last leaf")
+        raise DamagedError(Damage.TOO_LONG)
 
 
 def _load_rows(replica: Replica, leaf: int, rows: bytes) -> None:
     try:
         replica.load_rows(rows)
-    except (RowBroken, OtherRange, Crowded) as refused:
-        raise ValueError(f"the checkpoint is damaged: the rows of leaf {leaf} are refused") from refused
+    except (RowBrokenError, OtherRangeError, CrowdedError) as refused:
+        raise DamagedError(Damage.LEAF, leaf) from refused
 
 
 def _read(file: BinaryIO, length: int) -> bytes:
@@ -69,14 +67,14 @@ def _read(file: BinaryIO, length: int) -> bytes:
     while length:
         piece = file.read(min(length, _PIECE))
         if not piece:
-            raise ValueError("the checkpoint is truncated, or a length in it is damaged")
+            raise DamagedError(Damage.TRUNCATED)
         pieces.append(piece)
         length -= len(piece)
     return b"".join(pieces)
 
 
 def _write(file: BinaryIO, data: bytes) -> None:
-    """Write all bytes: a file without a buffer may write fewer at once."""
+    """Write all bytes: an unbuffered file may write fewer at a time."""
     rest = memoryview(data)
     while rest:
         written = file.write(rest)

@@ -1,4 +1,4 @@
-"""Conversions between Python's values and those of C."""
+"""Conversions between Python values and C values."""
 
 from __future__ import annotations
 
@@ -11,7 +11,7 @@ from ._values import Clock, ClockLike, Kind
 #: An empty list of pairs: no pointer may be NULL.
 _NO_PAIRS = (c_uint64 * 2)()
 
-#: Numbers of the kinds: to read them from the enum is slow.
+#: Numbers of the kinds: reading them from the enum is slow.
 _LIVE, _TOMBSTONE = int(Kind.LIVE), int(Kind.TOMBSTONE)
 
 
@@ -28,7 +28,7 @@ def to_bytes(data: Any) -> bytes:
 
 
 def to_first(room: Any, length: int) -> bytes:
-    """Return the first bytes of an array of C."""
+    """Return the first bytes of a C array."""
     return bytes(room[:length])
 
 

@@ -1,4 +1,4 @@
-"""An exchange of a replica with a partner, and a whole sync by one."""
+"""An exchange of a replica with a partner, and a complete sync by one."""
 
 from __future__ import annotations
 
@@ -10,7 +10,7 @@ from ._calls import ASK_LEN, HandleStruct
 from ._convert import fits, to_bytes
 from ._handle import Handle
 from ._moment import at_moment
-from ._refused import NoVersion, Refused
+from ._refused import NoVersionError, AntientropyError
 from ._values import Bounds, Progress, Report, Synced, Verdict, VerdictKind
 
 if TYPE_CHECKING:
@@ -23,7 +23,7 @@ Reach = Callable[[List[bytes]], Iterable[Optional[bytes]]]
 def _leave(
     exchange: HandleStruct, replica: HandleStruct, orphans: List[HandleStruct], free: Callable[..., None]
 ) -> None:
-    """Leave an exchange to its replica, since this thread or another one may be in a call of that."""
+    """Leave an exchange to its replica, since this thread or another one may be in one of the replica's calls."""
     if replica.held:
         orphans.append(exchange)
     else:
@@ -31,11 +31,11 @@ def _leave(
 
 
 class Exchange(Handle):
-    """Carries on a sync with a partner: says which asks to send, and takes the answers in any order.
+    """A sync with a partner that the program polls: it returns the asks to send, and takes answers in any order.
 
     The program carries both, and no call waits for the partner. It lasts as long as the program wants, with puts and
     other calls of the replica in between; a renewal or a migration ends it. It has the lock of its replica, so several
-    threads may use it. Close it, or use it as a context manager: the replica closes one that was only collected when
+    threads may use it. Close it, or use it as a context manager: if it is only collected, the replica closes it when
     the next one is opened, or by `Replica.drop_sessions`.
     """
 
@@ -55,47 +55,51 @@ class Exchange(Handle):
         self._replica._call_held("exchange_open", self._at, *args)
 
     def asks(self) -> List[bytes]:
-        """Return the asks to send now. One may be an outline, to which the partner sends only what differs.
+        """Return the asks to send now. An ask may be an outline, which makes the partner send only the differences.
 
-        There is none if each outstanding node is on its way or was left, if the bounds leave no room, or if the
-        exchange has stopped or is over.
+        They are in flight from then on: send each of them, or lose it. The list is empty if each outstanding node is in
+        flight or was left, if the bounds allow no more, or if the exchange has stopped or is over.
         """
         with self._to_change():
             return list(iter(self._next_held, b""))
 
     def _next_held(self) -> bytes:
-        """Return the next ask to send, or no bytes if there is none now."""
+        """Return the next ask to send, or no bytes without one."""
         room = ASK_LEN if self._plain else None
         return self._bytes_held("share_exchange_next", self._replica._share(), room=room)
 
     def take(self, answer: bytes) -> Verdict:
         """Take a partner's answer, which isn't trusted, and judge it by the node that it names.
 
-        Answers may arrive in any order, late or twice.
+        Answers may arrive in any order, late or twice. Lose each ask whose time is over, even if some answer arrived
+        instead.
         """
         answer = to_bytes(answer)
         kind, cause, *counts = self._change_words(4, "exchange_take", self._replica._at, answer, len(answer))
         return Verdict(VerdictKind(kind), self._cause(cause), *counts)
 
     def lose(self, ask: bytes) -> None:
-        """Count an ask as lost if it is on its way, so that `asks` may return it again. Raises BadMessage."""
+        """Count an ask in flight as lost, so that `asks` may return it again. Raises BadMessageError."""
         ask = to_bytes(ask)
         self._call("exchange_lose", ask, len(ask))
 
     def go_on(self) -> None:
-        """Let asks be sent again after there was no room for an answer. Asks whose answers were refused are lost."""
+        """Resume after no space was left for an answer. Asks whose answers were refused are lost.
+
+        If the journal is full, close the exchange and renew the replica instead.
+        """
         self._call("exchange_go_on")
 
     def progress(self) -> Progress:
-        """Return how far the exchange is."""
+        """Return the report and the counts."""
         with self._lock:
             words = self._words_held(len(Progress._fields), "share_exchange_report", self._replica._share())
         return Progress(Report(words[0]), self._cause(words[1]), *words[2:])
 
     def left(self) -> List[int]:
-        """Return the leaves that were left, since a key in each of them is crowded."""
+        """Return the leaves that were left because a key in each of them is crowded: merge its versions."""
         leaves: List[int] = []
-        with self._lock, suppress(NoVersion):
+        with self._lock, suppress(NoVersionError):
             while True:
                 node = self._words_held(2, "share_exchange_left", self._replica._share(), len(leaves))
                 leaves.append(node[1])
@@ -104,7 +108,7 @@ class Exchange(Handle):
     def close(self) -> None:
         """Cancel the session if it is in progress, and drop it with the others that have ended.
 
-        Later calls are refused as Empty.
+        Later calls are refused as EmptyError.
         """
         with self._to_change():
             is_open = not self._library.exchange_close(self._at, self._replica._at)
@@ -117,12 +121,12 @@ class Exchange(Handle):
     def _freeing(self) -> Tuple[Any, ...]:
         return _leave, self._struct, self._replica._struct, self._replica._orphans, self._free_call
 
-    def _cause(self, number: int) -> Optional[Refused]:
+    def _cause(self, number: int) -> Optional[AntientropyError]:
         return self._library.refusal("exchange_take", number) if number else None
 
 
 def sync(replica: Replica, partner: int, offer: bytes, reach: Reach, bounds: Bounds) -> Synced:
-    """Take the versions of an offer that a replica lacks."""
+    """Take the versions that a replica is missing from an offer."""
     with Exchange(replica, partner, offer, bounds) as exchange:
         while asks := exchange.asks():
             for answer in reach(asks):

@@ -14,21 +14,24 @@ _OFFER_PARTS = Struct(f"=3Q{ROOT_LEN}s")
 
 
 def place(tree_format: int, bits: int, key: bytes) -> Spot:
-    """Return the range and the leaf of a key, in a ring of 2^bits ranges. Raises BadRing or BadKey."""
+    """Return the range and the leaf of a key, in a ring of 2^bits ranges. Raises BadRingError or BadKeyError."""
     key, words = to_bytes(key), (c_uint64 * 2)()
     current().check("place", fits(tree_format, 64), fits(bits, 64), key, len(key), words)
     return Spot(*words)
 
 
 def compare(first: ClockLike, second: ClockLike) -> Order:
-    """Compare two clocks. Raises BadClock or ClockFull."""
+    """Compare two clocks. Raises BadClockError or ClockFullError."""
     order = c_uint64()
     current().check("compare", *to_pairs(first), *to_pairs(second), byref(order))
     return Order(order.value)
 
 
 def merge(*clocks: ClockLike) -> Clock:
-    """Merge clocks, for the context of a put that replaces the versions of all. Raises BadClock or ClockFull."""
+    """Merge clocks, for the context of a put that replaces the versions of all these clocks.
+
+    Raises BadClockError or ClockFullError.
+    """
     merged: Clock = {}
     for clock in clocks:
         merged = _merge_two(merged, clock)
@@ -36,7 +39,7 @@ def merge(*clocks: ClockLike) -> Clock:
 
 
 def read_offer(offer: bytes) -> OfferParts:
-    """Return the parts of a partner's offer. Raises BadMessage if the bytes aren't an offer."""
+    """Return the parts of a partner's offer. Raises BadMessageError if the bytes aren't an offer."""
     offer, parts = to_bytes(offer), create_string_buffer(_OFFER_PARTS.size)
     current().check("read_offer", offer, len(offer), parts)
     return OfferParts(*_OFFER_PARTS.unpack(parts.raw))

@@ -18,7 +18,7 @@ Self = TypeVar("Self", bound="Handle")
 
 
 def refuse_change(name: str) -> NoReturn:
-    """Raise RuntimeError: a signal handler interrupted a call of an object of that class, and would change it."""
+    """Raise RuntimeError: a signal handler interrupted a call of an object of this class, and tried to change it."""
     raise RuntimeError(f"a signal handler interrupted a call of this {name}: it may only read")
 
 
@@ -38,8 +38,8 @@ class Handle:
     """A handle of the library, with a lock: one thread at a time is in a call of it.
 
     A signal handler may run while its own thread has the lock, before or after a call of the library, but not within
-    one. It may then read, since each call has results of its own, but not change anything: the method that it
-    interrupted may make several calls, which are to find the same.
+    one. It may then read, since each call has separate results, but not change anything: the method that it interrupted
+    may make several calls, which must find the same state.
 
     The names of methods that need the lock held by their caller end with `_held`.
     """
@@ -58,11 +58,11 @@ class Handle:
         self._finalizer.atexit = False  # the process ends, and another thread may be in a call
 
     def _freeing(self) -> Tuple[Any, ...]:
-        """Return the call that frees the memory of a closed or collected object, and its arguments, without that."""
+        """Return the call that frees a closed or collected object's memory, and its arguments, without the object."""
         return self._free_call, self._at
 
     def close(self) -> None:
-        """Free the memory. Later calls are refused as Empty."""
+        """Free the memory. Later calls are refused as EmptyError."""
         with self._to_change():
             self._finalizer()
 
@@ -124,7 +124,7 @@ class Handle:
             return self._bytes_held(call, *args)
 
     def _bytes_held(self, call: str, *args: Any, room: Optional[int] = None) -> bytes:
-        """Return the bytes that a call writes: at first into `room` bytes, or as many as there are if it is None."""
+        """Return the bytes that a call writes: first to a buffer of `room` bytes, or of any size if it is None."""
         function, results = getattr(self._library, call), self._take_results()
         need = byref(results.need)
         handle = self._share() if call in READS else self._at

@@ -1,4 +1,4 @@
-"""The shared library: where it is found, and its calls with their C types."""
+"""The shared library: its path, and its calls with their C types."""
 
 from __future__ import annotations
 
@@ -11,7 +11,7 @@ from typing import Any, Callable, Optional, Tuple, Union
 
 from ._calls import CALLS, PREFIX, READS, SHARE
 from ._convert import to_first
-from ._refused import Refused, class_of
+from ._refused import AntientropyError, class_of
 
 _MAJOR = 2
 _SONAME = f"libantientropy.so.{_MAJOR}"
@@ -23,7 +23,7 @@ _NUMBERS = range(1, 256)
 
 
 class Library:
-    """A loaded library. A call is bound at its first use, so a library may lack calls that aren't used.
+    """A loaded library. A call is bound at its first use, so unused calls may be missing in a library.
 
     A call that only reads a handle has its name without `share_`, and gets a copy of the handle.
     """
@@ -58,7 +58,7 @@ class Library:
         major, minor = divmod(rest, 100)
         return major, minor, patch
 
-    def refusal(self, call: str, number: int) -> Refused:
+    def refusal(self, call: str, number: int) -> AntientropyError:
         """Return the exception of a call that returned a number other than 0."""
         name = self.names.get(number, "")
         return class_of(name)(call, number, name)
@@ -79,12 +79,12 @@ class Library:
 
 
 _current: Optional[Library] = None
-#: A signal handler may load the library, too, while it is loaded.
+#: A signal handler may load the library while it is being loaded.
 _lock = RLock()
 
 
 def load_library(path: Union[str, os.PathLike[str]]) -> None:
-    """Load the library from a path. Everything that is made later uses it."""
+    """Load the library from a path. All objects made later use it."""
     global _current
     library = Library(os.fspath(path))
     with _lock:

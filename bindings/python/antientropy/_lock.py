@@ -1,4 +1,4 @@
-"""The lock of a handle: the extension's, whose calls take it too, or `RLock` if there is no extension."""
+"""The lock of a handle: the extension's, whose calls take it too, or `RLock` without the extension."""
 
 from __future__ import annotations
 

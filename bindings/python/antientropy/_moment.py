@@ -1,4 +1,4 @@
-"""The moment of a replica: its rows at a time, which are hashed in portions while the replica is in other calls."""
+"""The moment of a replica: its rows at one time, which are hashed in portions while other calls use the replica."""
 
 from __future__ import annotations
 
@@ -6,14 +6,14 @@ from threading import get_ident
 from typing import TYPE_CHECKING, Any, Callable, ContextManager, TypeVar
 
 from ._handle import Handle
-from ._refused import Dirty
+from ._refused import DirtyError
 
 if TYPE_CHECKING:
     from ._replica import Replica
 
 T = TypeVar("T")
 
-#: The most nodes of a portion.
+#: Maximum number of nodes in a portion.
 _NODES = 64
 
 
@@ -24,11 +24,11 @@ class _Portion(Handle):
 
 
 def at_moment(replica: Replica, lock: ContextManager[Any], use: Callable[[], T]) -> T:
-    """Hold the rows now as a moment, hash them, and return what `use` returns.
+    """Hold the current rows as a moment, hash them, and return the result of `use`.
 
     `use` is called with the replica's lock held, as soon as the moment is whole. The lock is free while nodes are
-    hashed. So another thread may hold a later moment meanwhile: then `use` finds that one. If another thread drops the
-    moment, another one is held.
+    hashed, so another thread may hold a later moment meanwhile, which `use` then finds. If another thread drops the
+    moment, a new one is held.
     """
     thread = get_ident()
     replica._moment_threads.append(thread)
@@ -49,16 +49,16 @@ def _hash_and_use(replica: Replica, lock: ContextManager[Any], use: Callable[[],
             if not replica._words_held(1, "install_portion", portion._at)[0]:
                 try:
                     return _use_held(replica, use)
-                except Dirty:
+                except DirtyError:
                     replica._call_held("hold")
             replica._call_held("take_portion", _NODES, portion._at)
 
 
 def _use_held(replica: Replica, use: Callable[[], T]) -> T:
-    """Return what `use` returns, and drop the moment.
+    """Return the result of `use`, and drop the moment.
 
-    Its rows stay with what `use` made, and no later hold frees them under the lock. A call of a signal handler leaves
-    its moment to the call that it interrupted.
+    Its rows stay with the result, and no later hold frees them under the lock. A call of a signal handler leaves its
+    moment to the call that it interrupted.
     """
     try:
         return use()

@@ -1,7 +1,7 @@
 /* The calls that a store makes for each key, as methods of a base of the class Replica, and the lock of all handles.
  *
  * ctypes loads the library and passes the addresses of these calls, so nothing is linked. Each method takes the lock of
- * the replica, as all others do. It keeps the GIL, since its call is short, and gives it back only while it waits for
+ * the replica, as all others do. It keeps the GIL, since its call is short, and releases it only while it waits for
  * the lock. A signal handler runs before or after a call of the library, or while its method waits.
  */
 #define PY_SSIZE_T_CLEAN
@@ -22,8 +22,8 @@ struct calls {
     __typeof__(&antientropy_share_count) count;
 };
 
-/* A lock that its thread may take again, as threading.RLock, whose methods take longer than a put. The GIL guards
- * `owner` and `count`: `owner` is the thread that has the lock, if `count` isn't 0. */
+/* A reentrant lock like threading.RLock, whose methods take longer than a put. The GIL guards `owner` and `count`:
+ * `owner` is the thread that has the lock, if `count` isn't 0. */
 typedef struct {
     PyObject_HEAD
     PyThread_type_lock lock;
@@ -97,7 +97,7 @@ static int take_pair(PyObject *item, struct antientropy_pair *pair)
     return status;
 }
 
-/* Takes the pairs of a list, which is no other code's. */
+/* Takes the pairs of a list, which no other code uses. */
 static int take_pairs(PyObject *list, struct input *to)
 {
     to->length = (size_t)PyList_GET_SIZE(list);
@@ -159,7 +159,7 @@ static int take_input(struct input *to, PyObject *key, PyObject *value, PyObject
 
 /* ---- to Python's values */
 
-/* Returns a struct of numbers as a named tuple. No cycle can have it, so the collector needn't look at it. */
+/* Returns a struct of numbers as a named tuple. It can't be part of a cycle, so the collector needn't track it. */
 static PyObject *numbers_of(PyTypeObject *type, const void *numbers, size_t size)
 {
     const uint64_t *words = numbers;
@@ -366,7 +366,7 @@ static int has_words(Py_ssize_t count, Py_ssize_t least, Py_ssize_t most)
     return 0;
 }
 
-/* Puts a version: the words are a node, a key, a value and maybe a context. */
+/* Puts a version: the arguments are a node, a key, a value and optionally a context. */
 static PyObject *put_by(Versions *self, PutCall put, const char *name, PyObject *const *words, Py_ssize_t count)
 {
     struct antientropy_receipt receipt;
@@ -399,7 +399,7 @@ static PyObject *put_unread(Versions *self, PyObject *const *words, Py_ssize_t c
     return put_by(self, self->calls.put, "put_unread", words, count);
 }
 
-/* Accepts a version: the words are a key, a clock and a value. */
+/* Accepts a version: the arguments are a key, a clock and a value. */
 static PyObject *accept(Versions *self, PyObject *const *words, Py_ssize_t count)
 {
     struct input in;
@@ -420,7 +420,7 @@ static PyObject *accept(Versions *self, PyObject *const *words, Py_ssize_t count
     return made;
 }
 
-/* Returns a version of a key, or None if there is no such one, and the number of versions. The lock is taken. */
+/* Returns a version of a key, or None for an unknown index, and the number of versions. The lock is taken. */
 static PyObject *read_at(Versions *self, const Py_buffer *key, uint64_t index, uint64_t *versions)
 {
     struct antientropy_replica share = *replica_of(self);
@@ -453,36 +453,6 @@ static PyObject *read_all(Versions *self, const Py_buffer *key)
     return list;
 }
 
-static PyObject *get(Versions *self, PyObject *key)
-{
-    Py_buffer view;
-    PyObject *list = NULL;
-    if (take_bytes(key, &view) < 0)
-        return NULL;
-    if (enter(self) == 0) {
-        list = read_all(self, &view);
-        leave(self);
-    }
-    PyBuffer_Release(&view);
-    return list;
-}
-
-/* Reads a version: the words are a key and an index. */
-static PyObject *read_one(Versions *self, PyObject *const *words, Py_ssize_t count)
-{
-    Py_buffer view;
-    uint64_t index, versions;
-    PyObject *version = NULL;
-    if (!has_words(count, 2, 2) || take_word(words[1], &index) < 0 || take_bytes(words[0], &view) < 0)
-        return NULL;
-    if (enter(self) == 0) {
-        version = read_at(self, &view, index, &versions);
-        leave(self);
-    }
-    PyBuffer_Release(&view);
-    return version;
-}
-
 /* Returns the text of a row. The lock is taken. */
 static PyObject *row_of(Versions *self, const Py_buffer *key)
 {
@@ -507,18 +477,29 @@ static PyObject *row_of(Versions *self, const Py_buffer *key)
     return NULL;
 }
 
-static PyObject *row(Versions *self, PyObject *key)
+/* Reads a key under the lock. */
+static PyObject *read_key(Versions *self, PyObject *key, PyObject *(*read)(Versions *, const Py_buffer *))
 {
     Py_buffer view;
-    PyObject *text = NULL;
+    PyObject *result = NULL;
     if (take_bytes(key, &view) < 0)
         return NULL;
     if (enter(self) == 0) {
-        text = row_of(self, &view);
+        result = read(self, &view);
         leave(self);
     }
     PyBuffer_Release(&view);
-    return text;
+    return result;
+}
+
+static PyObject *get(Versions *self, PyObject *key)
+{
+    return read_key(self, key, read_all);
+}
+
+static PyObject *row(Versions *self, PyObject *key)
+{
+    return read_key(self, key, row_of);
 }
 
 static PyObject *count(Versions *self, PyObject *Py_UNUSED(none))
@@ -554,8 +535,8 @@ static int copy_calls(PyObject *addresses, struct calls *to)
     return fits ? 0 : -1;
 }
 
-/* Binds a replica: the words are the addresses of the calls, its handle, its lock, the function that raises if a signal
- * handler would change it within a call, the one that makes a refusal, and the types of results. */
+/* Binds a replica: the arguments are the addresses of the calls, its handle, its lock, the function that raises if a
+ * signal handler would change it within a call, the one that makes a refusal, and the types of results. */
 static PyObject *bind(Versions *self, PyObject *words)
 {
     PyObject *addresses, *handle, *lock, *refuse_change, *refusal, *receipt, *version, *counts;
@@ -596,7 +577,6 @@ static PyMethodDef methods[] = {
     METHOD("_put_unread", put_unread, METH_FASTCALL),
     METHOD("_accept", accept, METH_FASTCALL),
     METHOD("_get", get, METH_O),
-    METHOD("_read", read_one, METH_FASTCALL),
     METHOD("_row", row, METH_O),
     METHOD("_count", count, METH_NOARGS),
     {NULL, NULL, 0, NULL},

@@ -1,4 +1,4 @@
-"""Packed entries: the texts of entries in one piece (docs/FORMATS.md, "Row texts")."""
+"""Packed entries: the concatenated texts of entries (docs/FORMATS.md, "Row texts")."""
 
 from __future__ import annotations
 
@@ -12,18 +12,19 @@ from ._values import Entry, Kind, Source
 
 #: The source of an entry, and the length of its key.
 _HEAD = Struct(">BH")
-#: The pairs of a clock of so many, and the length of the value.
+#: The pairs of a clock of that many, and the length of the value.
 _TAILS = [Struct(f">{'HQ' * pairs}I") for pairs in range(CLOCK_MAX + 1)]
 
 
 # pylint: disable-next=too-many-locals
 def unpack_entries(data: bytes, tree_format: int, number: int = 0) -> Iterator[Entry]:
-    """Yield the entries of packed ones of a format, as `Replica.packed_entries` returns them.
+    """Yield the entries in packed bytes of a format, as returned by `Replica.packed_entries`.
 
-    The first one gets the number. Raises ValueError if the bytes aren't whole entries: a log needs checksums, too.
+    The first one gets the number `number`. Raises ValueError if the bytes aren't whole entries: a log needs checksums,
+    too.
     """
     data = to_bytes(data)
-    # (names are local, and an entry of one pair makes few calls, for speed)
+    # (for speed, names are local, and an entry of one pair makes few calls)
     head, head_size, tails = _HEAD.unpack_from, _HEAD.size, [(tail.unpack_from, tail.size) for tail in _TAILS]
     sources, tombstone, new = tuple(Source), int(Kind.TOMBSTONE), tuple.__new__
     at, end, has_kind = 0, len(data), tree_format == 2

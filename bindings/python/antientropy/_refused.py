@@ -1,4 +1,4 @@
-"""The exception of a refused call, with a subclass for each cause."""
+"""The exceptions of refused calls: a base, with a subclass for each cause."""
 
 from __future__ import annotations
 
@@ -7,10 +7,11 @@ from typing import Dict, Optional, Tuple, Type
 from ._values import Receipt
 
 
-class Refused(Exception):
+class AntientropyError(Exception):
     """A call that the library refused. Except as the header says, it changed nothing.
 
-    Each cause has a subclass with the library's name of it. docs/FORMATS.md says what to do at each.
+    Each cause has a subclass with the library's name: StaleContextError for StaleContext. docs/FORMATS.md has the
+    remedy for each.
     """
 
     #: Name of the call without its prefix: "put" for antientropy_put.
@@ -21,7 +22,7 @@ class Refused(Exception):
     name: str
     #: Receipts of the puts before the refused one, if `Replica.put_many` raised it.
     done: Tuple[Receipt, ...] = ()
-    #: Offset of the broken field in bytes, if `Replica.load_rows` was refused as RowBroken.
+    #: Offset of the broken field in bytes, if `Replica.load_rows` was refused as RowBrokenError.
     offset: Optional[int] = None
 
     def __init_subclass__(cls) -> None:
@@ -37,133 +38,133 @@ class Refused(Exception):
         return f"{self.call}: {self.name or 'unknown'} ({self.number})"
 
 
-class BadClock(Refused):
-    """A node is 0, over 65,535 or there twice, or a counter is 0."""
+class BadClockError(AntientropyError):
+    """A node is 0, over 65,535 or repeated, or a counter is 0."""
 
 
-class ClockFull(Refused):
+class ClockFullError(AntientropyError):
     """The clock would have more than 32 pairs."""
 
 
-class CounterFull(Refused):
+class CounterFullError(AntientropyError):
     """The counter to raise is 2^64 - 1."""
 
 
-class BadKey(Refused):
+class BadKeyError(AntientropyError):
     """The key has no byte, or over 255."""
 
 
-class BadValue(Refused):
-    """The value is too long, or a tombstone is put in format 1."""
+class BadValueError(AntientropyError):
+    """Too long; a tombstone with a value, or in format 1; or an unknown kind."""
 
 
-class StaleContext(Refused):
-    """The context lacks a version that is held: read again, and merge the clocks."""
+class StaleContextError(AntientropyError):
+    """A held version has seen all of the new clock, or more of the node's puts than the context."""
 
 
-class Crowded(Refused):
+class CrowdedError(AntientropyError):
     """The key would have over 64 versions."""
 
 
-class JournalFull(Refused):
-    """The journal has no room for the entries, or a renewal has no numbers left."""
+class JournalFullError(AntientropyError):
+    """The entries don't fit into the journal, or a renewal has no numbers left."""
 
 
-class OtherRange(Refused):
-    """A key or an offer is of another range, or the rows are of two leaves."""
+class OtherRangeError(AntientropyError):
+    """A key or an offer belongs to another range, or the rows to two leaves."""
 
 
-class Dirty(Refused):
-    """Some node has no digest, or there is no moment."""
+class DirtyError(AntientropyError):
+    """Some node has no digest, or the replica has no moment."""
 
 
-class Stale(Refused):
-    """The replica isn't the one of the renewal."""
+class StaleError(AntientropyError):
+    """The replica isn't the renewal's: it was renewed or migrated meanwhile."""
 
 
-class UnknownSession(Refused):
+class UnknownSessionError(AntientropyError):
     """No session has this number."""
 
 
-class NotAsked(Refused):
+class NotAskedError(AntientropyError):
     """The node isn't outstanding."""
 
 
-class WrongDigest(Refused):
+class WrongDigestError(AntientropyError):
     """The text's digest isn't the expected one."""
 
 
-class NotCanonical(Refused):
-    """The digest is right, but the text isn't a node's: the session has failed."""
+class NotCanonicalError(AntientropyError):
+    """The digest matches, but the text isn't a node's: the session has failed."""
 
 
-class OtherFormat(Refused):
-    """The offer or the rows are of another format."""
+class OtherFormatError(AntientropyError):
+    """The offer or the rows have another format."""
 
 
-class SessionsFull(Refused):
-    """64 sessions are open, or 1,024 are kept."""
+class SessionsFullError(AntientropyError):
+    """64 sessions are open, or 1,024 are kept: drop the ended ones."""
 
 
-class NoSlot(Refused):
+class NoSlotError(AntientropyError):
     """No slot is free, or none is lent."""
 
 
-class ClockBack(Refused):
-    """The moment is before the greatest accepted one."""
+class ClockBackError(AntientropyError):
+    """The time is before the latest one accepted."""
 
 
-class UnknownHint(Refused):
+class UnknownHintError(AntientropyError):
     """No pending hint has this number, or no hint can have it."""
 
 
-class HintsFull(Refused):
+class HintsFullError(AntientropyError):
     """10,000 hints are pending, or the last number was used."""
 
 
-class Gone(Refused):
+class GoneError(AntientropyError):
     """The ask is for another offer."""
 
 
-class BadRing(Refused):
+class BadRingError(AntientropyError):
     """A format, or the numbers of a range or of slots, are outside the limits."""
 
 
-class RowBroken(Refused):
+class RowBrokenError(AntientropyError):
     """The bytes aren't texts of rows."""
 
 
-class BadMessage(Refused):
-    """The bytes aren't a message of the expected kind, or the tree has no such node."""
+class BadMessageError(AntientropyError):
+    """Not a message, not the expected kind, or a node that isn't in the tree."""
 
 
-class NoMemory(Refused):
-    """The library got no memory."""
+class NoMemoryError(AntientropyError):
+    """Malloc or realloc failed."""
 
 
-class Small(Refused):
-    """The room for a result is too small."""
+class SmallError(AntientropyError):
+    """The buffer is too small."""
 
 
-class Empty(Refused):
-    """The object was closed."""
+class EmptyError(AntientropyError):
+    """The handle is empty: the object was closed."""
 
 
-class Held(Refused):
-    """The handle holds something already."""
+class HeldError(AntientropyError):
+    """The handle isn't empty."""
 
 
-class NoVersion(Refused):
-    """There is no such version, entry or hint."""
+class NoVersionError(AntientropyError):
+    """No such version, entry, hint or leaf, or none follows."""
 
 
-class BadPosition(Refused):
-    """No entry is to be read from this number on: read the whole journal."""
+class BadPositionError(AntientropyError):
+    """Entries can't be read from this number on: read the whole journal."""
 
 
-_CLASSES: Dict[str, Type[Refused]] = {each.__name__: each for each in Refused.__subclasses__()}
+_CLASSES: Dict[str, Type[AntientropyError]] = {each.__name__: each for each in AntientropyError.__subclasses__()}
 
 
-def class_of(name: str) -> Type[Refused]:
-    """Return the subclass of a name, or `Refused` if there is none: a newer library may have more causes."""
-    return _CLASSES.get(name, Refused)
+def class_of(name: str) -> Type[AntientropyError]:
+    """Return the subclass for the name of a cause, or `AntientropyError`: a newer library may have more causes."""
+    return _CLASSES.get(f"{name}Error", AntientropyError)

@@ -1,4 +1,4 @@
-"""Renewals of a replica in its place, while other threads put."""
+"""Renewals of a replica in place, while other threads put."""
 
 from __future__ import annotations
 
@@ -9,28 +9,28 @@ from typing import TYPE_CHECKING, Tuple
 from ._convert import fits
 from ._handle import Handle
 from ._moment import at_moment
-from ._refused import Refused
+from ._refused import AntientropyError
 
 if TYPE_CHECKING:
     from ._replica import Replica
 
-#: The entries that a renewal accepts at once, at first.
+#: Initial number of entries that a renewal accepts at a time.
 _AT_ONCE = 64
 
-#: The most entries that a renewal leaves to its finish.
+#: Maximum number of entries that a renewal leaves to its finish.
 _FEW = 64
 
 
 class _Renewal(Handle):
-    """The new replica that is made beside the old one; after its finish the old one."""
+    """The new replica, which is built while the old one is in use; after its finish the old one."""
 
     _free = "renewal_free"
 
     def catch_up(self, replica: Replica) -> None:
         """Accept entries until few are left.
 
-        After each step the lock is left to others for as long, so that all puts that waited are made. If they outrun it
-        nevertheless, it accepts more at once and waits no more, so it ends.
+        After each step the lock is free for the same time, so that all waiting puts are made. If they still outrun it,
+        it accepts more at a time without waiting, so it ends.
         """
         most, outrun = _AT_ONCE, False
         left, took = self._catch_up_some(replica, most)
@@ -45,7 +45,7 @@ class _Renewal(Handle):
     def _catch_up_some(self, replica: Replica, most: int) -> Tuple[int, float]:
         """Accept the next entries.
 
-        Returns the number of those that are left, and the seconds for which it had the lock.
+        Returns the number of entries left, and the seconds for which it held the lock.
         """
         with replica._lock:
             begin = perf_counter()
@@ -54,7 +54,7 @@ class _Renewal(Handle):
 
 
 def renew_in_place(replica: Replica, limit: int) -> None:
-    """Renew a replica in its place."""
+    """Renew a replica in place."""
     fits(limit, 64)
     with _Renewal(replica._library) as renewal:
         to_change = replica._to_change()
@@ -67,12 +67,12 @@ def renew_in_place(replica: Replica, limit: int) -> None:
 
 
 class Keeper:
-    """Says when a replica is to be renewed, and lets a thread do that. The lock of the replica guards it."""
+    """Decides when a replica is to be renewed, and starts a thread for that. The lock of the replica guards it."""
 
     __slots__ = ("is_on", "_is_at_work", "_limit", "_first", "_held")
 
     def __init__(self) -> None:
-        #: False: the replica isn't renewed by itself.
+        #: False: the replica doesn't renew itself.
         self.is_on = False
         #: True while a thread renews.
         self._is_at_work = False
@@ -82,25 +82,25 @@ class Keeper:
         self._held = 0
 
     def start_held(self, replica: Replica) -> None:
-        """Renew the replica by itself from now on."""
+        """Make the replica renew itself from now on."""
         counts = replica.count()
         self.is_on, self._limit, self._first = True, counts.limit, counts.first
 
     def note_held(self, replica: Replica) -> None:
-        """Note the journal that a renewal left."""
+        """Record the journal's length after a renewal."""
         counts = replica.count()
         self._limit, self._first, self._held = counts.limit, counts.first, counts.entries - counts.first
 
     def is_due(self, entries: int) -> bool:
         """Return True if a renewal is due at a count of entries.
 
-        It is at nine tenths of the limit, once half of the room that the last renewal left is used.
+        That is at nine tenths of the limit, once half of the space that the last renewal left is used.
         """
         used, room = entries - self._first, self._limit - self._held
         return used * 10 >= self._limit * 9 and used > self._held and (used - self._held) * 2 >= room
 
     def renew_if_due(self, replica: Replica) -> None:
-        """Start a thread that renews the replica, if that is due at the count of entries now."""
+        """Start a thread that renews the replica, if that is due at the current count of entries."""
         if not self.is_on:
             return
         with replica._lock:
@@ -108,18 +108,18 @@ class Keeper:
                 self._is_at_work = True
                 try:
                     Thread(target=self._renew, args=(replica,), name="antientropy renewal", daemon=True).start()
-                except RuntimeError:  # (no thread can be started now: the next put tries again)
+                except RuntimeError: # (no thread can be started: the next put tries again)
                     self._is_at_work = False
 
     def _renew(self, replica: Replica) -> None:
         """Renew the replica.
 
-        A renewal that fails counts as one that has dropped no entry: another one is due when half of the room that is
-        left is used.
+        A failed renewal counts as one that has dropped no entry: the next one is due when half of the remaining space
+        is used.
         """
         try:
             renew_in_place(replica, self._limit)
-        except Refused:
+        except AntientropyError:
             with replica._lock:
                 if replica._struct.held:
                     self.note_held(replica)

@@ -11,13 +11,12 @@ from ._convert import fits, to_bytes, to_first
 from ._exchange import Exchange, Reach
 from ._library import Library, current
 from ._packed import unpack_entries
-from ._refused import Refused, RowBroken
+from ._refused import AntientropyError, RowBrokenError
 from ._renewal import Keeper, renew_in_place
 from ._snapshot import Snapshot
 from ._values import (
     Bounds,
     ByteCounts,
-    Clock,
     ClockLike,
     Counts,
     Entry,
@@ -36,7 +35,7 @@ _LIMIT = 1_000_000
 #: No entry has a greater number.
 _ALL = (1 << 64) - 1
 
-#: Bytes of packed entries that are read at once.
+#: Bytes of packed entries to read at a time.
 _PACKED_ROOM = 1 << 20
 
 
@@ -51,16 +50,17 @@ def _free_with_orphans(
 class Replica(Versions):
     """A replica of one range of a ring of 2^bits ranges, in format 1 or 2, with a journal of at most `limit` entries.
 
-    With `renew` the replica is renewed by itself, as `renew_in_place` does with its limit: a put, an acceptance, a load
-    or the end of an exchange that finds that it is due starts a daemon thread, one at a time. It is due when nine
-    tenths of the limit are used and also half of the room that the last renewal left: so a journal that its rows alone
-    fill isn't renewed for ever. A put raises JournalFull only if the last tenth is used before the renewal has ended.
-    A log that lacks entries of before a renewal gets BadPosition: it reads the whole journal then.
+    With `renew` the replica renews itself like `renew_in_place`, with its limit: a put, an acceptance, a load or the
+    end of an exchange that finds a renewal due starts a daemon thread, one at a time. It is due when nine tenths of the
+    limit are used, and half of the space that the last renewal left. This keeps a journal that its rows fill from being
+    renewed again and again. A put raises JournalFullError only if the last tenth is used before the renewal has ended,
+    or if the rows fill the journal. A log that missed entries before a renewal gets BadPositionError: it then reads the
+    whole journal.
 
-    Raises BadRing if a number is outside its limits. Several threads may use a replica.
+    Raises BadRingError if a number is outside its limits. Several threads may use a replica.
     """
 
-    # (`_prepare` calls that of the base)  pylint: disable-next=super-init-not-called
+    # (`_prepare` calls the base's) pylint: disable-next=super-init-not-called
     def __init__(
         self, tree_format: int = 2, bits: int = 0, range_number: int = 0, limit: int = _LIMIT, *, renew: bool = False
     ) -> None:
@@ -79,10 +79,10 @@ class Replica(Versions):
         *,
         renew: bool = False,
     ) -> Replica:
-        """Make a replica that finds keys by a hash with a seed of two words.
+        """Make a replica with a seed of two words for the hash of keys.
 
-        Random words make it hard for clients to choose keys with equal hashes, which are slow to find. Raises BadRing
-        if a number is outside its limits.
+        Random words make it hard for clients to choose keys with equal hashes, which are slow to find. Raises
+        BadRingError if a number is outside its limits.
         """
         made = cls.__new__(cls)
         made._prepare(current())
@@ -97,9 +97,9 @@ class Replica(Versions):
 
     def _prepare(self, library: Library) -> None:
         self._keeper = Keeper()
-        #: The threads that are in calls at a moment, once for each call.
+        #: The threads in calls at a moment, once for each call.
         self._moment_threads: List[int] = []
-        #: Exchanges that were collected, and not closed.
+        #: Exchanges that were collected without being closed.
         self._orphans: List[HandleStruct] = []
         super().__init__(library)
 
@@ -116,13 +116,14 @@ class Replica(Versions):
         self._library.drop_sessions(self._at)
 
     def renew(self, limit: int = _LIMIT) -> Replica:
-        """Return a new replica with the versions that are held: one entry for each, and no sessions.
+        """Return a new replica with the held versions: one entry for each, and no sessions.
 
-        This one is left unchanged: close it, and go on with the new one under the same node number. The numbers of
-        entries go on: both count as many, and the next entry gets a number that was never used. The new journal begins
-        at `count().first`. `renew_in_place` renews it while other threads put.
+        This replica is unchanged: close it, and use the new one under the same node number. Entry numbers continue:
+        both replicas have the same entry count, and the next entry gets a number that was never used. The new journal
+        begins at `count().first`. It takes time in proportion to the rows, and no put is made meanwhile:
+        `renew_in_place` renews the replica while other threads put.
 
-        Raises BadRing (the limit) or JournalFull (more versions are held than the limit).
+        Raises BadRingError (the limit) or JournalFullError (more versions are held than the limit).
         """
         renewed = type(self).__new__(type(self))
         with self._lock:
@@ -131,15 +132,15 @@ class Replica(Versions):
         return renewed
 
     def renew_in_place(self, limit: int = _LIMIT) -> None:
-        """Renew the replica as `renew` does, in its place, while other threads put.
+        """Renew the replica like `renew`, but in place, while other threads put.
 
-        It holds the rows now as a moment, as `snapshot` does, makes the new journal of them without the lock, and
-        accepts what was put meanwhile. Puts wait only for its steps under the lock: the last one accepts a few entries.
-        The sessions and the moment are gone then, so the report of an exchange is GONE. The numbers of entries go on:
-        those since the moment keep theirs, and a log that has all entries before it reads on.
+        It holds the current rows as a moment, like `snapshot`, builds the new journal from them without the lock, and
+        accepts the entries put meanwhile. Puts wait only for its steps under the lock: the last one accepts a few
+        entries. It drops the sessions and the moment, so the report of an exchange is GONE. Entry numbers continue:
+        entries since the moment keep theirs, and a log that has all earlier entries reads on.
 
-        Raises BadRing (the limit), JournalFull (more versions are held than the limit, or accepted meanwhile) or Stale
-        (another thread has renewed or migrated the replica meanwhile). It is unchanged then.
+        Raises BadRingError (the limit), JournalFullError (more versions are held than the limit, or accepted meanwhile)
+        or StaleError (another thread has renewed or migrated the replica meanwhile). A refusal leaves it unchanged.
         """
         renew_in_place(self, limit)
 
@@ -155,10 +156,10 @@ class Replica(Versions):
         return self._count()
 
     def count_bytes(self) -> ByteCounts:
-        """Return the size of the rows, of the journal and of what sessions keep.
+        """Return the size of the rows, of the journal and of the sessions' additional contents.
 
-        It looks at each chunk of 15 rows and at the digests of each session's leaves: call it once in some seconds, not
-        at each put.
+        It visits each chunk of 15 rows and the digests of each session's leaves: call it every few seconds, not at each
+        put.
         """
         return ByteCounts(*self._get_words(3, "bytes"))
 
@@ -179,27 +180,39 @@ class Replica(Versions):
 
     # ---- versions
 
-    def put(self, node: int, key: bytes, value: Optional[bytes], context: ClockLike = ()) -> Receipt:
-        """Put a value, or a tombstone for None, at a node, after a read, whose clocks are merged in the context.
+    def put(self, node: int, key: bytes, value: bytes, context: ClockLike = ()) -> Receipt:
+        """Put a value for a key at a node, after a read: the context is the merged clock of the versions read.
 
         The new version replaces every held version whose clock is at most its clock. The client has read each of these:
-        StaleContext means that a held version has a greater counter of the node than the context, so another client has
-        put in between. Read again then.
+        StaleContextError means that a held version has a greater counter of the node than the context, so another
+        client has put in between; read again.
 
-        Raises BadClock (also if the node is 0 or over 65,535), ClockFull, BadKey, BadValue, OtherRange, CounterFull,
-        StaleContext, Crowded or JournalFull.
+        Raises BadClockError (also if the node is 0 or over 65,535), ClockFullError, BadKeyError, BadValueError,
+        OtherRangeError, CounterFullError, StaleContextError, CrowdedError or JournalFullError.
         """
+        if value is None:
+            raise TypeError("a value has bytes: `delete` puts a tombstone")
         try:
             return self._put_read(node, key, value, context)
         finally:
             if self._keeper.is_on:
                 self._keeper.renew_if_due(self)
 
-    def put_unread(self, node: int, key: bytes, value: Optional[bytes], context: ClockLike = ()) -> Receipt:
-        """Put as `put` does, for a caller that has made its check itself.
+    def delete(self, node: int, key: bytes, context: ClockLike = ()) -> Receipt:
+        """Put a tombstone for a key. Raises the exceptions of `put`; in format 1 BadValueError."""
+        return self._put_and_renew(node, key, None, context)
 
-        The new version replaces even a held version that the client hasn't read. Raises what `put` raises, but
-        StaleContext only if a held version has seen all of the new version's clock.
+    def _put_and_renew(self, node: int, key: bytes, value: Optional[bytes], context: ClockLike = ()) -> Receipt:
+        try:
+            return self._put_read(node, key, value, context)
+        finally:
+            self._keeper.renew_if_due(self)
+
+    def put_unread(self, node: int, key: bytes, value: Optional[bytes], context: ClockLike = ()) -> Receipt:
+        """Put a value, or a tombstone for None, without the check of `put`, which the caller must make.
+
+        The new version replaces even a held version that the client hasn't read. Raises the exceptions of `put`, but
+        StaleContextError only if a held version's clock includes the new version's.
         """
         try:
             return self._put_unread(node, key, value, context)
@@ -207,18 +220,20 @@ class Replica(Versions):
             self._keeper.renew_if_due(self)
 
     def put_many(self, node: int, items: Iterable[Put]) -> List[Receipt]:
-        """Put each item at a node, in turn, and return the receipts. An item is a key, a value and maybe a context.
+        """Put each item at a node, in turn, and return the receipts.
 
-        At a refusal the puts before it stay: the exception has their receipts in `done`. Other threads may make calls
+        An item is a key, a value, or None for a tombstone, and optionally a context.
+
+        After a refusal the earlier puts stay: the exception has their receipts in `done`. Other threads may make calls
         between two puts, and `items` may read the replica.
         """
-        put = self.put if self._keeper.is_on else self._put_read
+        put = self._put_and_renew if self._keeper.is_on else self._put_read
         receipts: List[Receipt] = []
         for item in items:
             key, value, context = item if len(item) == 3 else (*item, ())
             try:
                 receipts.append(put(node, key, value, context))
-            except Refused as refused:
+            except AntientropyError as refused:
                 refused.done = tuple(receipts)
                 raise
         return receipts
@@ -226,7 +241,8 @@ class Replica(Versions):
     def accept(self, key: bytes, clock: ClockLike, value: Optional[bytes]) -> bool:
         """Accept a version of another replica, as a copy. Return False if it was known.
 
-        Raises BadClock, ClockFull, BadKey, BadValue, OtherRange, Crowded or JournalFull.
+        Raises BadClockError, ClockFullError, BadKeyError, BadValueError, OtherRangeError, CrowdedError or
+        JournalFullError.
         """
         try:
             return self._accept(key, clock, value)
@@ -234,48 +250,18 @@ class Replica(Versions):
             self._keeper.renew_if_due(self)
 
     def get(self, key: bytes) -> List[Version]:
-        """Return all versions held for a key, as they are at one moment. Several are concurrent."""
+        """Return all versions held for a key at one moment. Several versions are concurrent."""
         return self._get(key)
-
-    def versions(self, key: bytes) -> Iterator[Version]:
-        """Yield the versions held for a key, and read each when it is its turn: don't change the key meanwhile."""
-        key, index = to_bytes(key), 0
-        while (version := self._read(key, index)) is not None:
-            yield version
-            index += 1
-
-    def count_versions(self, key: bytes) -> int:
-        """Return the number of versions held for a key."""
-        key = to_bytes(key)
-        return self._get_words(1, "versions", key, len(key))[0]
-
-    def read(self, key: bytes, index: int) -> Version:
-        """Return one of the versions held for a key, by its index from 0. Raises NoVersion."""
-        version = self._read(key, index)
-        if version is None:
-            raise self._library.refusal("read", self._library.no_version)
-        return version
-
-    def value(self, key: bytes, index: int) -> Optional[bytes]:
-        """Return the value of one of the versions held for a key: None for a tombstone. Raises NoVersion."""
-        key = to_bytes(key)
-        with self._lock:
-            return self._value_held("value", key, len(key), fits(index, 64))
-
-    def clock(self, key: bytes, index: int) -> Clock:
-        """Return the clock of one of the versions held for a key. Raises NoVersion."""
-        key = to_bytes(key)
-        with self._lock:
-            return self._clock_held("clock", key, len(key), fits(index, 64))
 
     # ---- the journal
 
     def entries(self, start: Optional[int] = None) -> Iterator[Entry]:
         """Yield the entries of the journal, from a number on: without one, from the journal's first entry on.
 
-        A log reads from the number of its next entry, and lacks none after a renewal if it had all before. Raises
-        BadPosition if entries were missed, or if the number isn't one of this journal: it is over the count of entries,
-        or below that at the last renewal and not `count().first`. Read the whole journal then.
+        A log reads from the number of its next entry. A renewal skips no entry for a log that had all of them. Raises
+        BadPositionError if entries were missed, or if the number isn't one of this journal: it is over the count of
+        entries, or below the count at the last renewal and not `count().first`. After that error, read the whole
+        journal.
         """
         return self._entries_after(self.packed_entries(start))
 
@@ -285,10 +271,10 @@ class Replica(Versions):
             packed = self.packed_entries(packed.next)
 
     def packed_entries(self, start: Optional[int] = None, room: int = _PACKED_ROOM) -> Packed:
-        """Return entries as their texts, from a number on as `entries` yields them: go on at `next`.
+        """Return the texts of the entries from a number on, in the order of `entries`. Continue at `next`.
 
-        They are as many as fit in `room` bytes, but at least one: there is none only if none follows. Raises
-        BadPosition as `entries` does. `unpack_entries` yields the entries of the texts.
+        It returns the entries that fit in `room` bytes, but at least one, unless no entry follows. Raises
+        BadPositionError like `entries`. `unpack_entries` yields the entries of the texts.
         """
         with self._lock:
             about = self.about()
@@ -309,7 +295,7 @@ class Replica(Versions):
         return to_first(data, need.value), next_number.value
 
     def entry(self, number: int) -> Entry:
-        """Return an entry of the journal, by its number. Raises NoVersion."""
+        """Return an entry of the journal, by its number. Raises NoVersionError."""
         fits(number, 64)
         with self._lock:
             key = self._bytes_held("entry_key", number)
@@ -321,8 +307,8 @@ class Replica(Versions):
     def top_counter(self, node: int, key: bytes, entries: Optional[int] = None) -> int:
         """Return the greatest counter of a node in the clocks of a key's versions, or 0.
 
-        It is that of the journal's entries of numbers below `entries`, or of all. Raises BadClock if the node is 0 or
-        over 65,535.
+        It looks at the journal's entries of numbers below `entries`, or at all. Raises BadClockError if the node is 0
+        or over 65,535.
         """
         key, most = to_bytes(key), _ALL if entries is None else fits(entries, 64)
         return self._get_words(1, "top_counter", fits(node, 64), key, len(key), most)[0]
@@ -332,29 +318,29 @@ class Replica(Versions):
     def rehash(self) -> None:
         """Hash all nodes of the tree that have no digest.
 
-        Other threads wait meanwhile. Only `snapshot` needs it, if its `rehash` is False.
+        Other threads wait meanwhile. Only `snapshot` with a `rehash` of False requires it.
         """
         self._call("rehash")
 
     def rehash_some(self, most: int) -> int:
         """Hash at most `most` of the nodes that have no digest though all their children have one.
 
-        Returns the number of nodes that have none then. Repeat it until that is 0: other calls may come between.
+        Returns the number of nodes still without one. Repeat it until it returns 0; other calls may be made in between.
         """
         return self._change_words(1, "rehash_some", fits(most, 64))[0]
 
     def hold(self) -> None:
-        """Keep the rows now as the replica's moment, in the place of another one. No later call changes it.
+        """Keep the current rows as the replica's moment, in place of the previous one. No later call changes it.
 
-        While a moment is kept, the first change of each block of some rows copies the block. The next hold frees the
-        blocks that only this moment has, and other threads wait meanwhile: so drop the moment before its snapshot is
-        closed. `snapshot`, `root`, `save`, `exchange` and `sync` hold a moment in the place of another one, and drop it
-        before they return.
+        While a moment is kept, the first change in a block of rows copies the block. The next hold frees the blocks
+        that only this moment has, and other threads wait meanwhile. To avoid that, drop the moment before its snapshot
+        is closed. `snapshot`, `root`, `save`, `exchange` and `sync` hold a moment in place of the previous one, and
+        drop it before they return. They end even if puts never pause.
         """
         self._call("hold")
 
     def drop_moment(self) -> None:
-        """Let go of the moment, if there is one. Snapshots of it stay.
+        """Drop the moment, if any. Its snapshots stay valid.
 
         A `snapshot` or a `sync` that hashes the moment in another thread holds another one.
         """
@@ -363,41 +349,41 @@ class Replica(Versions):
     def hash_moment(self, most: int) -> int:
         """Hash at most `most` of the moment's nodes that have no digest though all their children have one.
 
-        Returns the number of its nodes that have none then: 0 if it is whole, or if there is no moment.
+        Returns the number of its nodes still without one: 0 if the moment is whole or doesn't exist.
         """
         return self._change_words(1, "hash_moment", fits(most, 64))[0]
 
     def moment(self) -> Snapshot:
-        """Return a snapshot of the moment. Raises Dirty if there is no moment, or if it isn't whole."""
+        """Return a snapshot of the moment. Raises DirtyError if it isn't whole or doesn't exist."""
         with self._lock:
             return Snapshot._of_moment_held(self)
 
     def snapshot(self, rehash: bool = True) -> Snapshot:
-        """Return a snapshot of the rows now, which are held as a moment and hashed while other threads put.
+        """Return a snapshot of the current rows, which are held as a moment and hashed while other threads put.
 
-        The replica keeps no moment then. If `rehash` is False it holds and drops no moment, and raises Dirty if a node
-        of the tree has no digest.
+        The moment is dropped at the end. If `rehash` is False, the call holds and drops no moment, and raises
+        DirtyError if a node of the tree has no digest.
         """
         return Snapshot(self, rehash)
 
     def root(self) -> bytes:
-        """Return the digest of the root now. Replicas of a range with equal roots hold the same versions."""
+        """Return the digest of the current root. Replicas of a range with equal roots hold the same versions."""
         with self.snapshot() as snapshot:
             return snapshot.root()
 
     def load_rows(self, rows: bytes) -> Loaded:
-        """Accept all versions in rows of one leaf as copies, or none. `Snapshot.rows` and `row` return such rows.
+        """Accept all versions in rows of one leaf, as returned by `Snapshot.rows` or `row`, as copies, or none of them.
 
-        Raises RowBroken, whose `offset` is that of the broken field, OtherRange, Crowded or JournalFull.
+        Raises RowBrokenError with the `offset` of the broken field, OtherRangeError, CrowdedError or JournalFullError.
         """
         return self._load_rows("load", to_bytes(rows))
 
     def load_format(self, tree_format: int, rows: bytes) -> Loaded:
-        """Accept all versions in rows of a format and of any leaves, in ascending order of key, as copies, or none.
+        """Accept all versions in rows of a format and any leaves, by ascending key, as copies, or none of them.
 
-        A replica of format 2 loads rows of format 1 too. Raises BadRing (the format is neither 1 nor 2), OtherFormat
-        (rows of format 2, replica of format 1), RowBroken, whose `offset` is that of the broken field, OtherRange,
-        Crowded or JournalFull.
+        A replica of format 2 loads rows of format 1 too. Raises BadRingError (the format is neither 1 nor 2),
+        OtherFormatError (rows of format 2, replica of format 1), RowBrokenError with the `offset` of the broken field,
+        OtherRangeError, CrowdedError or JournalFullError.
         """
         return self._load_rows("load_format", to_bytes(rows), fits(tree_format, 64))
 
@@ -405,7 +391,7 @@ class Replica(Versions):
         words = (c_uint64 * len(Loaded._fields + ("offset",)))()
         try:
             self._call(call, *numbers, rows, len(rows), words)
-        except RowBroken as refused:
+        except RowBrokenError as refused:
             refused.offset = words[2]
             raise
         finally:
@@ -413,9 +399,9 @@ class Replica(Versions):
         return Loaded(*words[:2])
 
     def save(self, file: BinaryIO) -> int:
-        """Write a checkpoint of the rows now (docs/FORMATS.md). Return the number of the first entry after it.
+        """Write a checkpoint of the current rows (docs/FORMATS.md). Return the number of the first entry after it.
 
-        Other threads may put meanwhile. The caller brings the file to its disk.
+        Other threads may put meanwhile. The caller syncs the file to its disk.
         """
         with self.snapshot() as snapshot:
             snapshot.save(file)
@@ -423,9 +409,11 @@ class Replica(Versions):
 
     @classmethod
     def load(cls, file: BinaryIO, limit: int = _LIMIT, *, renew: bool = False) -> Replica:
-        """Return a new replica with the rows of a checkpoint. Raises ValueError if the file is damaged.
+        """Return a new replica with the rows of a checkpoint. Raises DamagedError if the file is damaged.
 
-        The root finds damage, but no forged file. Check `format`, `bits` and `range` against the configuration.
+        The root detects damage, but not a forged file. Compare `format`, `bits` and `range` with the configuration.
+        Entries are numbered from 0: accept the logged ones, and save again. Raises BadRingError too (the limit, or the
+        file's range), and JournalFullError.
         """
 
         def new(tree_format: int, bits: int, range_number: int) -> Replica:
@@ -436,30 +424,31 @@ class Replica(Versions):
     # ---- exchanges
 
     def exchange(self, partner: int, offer: bytes, bounds: Bounds = Bounds()) -> Exchange:
-        """Open an exchange with a partner by its offer. If the roots are equal it is finished, and opens no session.
+        """Open an exchange with a partner by its offer. If the roots are equal, it is finished and opens no session.
 
-        It compares the rows now, which are held as a moment and hashed while other threads put.
+        It compares the current rows, which are held as a moment and hashed while other threads put.
 
-        Raises BadMessage, BadClock (the partner is over 65,535), OtherFormat, OtherRange or SessionsFull.
+        Raises BadMessageError, BadClockError (the partner is over 65,535), OtherFormatError, OtherRangeError or
+        SessionsFullError.
         """
         return Exchange(self, partner, offer, bounds)
 
     def drop_sessions(self) -> None:
-        """Drop the sessions that have ended, and the rows that they keep. Those of exchanges in progress stay.
+        """Drop the sessions that have ended, and the rows that they keep. Sessions of exchanges in progress stay.
 
-        Entries whose source is PARTNER have the source COPY then.
+        Entries whose source is PARTNER get the source COPY.
         """
         with self._to_change():
             self._close_orphans_held()
             self._call_held("drop_sessions")
 
     def sync(self, partner: int, offer: bytes, reach: Reach, bounds: Bounds = Bounds()) -> Synced:
-        """Take the versions of a partner's offer that this replica lacks: an exchange from its begin to its end.
+        """Take the versions that this replica is missing from a partner's offer, by a complete exchange.
 
         `reach` gets the asks to send, and returns the answers in any order: missing ones are None, or left out. At its
-        end, also by an exception, it drops the sessions that have ended, as `drop_sessions` does.
+        end, even by an exception, it drops the sessions that have ended, like `drop_sessions`.
 
-        Raises what `exchange` raises, NotCanonical, JournalFull or NoMemory, and what `reach` raises. The versions that
-        were taken stay.
+        Raises the exceptions of `exchange`, NotCanonicalError, JournalFullError or NoMemoryError, and the exceptions of
+        `reach`. The versions taken before stay.
         """
         return _exchange.sync(self, partner, offer, reach, bounds)

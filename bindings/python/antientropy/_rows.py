@@ -1,4 +1,4 @@
-"""The base of the classes whose rows are read by key."""
+"""The base class of objects whose rows are read by key."""
 
 from __future__ import annotations
 
@@ -8,7 +8,7 @@ from typing import Iterator
 from ._calls import KEY_MAX
 from ._convert import fits, to_bytes
 from ._handle import Handle
-from ._refused import BadMessage
+from ._refused import BadMessageError
 from ._values import About
 
 
@@ -23,11 +23,11 @@ class Rows(Handle):
     _get_about = ""
 
     def about(self) -> About:
-        """Return what a checkpoint or a log has to name: format, bits and range, and the number of the next entry."""
+        """Return the identity to store in a checkpoint or a log: format, bits, range and number of the next entry."""
         return About(*self._get_words(4, self._get_about))
 
     def row(self, key: bytes) -> bytes:
-        """Return the text of the row of a key (docs/FORMATS.md), or no bytes if none is held. Raises BadKey."""
+        """Return the text of the row of a key (docs/FORMATS.md), or no bytes if none is held. Raises BadKeyError."""
         return self._row(key)
 
     def _row(self, key: bytes) -> bytes:
@@ -35,17 +35,17 @@ class Rows(Handle):
         return self._get_bytes(self._get_row, key, len(key))
 
     def keys(self) -> Iterator[bytes]:
-        """Yield the keys, leaf by leaf. Keys that are put to a replica meanwhile are yielded if they lie ahead."""
+        """Yield the keys, leaf by leaf. Keys put to a replica meanwhile are included if the loop hasn't passed them."""
         leaf = 0
         while True:
             try:
                 yield from self.keys_of(leaf)
-            except BadMessage:
+            except BadMessageError:
                 return
             leaf += 1
 
     def keys_of(self, leaf: int) -> Iterator[bytes]:
-        """Yield the keys of a leaf in ascending order. Raises BadMessage if the tree has no such leaf."""
+        """Yield the keys of a leaf in ascending order. Raises BadMessageError if the tree has no such leaf."""
         fits(leaf, 64)
         key_next = getattr(self._library, self._next_key)
         key, length = create_string_buffer(KEY_MAX), c_uint64()

@@ -12,10 +12,10 @@ from ._values import SlotCounts
 
 
 class Slots(Handle):
-    """Slots: their target stays from the floor to the ceiling, and begins at the ceiling.
+    """Slots: their target stays between the floor and the ceiling, and starts at the ceiling.
 
-    The target falls if the latency of the foreground is above the threshold, in microseconds. Raises BadRing if the
-    numbers are outside their limits. Several threads may use slots.
+    The target falls if the latency of the foreground is above the threshold, in microseconds. Raises BadRingError if
+    the numbers are outside their limits. Several threads may use slots.
     """
 
     _free = "slots_free"
@@ -25,16 +25,16 @@ class Slots(Handle):
         self._call("slots_new", fits(floor, 32), fits(ceiling, 32), fits(threshold, 32))
 
     def lend(self) -> None:
-        """Lend a slot, before background work. Raises NoSlot if the slots lent reach the target."""
+        """Lend a slot, before background work. Raises NoSlotError if the slots lent reach the target."""
         self._call("slot_lend")
 
     def give_back(self) -> None:
-        """Give a slot back, after background work. Raises NoSlot if none is lent."""
+        """Give a slot back, after background work. Raises NoSlotError if none is lent."""
         self._call("slot_give_back")
 
     @contextmanager
     def lent(self) -> Iterator[None]:
-        """Lend a slot for the time of a `with` statement. Raises NoSlot."""
+        """Lend a slot for the duration of a `with` statement. Raises NoSlotError."""
         self.lend()
         try:
             yield
@@ -42,19 +42,19 @@ class Slots(Handle):
             self.give_back()
 
     def sample(self, moment: int, micros: int) -> None:
-        """Take the latency of a reply in microseconds, with its moment in milliseconds. Raises ClockBack."""
+        """Record the latency of a reply in microseconds, with its time in milliseconds. Raises ClockBackError."""
         self._call("slots_sample", fits(moment, 64), fits(micros, 32))
 
     def adjust(self, now: int) -> Optional[int]:
         """Set the target by the samples of the last minute. Return their 99th percentile in microseconds.
 
-        Without samples it returns None, and the target is left unchanged. Raises ClockBack.
+        Without samples it returns None, and the target is unchanged. Raises ClockBackError.
         """
         found, micros = self._change_words(2, "slots_adjust", fits(now, 64))
         return micros if found else None
 
     def set_target(self, target: int) -> None:
-        """Set the target. Slots that are lent stay lent. Raises BadRing."""
+        """Set the target. Slots that are lent stay lent. Raises BadRingError."""
         self._call("slots_set_target", fits(target, 32))
 
     def count(self) -> SlotCounts:

@@ -15,10 +15,10 @@ if TYPE_CHECKING:
 
 
 class Snapshot(Rows):
-    """The rows of a replica at one moment. It serves a partner's asks while the replica goes on, and may outlive it.
+    """The rows of a replica at one moment. It serves a partner's asks while the replica changes, and may outlive it.
 
     The rows are held as the replica's moment, and hashed in portions, so that other threads put meanwhile. If `rehash`
-    is False nothing is held or hashed, and a node of the replica's tree without a digest raises Dirty.
+    is False nothing is held or hashed, and a node of the replica's tree without a digest raises DirtyError.
     """
 
     _free, _get_row, _next_key = "snapshot_free", "snapshot_get", "snapshot_key_next"
@@ -28,7 +28,7 @@ class Snapshot(Rows):
     format: int
     bits: int
     range: int
-    #: Number of the replica's next entry at the moment of the snapshot: a log goes on there.
+    #: Number of the replica's next entry at the moment of the snapshot: a log continues there.
     entries: int
 
     def __init__(self, replica: Replica, rehash: bool = True) -> None:
@@ -56,9 +56,9 @@ class Snapshot(Rows):
         self.format, self.bits, self.range, self.entries = self.about()
 
     def share(self) -> Snapshot:
-        """Return another snapshot of the same rows, with a lock of its own. It copies no row.
+        """Return another snapshot of the same rows, with a separate lock. It copies no row.
 
-        Threads that each have one don't wait for each other. The rows are freed with the last one.
+        Threads with separate snapshots don't wait for each other. The last one frees the rows.
         """
         shared = type(self).__new__(type(self))
         Handle.__init__(shared, self._library)
@@ -76,23 +76,23 @@ class Snapshot(Rows):
         return self._get_bytes("root")
 
     def digest(self, depth: int, index: int) -> bytes:
-        """Return the digest of a node of the tree: 32 bytes. Raises BadMessage if the tree has no such node.
+        """Return the digest of a node of the tree: 32 bytes. Raises BadMessageError if the tree has no such node.
 
         The root is node 0 at depth 0. The leaves are at depth 2, or at 3 in format 2.
         """
         return self._get_bytes("digest", fits(depth, 64), fits(index, 64))
 
     def offer(self, number: int) -> bytes:
-        """Return the message that offers the snapshot. The caller gives each of its offers a number."""
+        """Return the message that offers the snapshot. The caller numbers its offers."""
         return self._get_bytes("offer", fits(number, 32))
 
     def serve(self, number: int, ask: bytes) -> bytes:
-        """Return the answer to a partner's ask for the offer of that number. Raises BadMessage or Gone."""
+        """Return the answer to a partner's ask for the offer of that number. Raises BadMessageError or GoneError."""
         ask = to_bytes(ask)
         return self._get_bytes("serve", fits(number, 32), ask, len(ask))
 
     def rows(self, leaf: int) -> bytes:
-        """Return the texts of the rows of a leaf. Raises BadMessage if the tree has no such leaf."""
+        """Return the texts of the rows of a leaf. Raises BadMessageError if the tree has no such leaf."""
         return self._get_bytes("rows", fits(leaf, 64))
 
     def save(self, file: BinaryIO) -> None:

@@ -6,7 +6,7 @@ from enum import IntEnum
 from typing import TYPE_CHECKING, Dict, Iterable, List, Mapping, NamedTuple, Optional, Tuple, Union
 
 if TYPE_CHECKING:
-    from ._refused import Refused
+    from ._refused import AntientropyError
 
 #: A clock that a call returns: the counter of each node, by rising node.
 Clock = Dict[int, int]
@@ -32,28 +32,39 @@ class Source(IntEnum):
 
 
 class VerdictKind(IntEnum):
-    """Kinds of verdicts of an exchange on an answer."""
+    """Kinds of verdicts of an exchange on an answer.
 
-    TAKEN = 0  # the session took it
-    LEFT = 1  # the leaf was left: a key in its text is crowded
-    BAD = 2  # it counts as bad
-    LATE = 3  # it is late or of another offer, or the exchange is over
-    REFUSED = 4  # there was no room for it
-    FAILED = 5  # the text isn't a node's: the session has failed
+    TAKEN: the session took it. LEFT: the leaf was left, since a key in its text is crowded. BAD: it counts as bad.
+    LATE: it is late or of another offer, or the exchange is over. REFUSED: no space was left for it. FAILED: the text
+    doesn't encode a node, so the session has failed.
+    """
+
+    TAKEN = 0
+    LEFT = 1
+    BAD = 2
+    LATE = 3
+    REFUSED = 4
+    FAILED = 5
 
 
 class Report(IntEnum):
-    """How far an exchange is."""
+    """State of an exchange.
 
-    FINISHED = 0  # the replica has seen each version of the offer
-    WAITING = 1  # some node is to be asked, or its ask is on its way
-    LEFT = 2  # only leaves that were left are outstanding
-    STOPPED = 3  # there was no room for an answer: go on, or close
+    FINISHED: the replica has seen each version of the offer. WAITING: an ask is in flight, or is still to be sent.
+    LEFT: only leaves that were left are outstanding. STOPPED: no space was left for an answer: call `go_on` or
+    `close`. TOO_MANY_BAD, TOO_MANY_LOST: more answers were bad, or asks lost, than the bounds allow. FAILED: the
+    session has failed. CLOSED: no call returns it. GONE: a renewal or a migration has ended the session.
+    """
+
+    FINISHED = 0
+    WAITING = 1
+    LEFT = 2
+    STOPPED = 3
     TOO_MANY_BAD = 4
     TOO_MANY_LOST = 5
-    FAILED = 6  # the session has failed
-    CLOSED = 7  # no call returns it
-    GONE = 8  # a renewal or a migration has ended the session
+    FAILED = 6
+    CLOSED = 7
+    GONE = 8
 
 
 class Order(IntEnum):
@@ -93,9 +104,9 @@ class Entry(NamedTuple):
 
 
 class Packed(NamedTuple):
-    """Entries of a journal as their texts, one after the other (docs/FORMATS.md, "Row texts").
+    """The concatenated texts of journal entries (docs/FORMATS.md, "Row texts").
 
-    `first` is the number of the first one, `next` the number after the last one, and `format` that of the texts.
+    `first` is the number of the first entry, `next` the number after the last one, and `format` the texts' format.
     """
 
     data: bytes
@@ -126,7 +137,7 @@ Put = Union[Tuple[bytes, Optional[bytes]], Tuple[bytes, Optional[bytes], ClockLi
 class Receipt(NamedTuple):
     """The result of a put: the entry's number, and the node's counter in the new version's clock.
 
-    The new clock is `{**context, node: receipt.counter}`. After a renewal the number may be that of another version.
+    The new clock is `{**context, node: receipt.counter}`. After a renewal the number may name another version.
     """
 
     number: int
@@ -152,9 +163,9 @@ class OfferParts(NamedTuple):
 class Bounds(NamedTuple):
     """The bounds of an exchange.
 
-    At most so many asks are on their way, and bytes of the answers to them, as far as they can be estimated; one ask
-    may always be. After more bad answers or lost asks the exchange is over. If `plain`, no ask is an outline: that
-    takes less of both processors, and more of the link.
+    `asks` and `bytes` are the maximum numbers of asks in flight and of estimated bytes of their answers; one ask is
+    always allowed. One more bad answer than `bad`, or lost ask than `lost`, ends the exchange. If `plain`, no ask is an
+    outline: that saves processor time on both sides, and sends more over the link.
     """
 
     asks: int = 256
@@ -167,24 +178,25 @@ class Bounds(NamedTuple):
 class Verdict(NamedTuple):
     """The verdict of an exchange on an answer, with the numbers of new and of known versions.
 
-    The cause is BadMessage, NotAsked or WrongDigest of a bad answer, and JournalFull or NoMemory of a refused one.
+    The cause is BadMessageError, NotAskedError or WrongDigestError of a bad answer, and JournalFullError or
+    NoMemoryError of a refused one.
     """
 
     verdict: VerdictKind
-    cause: Optional[Refused]
+    cause: Optional[AntientropyError]
     accepted: int
     known: int
 
 
 class Progress(NamedTuple):
-    """The report and the counts of an exchange. The cause is JournalFull or NoMemory if it is STOPPED.
+    """The report and the counts of an exchange. The cause is JournalFullError or NoMemoryError if it is STOPPED.
 
-    `asks` is the number of those that were sent, and `bytes_on_way` an estimate of the answers to those on their way.
-    `accepted`, `known` and `leaves` count new and known versions and leaves in the answers that were taken.
+    `asks` is the number of asks sent, and `bytes_on_way` the estimated bytes of the answers to those in flight.
+    `accepted`, `known` and `leaves` count new and known versions and leaves in the answers taken.
     """
 
     report: Report
-    cause: Optional[Refused]
+    cause: Optional[AntientropyError]
     asks: int
     on_way: int
     bytes_on_way: int
@@ -196,9 +208,9 @@ class Progress(NamedTuple):
 
 
 class Loaded(NamedTuple):
-    """The result of loading rows: numbers of new and of known versions."""
+    """The result of loading rows: numbers of accepted and of known versions."""
 
-    taken: int
+    accepted: int
     known: int
 
 
@@ -214,10 +226,10 @@ class About(NamedTuple):
 class Counts(NamedTuple):
     """Counts of a replica.
 
-    `entries` is the number of the next entry, and `first` that of the journal's first one: 0 before the first renewal.
-    The journal is full if `entries - first` is `limit`. `sessions` are those that are kept: at 1,024 no other can be
-    opened until ended ones are dropped. `front` is `entries` at the last moment that was whole, or `first` if none was
-    since the renewal.
+    `entries` is the number of the next entry, and `first` the number of the journal's first one: 0 before the first
+    renewal. The journal is full if `entries - first` is `limit`. `sessions` counts the sessions that are kept: at 1,024
+    no other can be opened until ended ones are dropped. `front` is `entries` at the last moment that was whole, or
+    `first` without one since the renewal.
     """
 
     entries: int
@@ -233,8 +245,8 @@ class ByteCounts(NamedTuple):
     """The size of a replica: lengths of contents in bytes. Its memory differs.
 
     `rows` are as `Snapshot.rows` returns them. `journal` is the keys, values and clocks of the entries from
-    `count().first` on, 10 bytes for each pair of a clock. `sessions` is what sessions keep in addition: the texts that
-    they took, and the leaves of their rows that have changed since or have no digest now.
+    `count().first` on, 10 bytes for each pair of a clock. `sessions` counts what sessions keep in addition: the texts
+    that they took, and the leaves of their rows that have changed since or have no digest now.
     """
 
     rows: int
@@ -260,7 +272,7 @@ class SlotCounts(NamedTuple):
 class Synced(NamedTuple):
     """The result of a sync: the report and the counts of its exchange.
 
-    `left` has the leaves that were left, since a key in each of them is crowded.
+    `left` lists the leaves that were left because a key in each of them is crowded.
     """
 
     report: Report

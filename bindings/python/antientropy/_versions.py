@@ -1,4 +1,4 @@
-"""The calls that a store makes for each key: by the C extension `_native`, or by ctypes if there is none."""
+"""The calls that a store makes for each key: by the C extension `_native`, or by ctypes without it."""
 
 from __future__ import annotations
 
@@ -60,18 +60,8 @@ class VersionsByCtypes(Rows):
             self._spare.append(results)
         return versions
 
-    def _read(self, key: bytes, index: int) -> Optional[Version]:
-        """Return a version of a key, or None if there is no such one."""
-        key = to_bytes(key)
-        fits(index, 64)
-        with self._lock:
-            results = self._take_results()
-            version = self._read_held(results, key, index)
-            self._spare.append(results)
-        return version
-
     def _read_held(self, results: Results, key: bytes, index: int) -> Optional[Version]:
-        """Read a version as `_read` does. The number of versions is in `results.reading`."""
+        """Return a version of a key, or None for an unknown index. `results.reading` has the number of versions."""
         reading, words, room = results.reading, results.words, results.room
         number = self._library.read(self._share(), key, len(key), index, reading, words, CLOCK_MAX, room, len(room))
         if not number:

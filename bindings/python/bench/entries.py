@@ -1,8 +1,8 @@
 #!/usr/bin/env python3
-"""Measures how many entries of a journal one thread reads in a second of processor time.
+"""Measures the number of journal entries that one thread reads per second of processor time.
 
-The word is the number of entries, 200000 by default. Each is the put of another key: keys have 10 bytes, values 32, and
-clocks one pair. Prints a line of JSON: the best of five runs.
+The argument is the number of entries, 200000 by default. Each is the put of another key: keys have 10 bytes, values 32,
+and clocks one pair. Prints a line of JSON: the best of five runs.
 """
 
 import json
@@ -16,7 +16,7 @@ RUNS = 5
 
 
 def measure(count: int, call: Callable[[], Any]) -> int:
-    """Return the number of entries a second of a function that reads `count` of them."""
+    """Return the entries per second of a function that reads `count` of them."""
     best = 0.0
     for _ in range(RUNS):
         start = time.process_time()

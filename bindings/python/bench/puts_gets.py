@@ -1,9 +1,10 @@
 #!/usr/bin/env python3
-"""Measures how many calls of the package one thread makes in a second, for bench/bindings.
+"""Measures the calls of the package that one thread makes, for bench/bindings.
 
-The words are the number of keys, 100000 by default, and the format, 1 by default. Keys have 10 bytes and values 32:
-they are made before, since Python takes longer for them than for a put. Of the results only the receipts of `put_many`
-are kept, since a list of all versions would cost more than the gets. Prints a line of JSON.
+The arguments are the number of keys, 100000 by default, and the format, 1 by default. Keys and values equal those in
+bench/puts_gets.c, and are prepared first. Of the results only the receipts of `put_many` are kept, since a list of all
+versions would cost more than the gets. Prints a line of JSON: calls per second of elapsed time, and the processor time
+of a call in nanoseconds.
 """
 
 import json
@@ -14,19 +15,20 @@ from typing import Any, Callable, Dict
 from antientropy import Replica
 
 
-def measure(calls: int, call: Callable[[], Any]) -> int:
-    """Return the number of calls a second of a function that makes `calls` calls."""
-    start = time.perf_counter()
-    call()
-    return round(calls / (time.perf_counter() - start))
-
-
 def main() -> None:
-    """Put the keys, one by one and at once, and get each."""
+    """Put the keys, one by one and by one `put_many`, and get each."""
     count = int(sys.argv[1]) if len(sys.argv) > 1 else 100_000
     tree_format = int(sys.argv[2]) if len(sys.argv) > 2 else 1
     items = [(b"key-%06d" % n, n.to_bytes(8, "big") * 4) for n in range(count)]
     figures: Dict[str, int] = {"keys": count}
+
+    def measure(rate: str, nanoseconds: str, call: Callable[[], Any]) -> None:
+        start, before = time.perf_counter(), time.process_time_ns()
+        call()
+        used, took = time.process_time_ns() - before, time.perf_counter() - start
+        figures[rate] = round(count / took)
+        figures[nanoseconds] = round(used / count)
+
     with Replica(tree_format) as replica:
 
         def puts() -> None:
@@ -37,12 +39,12 @@ def main() -> None:
             for key, _ in items:
                 read(key)
 
-        figures["puts_per_s"] = measure(count, puts)
-        figures["gets_per_s"] = measure(count, lambda: each(replica.get))
-        figures["rows_per_s"] = measure(count, lambda: each(replica.row))
+        measure("puts_per_s", "put_ns", puts)
+        measure("gets_per_s", "get_ns", lambda: each(replica.get))
+        measure("rows_per_s", "row_ns", lambda: each(replica.row))
         assert replica.get(items[-1][0])[0].value == items[-1][1]
     with Replica(tree_format) as replica:
-        figures["put_many_per_s"] = measure(count, lambda: replica.put_many(1, items))
+        measure("put_many_per_s", "put_many_ns", lambda: replica.put_many(1, items))
         assert replica.count().entries == count
     print(json.dumps(figures, separators=(",", ":")))
 

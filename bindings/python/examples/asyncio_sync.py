@@ -1,5 +1,5 @@
 #!/usr/bin/env python3
-"""A sync in asyncio: asks are coroutines, some at once, and an answer that is late is asked for again."""
+"""A sync in asyncio: asks are concurrent coroutines, and a late answer is asked for again."""
 
 import asyncio
 from typing import Awaitable, Callable
@@ -10,7 +10,7 @@ TIMEOUT = 1.0
 
 
 async def sync(replica: Replica, node: int, offer: bytes, reply_to: Callable[[bytes], Awaitable[bytes]]) -> Progress:
-    """Take the versions of a partner's offer that a replica lacks. `reply_to` awaits the partner's reply to an ask."""
+    """Take the versions that a replica is missing from an offer. `reply_to` awaits the partner's reply to an ask."""
     with await asyncio.to_thread(replica.exchange, node, offer) as exchange:
 
         async def take(ask: bytes) -> None:

@@ -1,8 +1,8 @@
 #!/usr/bin/env python3
 """Two processes with a replica each and a socket pair between them, over the C library.
 
-One goes on writing while the other takes over what it offers; then both have equal roots. The argument is the folder
-that ./build-c made (crates/antientropy_c/out, if none is named).
+One keeps writing while the other syncs from its offer; then both have equal roots. The argument is the folder that
+./build-c made, crates/antientropy_c/out by default.
 """
 
 import os
@@ -34,7 +34,7 @@ def receive(link: socket.socket) -> bytes:
 
 
 def reach_over(link: socket.socket) -> Callable[[List[bytes]], List[bytes]]:
-    """Return a function that sends asks to the partner at the other end, and returns its answers."""
+    """Return a function that sends asks to the partner over the socket, and returns its answers."""
 
     def reach(asks: List[bytes]) -> List[bytes]:
         for ask in asks:
@@ -60,7 +60,7 @@ def offer(
 
 
 def follow(link: socket.socket) -> None:
-    """Take over what the other process offers, and offer the rows at the end."""
+    """Sync from the other process, and offer the rows at the end."""
     with Replica(limit=100_000) as replica:
         for n in range(0, KEYS, 2):
             if n % LACKED:
@@ -73,7 +73,7 @@ def follow(link: socket.socket) -> None:
 
 
 def lead(link: socket.socket) -> None:
-    """Go on writing while the other process takes over the rows, and take over its rows at the end."""
+    """Keep writing while the other process syncs, and sync from it at the end."""
     written: List[Receipt] = []
 
     def write() -> None:

@@ -1,15 +1,15 @@
-"""The journal of a node in a file of SQLite, which can show whether it has all that was written.
+"""The journal of a node in an SQLite file, which can show that it has all written entries.
 
     FILE          the journal: a row for each entry, with its place, key, clock, kind, value and a checksum
-    FILE-wal      the log of SQLite: what was committed since its last checkpoint
-    FILE-noted    the place that the rows reach, at least
+    FILE-wal      the log of SQLite: the commits since its last checkpoint
+    FILE-noted    the place that the rows reach at least
 
-Places count all entries that were ever written: a renewal, which replaces all rows in one transaction, goes on with
+Places count all entries that were ever written: a renewal, which replaces all rows in one transaction, continues with
 the next place. SQLite takes a damaged frame of its log for the log's end, so a start compares: the rows must be whole,
 without a gap, and reach the noted place. Anything else raises `Doubt`.
 
-The note is written after each commit, before anything of it goes out, and synced at each checkpoint. After a crash of
-the process it is right. After a crash of the machine it may be behind, but is never ahead.
+The note is written after each commit, before anything of it is sent, and synced at each checkpoint. After a crash of
+the process it is exact. After a crash of the machine it may be behind, but is never ahead.
 """
 
 from __future__ import annotations
@@ -28,7 +28,7 @@ from antientropy import Clock, Entry, Kind
 
 Row = Tuple[int, bytes, str, int, bytes, bytes]
 
-#: What SQLite raises at a damaged file, and Python at a message of it.
+#: Exceptions of SQLite for a damaged file, and of Python for its messages.
 _UNREADABLE = (sqlite3.Error, UnicodeDecodeError)
 
 #: Entries between two checkpoints of SQLite's log.
@@ -42,7 +42,7 @@ _TABLES = (
 
 
 class Doubt(Exception):
-    """A file can't show that it has all that its store acknowledged: nothing is put under its node number again."""
+    """A file can't show that it has all acknowledged entries: nothing is put under its node number again."""
 
 
 class JournalFile:
@@ -115,7 +115,7 @@ class JournalFile:
             raise Doubt(f"the entries end at place {self.end}, but {self._noted} were on the disk")
 
     def settle(self) -> None:
-        """Bring to the disk what a killed process has left in the kernel's memory, and note the end."""
+        """Sync writes that a killed process has left in the kernel's memory, and note the end."""
         _sync(_log_of(self._path))
         _sync(self._path.parent)
         if self.end > self._noted:
@@ -128,7 +128,7 @@ class JournalFile:
                 raise
 
     def write(self, first: int, entries: Iterable[Entry], doubt: str) -> None:
-        """Write entries after those of the file, or in place of them if they begin at another place.
+        """Write entries after the file's, or in place of them if they begin at another place.
 
         It returns after an fsync and a note. If anything fails, it ends the process.
         """
@@ -154,7 +154,7 @@ class JournalFile:
         self.first, self.doubt, self.end = first, doubt, end
 
     def close(self) -> None:
-        """Close the file. SQLite makes a checkpoint then, and removes its log: that of a file in doubt is kept."""
+        """Close the file. SQLite makes a checkpoint, and removes its log, unless the file is in doubt."""
         if self._is_whole:
             self._note.sync()
         else:
@@ -169,9 +169,9 @@ class JournalFile:
 
 
 class _Note:
-    """The file of the place that a node's entries reach, at least: it may be behind them, but is never ahead.
+    """A file with the place that a node's entries reach at least: it may be behind them, but is never ahead.
 
-    Its two slots are written in turns, so a write that a crash of the machine has torn leaves the other one.
+    Its two slots are written in turn, so a write torn by a crash of the machine leaves the other one intact.
     """
 
     _FORM = Struct(">QQ8s")
@@ -209,7 +209,7 @@ class _Note:
         self._turn = 1 - self._turn
 
     def sync(self) -> None:
-        """Bring the note to the disk."""
+        """Sync the note to the disk."""
         if not self._file.closed:
             os.fsync(self._file)
 
@@ -240,7 +240,7 @@ def salvage(path: Path) -> Tuple[Set[int], List[Tuple[bytes, Clock, Optional[byt
 
 
 def _open(path: Path, mode: str) -> sqlite3.Connection:
-    """Open a file for this process alone. A commit returns after an fsync. Raises Doubt if SQLite can't read it."""
+    """Open a file for this process only. A commit returns after an fsync. Raises Doubt if SQLite can't read it."""
     if mode == "rw" and path.stat().st_size == 0:
         raise Doubt("the file is empty")
     place = f"{path.absolute().as_uri()}?mode={mode}"
@@ -325,7 +325,7 @@ def _log_of(path: Path) -> Path:
 
 
 def _keep_log(path: Path) -> None:
-    """Keep the log under another name: SQLite removes it at the close, with what it couldn't read."""
+    """Keep the log under another name: SQLite removes it at the close, with the data that it couldn't read."""
     log = _log_of(path)
     with suppress(OSError):
         if log.stat().st_size > 0:
@@ -333,7 +333,7 @@ def _keep_log(path: Path) -> None:
 
 
 def _sync(path: Path) -> None:
-    """Bring a file or a folder to the disk, if it is there."""
+    """Sync a file or a folder to the disk, if it exists."""
     with suppress(FileNotFoundError):
         file = os.open(path, os.O_RDONLY)
         try:

@@ -5,7 +5,7 @@
     line_server.py serve FILE [LIMIT]                            answers the lines of standard input, until that ends
     line_server.py renumber OLD FILE NODE [FORMAT BITS RANGE]    makes a file of what is readable of an old one
 
-`serve` never makes a file: a node that lost its file would begin its counters anew, and needs another number.
+`serve` never makes a file: a node that lost its file would restart its counters, and needs another number.
 """
 
 from __future__ import annotations
@@ -37,8 +37,8 @@ class Call(NamedTuple):
 class LineServer:
     """Answers requests by a store. A request is a line with a JSON list: the name of a call, and its arguments.
 
-    So is an answer a line of JSON. Bytes are in hexadecimal, clocks are lists of pairs. A call that isn't made is
-    answered by its cause, {"refused": "StaleContext"} say, or "BadLine" if the line isn't a request. Within a sync the
+    Each answer is a line of JSON, too. Bytes are in hexadecimal, clocks are lists of pairs. The answer to a refused
+    call has its cause, such as {"refused": "StaleContext"}, or "BadLine" if the line isn't a request. During a sync the
     server writes a list of asks, and reads the list of the partner's answers: null for a missing one. Entries from null
     on are the whole journal.
     """
@@ -59,7 +59,7 @@ class LineServer:
         }
 
     def run(self) -> None:
-        """Answer until the lines end. The first line that it writes has the number of the node."""
+        """Answer until the lines end. The first output line has the number of the node."""
         self._say(self._store.node)
         for line in self._lines:
             self._say(self._answer(line))
@@ -71,13 +71,13 @@ class LineServer:
             return {"refused": "BadLine"}
         try:
             return call(*args)
-        except antientropy.Refused as refused:
+        except antientropy.AntientropyError as refused:
             return {"refused": refused.name}
         except Doubt as doubt:
             return {"refused": "Doubt", "why": str(doubt)}
 
     def _read_request(self, line: str) -> Tuple[Callable[..., Any], List[Any]]:
-        """Return a call with its arguments. Raises ValueError if the line has none."""
+        """Return a call with its arguments. Raises ValueError if the line isn't a call."""
         name, *args = _read_list(json.loads(line))
         call = self._calls.get(_read_text(name))
         if call is None or len(args) != len(call.readers):
@@ -114,7 +114,7 @@ class LineServer:
         return self._store.sync(partner, offer, self._reach).accepted
 
     def _reach(self, asks: List[bytes]) -> List[Optional[bytes]]:
-        """Bring asks to the partner. A line that isn't a list of answers has none."""
+        """Send asks to the partner. A line that isn't a list of answers counts as an empty one."""
         self._say([ask.hex() for ask in asks])
         try:
             return [_read_value(answer) for answer in _read_list(json.loads(next(self._lines, "[]")))]
@@ -126,7 +126,7 @@ def _to_json(version: Version) -> List[Any]:
     return [list(version.clock.items()), None if version.value is None else version.value.hex()]
 
 
-# ---- what a line has: each function raises ValueError if it isn't that
+# ---- the parts of a line: each function raises ValueError for another value
 
 
 def _read_list(said: Any) -> List[Any]:
@@ -168,7 +168,7 @@ def _read_asks(said: Any) -> List[bytes]:
 
 
 def start(call: str, path: str, *words: str) -> Optional[SqliteStore]:
-    """Do what a command says. Return the store, if it is to be served."""
+    """Run a command. Return the store, if it is to be served."""
     if call == "create":
         SqliteStore.create(Path(path), *map(int, words))
     elif call == "renumber":
@@ -183,14 +183,14 @@ def start(call: str, path: str, *words: str) -> Optional[SqliteStore]:
 
 
 def main() -> None:
-    """Make, renumber or serve a store, or say in one line why it can't."""
+    """Make, renumber or serve a store, or print the reason for a failure in one line."""
     if isinstance(sys.stdin, TextIOWrapper):
         sys.stdin.reconfigure(errors="replace")
     try:
         store = start(*sys.argv[1:])
     except Doubt as doubt:
         sys.exit(f"{sys.argv[2]} is in doubt, and its number isn't used again: {doubt}")
-    except (OSError, ValueError, sqlite3.Error, antientropy.Refused) as error:
+    except (OSError, ValueError, sqlite3.Error, antientropy.AntientropyError) as error:
         sys.exit(f"{sys.argv[2]}: {error}")
     if store is not None:
         with closing(store):

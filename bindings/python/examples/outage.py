@@ -1,5 +1,5 @@
 #!/usr/bin/env python3
-"""An outage and its repair: two replicas write apart, take over what they lack, and merge the key that both wrote."""
+"""An outage and its repair: two replicas accept writes separately, sync, and merge the key that both wrote."""
 
 from antientropy import Replica, Synced, merge
 
@@ -7,13 +7,13 @@ A, B = 1, 2
 
 
 def sync(replica: Replica, partner: Replica, node: int) -> Synced:
-    """Take what the partner has. Here its snapshot is called directly; elsewhere the messages go over a network."""
+    """Sync from the partner. Its snapshot is called directly here; in production the messages travel over a network."""
     with partner.snapshot() as snapshot:
         return replica.sync(node, snapshot.offer(1), lambda asks: [snapshot.serve(1, ask) for ask in asks])
 
 
 def count(number: int) -> str:
-    """Return a number of versions in words."""
+    """Format a number of versions."""
     return f"{number} version" if number == 1 else f"{number} versions"
 
 
@@ -28,7 +28,7 @@ def values(replica: Replica, key: bytes) -> str:
 
 
 def main() -> None:
-    """Print what happens."""
+    """Run the example."""
     with Replica() as a, Replica() as b:
         a.put(A, b"order", b"paid")
         sync(b, a, A)

@@ -1,14 +1,14 @@
-"""A durable store: a replica whose journal is kept in SQLite, and which comes back from it under its node number.
+"""A durable store: a replica whose journal is kept in SQLite, and restored from it under its node number.
 
-A call returns after all that it can show is in the file (`journal_file.py`), and on the disk: so whatever goes out is,
-answers, copies, hints and snapshots. Threads that wait for the disk share one transaction and one fsync. If that fails,
-the process ends, since its memory is ahead of the disk. A store starts on a full disk, and can be read there; a put
-that finds no room ends the process, and nothing is lost.
+A call returns once everything that it can show is in the file (`journal_file.py`) and on the disk, so everything sent
+is on the disk: results, copies, hints and snapshots. Threads that wait for the disk share one transaction and one
+fsync. If that fails, the process ends, since its memory is ahead of the disk. A store starts on a full disk, and can be
+read there; a put without disk space ends the process, and nothing is lost.
 
-A store that starts accepts the entries of its file by rising place, and then has the counters that it had. The start
-raises `Doubt` if the file can't show that it has all that was acknowledged. Then `SqliteStore.renumber` goes on with
-what is readable, under a number that was never used. After a crash of the machine only a partner can show that the end
-of the file is lost. So sync from all partners that can be reached before the first put of a start.
+A starting store accepts the entries of its file by rising place, which restores its counters. The start raises `Doubt`
+if the file can't show that it has all acknowledged entries. `SqliteStore.renumber` then keeps the readable ones, under
+a number that was never used. After a crash of the machine only a partner can show that the end of the file is lost, so
+sync from all reachable partners before the first put of a start.
 
 `line_server.py` is a program with a store.
 """
@@ -34,14 +34,14 @@ _LIMIT = 1_000_000
 class SqliteStore:
     """A replica of a node, with its journal in a file.
 
-    Several threads may use a store, but one process alone: a second one is refused as sqlite3.OperationalError. Before
-    the first put of a start, call `sync` for each partner that can be reached.
+    Several threads may use a store, but only one process: a second one is refused as sqlite3.OperationalError. Before
+    the first put of a start, call `sync` for each reachable partner.
     """
 
     def __init__(self, path: Path, limit: int = _LIMIT) -> None:
         """Start the store. Raises Doubt, FileNotFoundError, or ValueError if more is held than the limit."""
         self._turn = Condition(Lock())
-        #: True while a thread writes into the file. It doesn't have the lock then.
+        #: True while a thread writes to the file without the lock.
         self._is_writing = False
         self._file = JournalFile(path)
         self.node = self._file.node
@@ -50,7 +50,7 @@ class SqliteStore:
         self._counters: Dict[bytes, int] = {}
         #: Number of the next entry at the last renewal.
         self._renewed = 0
-        #: Place of an entry in the file less its number in the journal.
+        #: Place of an entry in the file minus its number in the journal.
         self._offset = self._file.first
         try:
             tree_format, bits, range_number = self._file.ring
@@ -62,22 +62,22 @@ class SqliteStore:
 
     @staticmethod
     def create(path: Path, node: int, tree_format: int = 2, bits: int = 0, range_number: int = 0) -> None:
-        """Make the files of a node, whose number was never used. Raises FileExistsError if one is there.
+        """Make the files of a node, whose number was never used. Raises FileExistsError if one exists.
 
-        If it is killed, remove what it left.
+        If it is killed, remove the files that it left.
         """
         with Replica(tree_format, bits, range_number) as replica:
-            replica.top_counter(node, b"")  # raises BadClock if no node has such a number
+            replica.top_counter(node, b"")  # raises BadClockError if no node has such a number
         JournalFile.create(path, node, (tree_format, bits, range_number))
 
     @classmethod
     def renumber(
         cls, old: Path, new: Path, node: int, tree_format: int = 2, bits: int = 0, range_number: int = 0
     ) -> int:
-        """Make a new file with what is readable of an old one, which is left. Return the number of its versions.
+        """Make a new file with the readable part of an old one, which is unchanged. Return the number of its versions.
 
-        The number of its node must be one that was never used. Raises ValueError if the old file has it. What isn't
-        readable comes back by syncs if a partner holds it.
+        The number of its node must be one that was never used. Raises ValueError if the old file has it. Syncs restore
+        unreadable versions that a partner holds.
         """
         used, entries = salvage(old)
         if node in used:
@@ -91,20 +91,23 @@ class SqliteStore:
 
         Read the key before (docs/EMBEDDING_C.md, "A replica").
         """
-        return self._change(lambda replica: replica.put(self.node, key, value, context))
+        if value is None:
+            return self._change(lambda replica: replica.delete(self.node, key, context))
+        data = value
+        return self._change(lambda replica: replica.put(self.node, key, data, context))
 
     def accept(self, key: bytes, clock: ClockLike, value: Optional[bytes]) -> bool:
         """Accept a copy or a hint of another node. Return False if it was known.
 
-        Raises Doubt if its counter of this node is greater than the store has for the key: the file has lost a put.
-        Then it is marked. Nothing is put or accepted any more, and later starts raise Doubt; reads go on.
+        Raises Doubt if its counter of this node is greater than the store's for the key: the file has lost a put. The
+        file is then marked. Nothing is put or accepted any more, and later starts raise Doubt; reads still work.
         """
         return self._change(lambda replica: replica.accept(key, clock, value))
 
     def sync(self, partner: int, offer: bytes, reach: Reach) -> Synced:
-        """Take what a partner offers, as `Replica.sync` does. Raises Doubt as `accept` does.
+        """Take the versions of a partner's offer, like `Replica.sync`. Raises Doubt like `accept`.
 
-        Other calls go on meanwhile. After a renewal by one of them the sync begins anew, and counts anew.
+        Other calls may be made meanwhile. After a renewal by one of them the sync and its counts restart.
         """
         synced = None
         while synced is None:
@@ -118,26 +121,27 @@ class SqliteStore:
     def entries(self, start: Optional[int] = None) -> List[Entry]:
         """Return the entries from a number on, or all: copies for other nodes, or hints.
 
-        Their numbers go on over renewals, and begin at 0 at each start. Raises BadPosition as `Replica.entries` does.
+        Numbering continues over renewals, and begins at 0 at each start. Raises BadPositionError like
+        `Replica.entries`.
         """
         return self._read(lambda replica: list(replica.entries(start)))
 
     def snapshot(self) -> Snapshot:
-        """Return a snapshot of the rows now. Other calls go on meanwhile."""
+        """Return a snapshot of the current rows. Other calls may be made meanwhile."""
         snapshot = None
         while snapshot is None:
             snapshot = self._snapshot_once()
         return snapshot
 
     def renew(self) -> None:
-        """Drop the entries that others have replaced, from memory and from the file. Numbers go on."""
+        """Drop the entries that others have replaced, from memory and from the file. Numbering continues."""
         with self._turn:
             self._wait_for_writer()
             self._file.check_doubt()
             self._renew()
 
     def close(self) -> None:
-        """Free the memory, and close the file. Calls in progress are refused as Empty."""
+        """Free the memory, and close the file. Calls in progress are refused as EmptyError."""
         with self._turn:
             self._wait_for_writer()
             self._replica.close()
@@ -159,7 +163,7 @@ class SqliteStore:
                 self._file.check_doubt()
 
     def _prepare(self) -> None:
-        """Make room for new entries. Raises Doubt."""
+        """Make space for new entries. Raises Doubt."""
         self._file.check_doubt()
         while self._is_renewal_due():
             if self._is_writing:
@@ -169,14 +173,14 @@ class SqliteStore:
             self._file.check_doubt()
 
     def _durably(self, call: Callable[[Replica], T]) -> T:
-        """Make a call, and return when the file has all that it can show. Refusals show something, too."""
+        """Make a call, and return when the file has everything that it can show. Refusals show something, too."""
         try:
             return call(self._replica)
         finally:
             self._save()
 
     def _save(self) -> None:
-        """Return when the file has all entries of now. One of the threads that wait writes those of all."""
+        """Return when the file has all current entries. One of the waiting threads writes for all of them."""
         end = self._offset + self._replica.count().entries
         while self._file.end < end:
             if self._is_writing:
@@ -185,7 +189,7 @@ class SqliteStore:
                 self._write()
 
     def _write(self) -> None:
-        """Write the entries that the file lacks. Others may make calls meanwhile."""
+        """Write the entries that the file doesn't have yet. Others may make calls meanwhile."""
         replica = self._replica
         self._is_writing = True
         self._turn.release()
@@ -202,7 +206,7 @@ class SqliteStore:
             self._turn.wait()
 
     def _find_lost(self, entries: Iterable[Entry]) -> str:
-        """Note the counters of new entries. Return what is wrong if a copy shows that the file has lost a put."""
+        """Note the counters of new entries. Return a description if a copy shows that the file has lost a put."""
         for entry in entries:
             counter, before = entry.clock.get(self.node, 0), self._counters.get(entry.key, 0)
             if counter > before and entry.source is not Source.PUT:
@@ -219,7 +223,7 @@ class SqliteStore:
             replica = self._replica
         try:
             snapshot = replica.snapshot()
-        except antientropy.Empty:
+        except antientropy.EmptyError:
             with self._turn:
                 if replica is self._replica:
                     raise
@@ -239,7 +243,7 @@ class SqliteStore:
         synced = None
         try:
             synced = replica.sync(partner, offer, reach)
-        except (antientropy.Empty, antientropy.JournalFull):
+        except (antientropy.EmptyError, antientropy.JournalFullError):
             with self._turn:
                 if replica is self._replica and not self._is_renewal_due():
                     raise
@@ -258,9 +262,9 @@ class SqliteStore:
         return 10 * kept >= 9 * self._limit and 20 * grown >= self._limit
 
     def _renew(self) -> None:
-        """Go on with a new replica. No other thread writes meanwhile.
+        """Replace the replica by a new one. No other thread writes meanwhile.
 
-        A sync may bring the old one more versions until it is closed. Nobody sees these, and the sync takes them again.
+        A sync may add versions to the old one until it is closed. Nobody sees these, and the sync takes them again.
         """
         old = self._replica
         renewed = old.renew(self._limit)
@@ -273,7 +277,7 @@ class SqliteStore:
         self._turn.notify_all()
 
     def _load(self) -> None:
-        """Accept the entries of the file, by rising place. An entry that was there is new each time."""
+        """Accept the entries of the file, by rising place. Each of them is new to the replica."""
         for place, key, clock, value in self._file.read():
             if not _is_accepted(self._replica, key, clock, value):
                 raise Doubt(f"entry {place} doesn't follow from those before it")
@@ -296,5 +300,5 @@ def _is_accepted(replica: Replica, key: bytes, clock: Clock, value: Optional[byt
     """Return True if a replica accepts an entry as new."""
     try:
         return replica.accept(key, clock, value)
-    except antientropy.Refused:
+    except antientropy.AntientropyError:
         return False

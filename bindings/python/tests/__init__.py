@@ -1,1 +1,1 @@
-"""Tests of the package, by unittest alone."""
+"""Tests of the package, by unittest only."""

@@ -3,15 +3,16 @@
 import hashlib
 import io
 import os
+import pickle
 import tempfile
 import unittest
 
 import antientropy
-from antientropy import Replica
+from antientropy import Damage, Replica
 
 
 class Trickle(io.RawIOBase):
-    """A file that reads and writes a few bytes at once, as a file without a buffer may."""
+    """A file that reads and writes a few bytes at a time, as an unbuffered file may."""
 
     def __init__(self, data=b""):
         self.file = io.BytesIO(data)
@@ -24,7 +25,7 @@ class Trickle(io.RawIOBase):
 
 
 class Full(io.RawIOBase):
-    """A file that takes no bytes, as one that doesn't block may."""
+    """A file that takes no bytes, as a non-blocking one may."""
 
     def write(self, data):
         return None
@@ -36,7 +37,7 @@ class CheckpointTest(unittest.TestCase):
         self.addCleanup(self.replica.close)
         self.replica.put(1, b"cart", b"milk" * 1000)
         self.replica.accept(b"cart", {2: 1}, b"eggs")
-        self.replica.put(1, b"list", None)
+        self.replica.delete(1, b"list")
         self.saved = self.save()
 
     def save(self):
@@ -47,9 +48,12 @@ class CheckpointTest(unittest.TestCase):
     def load(self, data):
         return Replica.load(io.BytesIO(data))
 
-    def assert_damaged(self, data):
-        with self.assertRaises(ValueError):
+    def assert_damaged(self, data, kind, leaf=None):
+        with self.assertRaises(antientropy.DamagedError) as raised:
             self.load(data)
+        self.assertEqual((raised.exception.kind, raised.exception.leaf), (kind, leaf))
+        self.assertIsInstance(raised.exception, ValueError)
+        return str(raised.exception)
 
     def test_checkpoint_of_the_page(self):
         with Replica(1) as replica:
@@ -102,27 +106,45 @@ class CheckpointTest(unittest.TestCase):
     def test_truncated(self):
         for length in (0, 7, 43, 44, 50, len(self.saved) // 2, len(self.saved) - 1):
             with self.subTest(length):
-                self.assert_damaged(self.saved[:length])
+                self.assert_damaged(self.saved[:length], Damage.TRUNCATED)
 
     def test_too_long(self):
-        self.assert_damaged(self.saved + b"\x00")
+        self.assert_damaged(self.saved + b"\x00", Damage.TOO_LONG)
 
     def test_changed_head(self):
-        for place in (*range(12), 20):
+        for place in range(9):
             with self.subTest(place):
-                self.assert_damaged(self.changed(place))
+                self.assert_damaged(self.changed(place), Damage.NOT_CHECKPOINT)
+        words = self.assert_damaged(self.changed(20), Damage.ROOT)
+        self.assertEqual(words, "the checkpoint is damaged: its root differs")
+
+    def test_range_that_the_ring_does_not_have(self):
+        for place in range(9, 12):
+            with self.subTest(place), self.assertRaises(antientropy.BadRingError):
+                self.load(self.changed(place))
 
     def test_changed_value(self):
-        self.assert_damaged(self.changed(self.saved.index(b"eggs")))
+        self.assert_damaged(self.changed(self.saved.index(b"eggs")), Damage.ROOT)
 
     def test_changed_row(self):
-        self.assert_damaged(self.changed(self.saved.index(b"cart") - 1))
+        leaf = antientropy.place(2, 0, b"cart").leaf
+        words = self.assert_damaged(self.changed(self.saved.index(b"cart") - 1), Damage.LEAF, leaf)
+        self.assertEqual(words, f"the checkpoint is damaged: the rows of leaf {leaf} are refused")
 
     def test_huge_length(self):
-        self.assert_damaged(self.saved[:44] + b"\xff" * 8 + self.saved[52:])
+        self.assert_damaged(self.saved[:44] + b"\xff" * 8 + self.saved[52:], Damage.TRUNCATED)
+
+    def test_file_that_cannot_be_read(self):
+        with tempfile.TemporaryDirectory() as folder, open(os.path.join(folder, "new"), "wb") as file:
+            with self.assertRaises(OSError):
+                Replica.load(file)
+
+    def test_error_is_pickled(self):
+        error = pickle.loads(pickle.dumps(antientropy.DamagedError(Damage.LEAF, 7)))
+        self.assertEqual((error.kind, error.leaf), (Damage.LEAF, 7))
 
     def test_limit(self):
-        with self.assertRaises(antientropy.JournalFull):
+        with self.assertRaises(antientropy.JournalFullError):
             Replica.load(io.BytesIO(self.saved), 2)
 
     def changed(self, place):

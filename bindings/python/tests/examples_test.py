@@ -15,7 +15,7 @@ from tests.support import EXAMPLES, PACKAGE, lacks, run
 
 README = (PACKAGE / "README.md").read_text(encoding="utf-8")
 ROOM = Path("bindings/python")
-#: Variables that would find another package or library than those that are installed.
+#: Variables that would select another package or library than the installed ones.
 VARIABLES = ("PYTHONPATH", "ANTIENTROPY_LIBRARY")
 
 
@@ -45,7 +45,7 @@ class ExamplesTest(unittest.TestCase):
     @unittest.skipUnless(find_spec("ensurepip"), "venv makes no pip")
     @unittest.skipUnless(find_spec("setuptools") and find_spec("wheel"), "there is no setuptools, or no wheel")
     def test_install(self):
-        """The package that is installed has the library, and the extension if Python's headers are there."""
+        """The installed package has the library, and the extension if Python's headers exist."""
         (command,) = blocks("sh")
         with tempfile.TemporaryDirectory() as folder:
             shutil.copytree(PACKAGE, Path(folder) / ROOM, ignore=shutil.ignore_patterns("__pycache__"))

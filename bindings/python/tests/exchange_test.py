@@ -55,7 +55,7 @@ class SnapshotTest(ExchangeCase):
         rows = self.snapshot.rows(leaf)
         self.assertIn(self.a.row(b"key 3"), rows)
         self.assertEqual(self.b.load_rows(rows), (len(list(self.a.keys_of(leaf))), 0))
-        self.assertEqual(self.b.load_rows(rows).taken, 0)
+        self.assertEqual(self.b.load_rows(rows).accepted, 0)
         for leaf in (4096, 65536, 1 << 32):
             self.assert_refused("BadMessage", self.a, self.snapshot.rows, leaf)
 
@@ -90,7 +90,7 @@ class SnapshotTest(ExchangeCase):
 
 class ExchangeTest(ExchangeCase):
     def test_a_polled_exchange(self):
-        """Of an asyncio program: answers arrive in any order, one is bad, an ask is lost, and others sync meanwhile."""
+        """In an asyncio program, answers arrive in any order, one is bad, an ask is lost, and others sync meanwhile."""
 
         async def serve(ask):
             await asyncio.sleep(0)
@@ -107,10 +107,10 @@ class ExchangeTest(ExchangeCase):
         exchange = self.b.exchange(9, self.offer)
         self.assertEqual((exchange.asks(), exchange.asks()), ([ask_for(0, 0)], []))
         verdict = exchange.take(self.snapshot.serve(1, ask_for(LEAF_DEPTH, 5)))
-        self.assertIsInstance(verdict.cause, antientropy.NotAsked)
+        self.assertIsInstance(verdict.cause, antientropy.NotAskedError)
         self.assertEqual(verdict, (VerdictKind.BAD, verdict.cause, 0, 0))
         exchange.lose(ask_for(0, 0))
-        self.assertRaises(antientropy.BadMessage, exchange.lose, b"")
+        self.assertRaises(antientropy.BadMessageError, exchange.lose, b"")
         asyncio.run(carry(exchange))
         progress = exchange.progress()
         self.assertEqual((progress.report, progress.cause, progress.on_way), (Report.FINISHED, None, 0))
@@ -146,9 +146,9 @@ class ExchangeTest(ExchangeCase):
         self.assertEqual(self.b.count().sessions, 0)
 
     def crowded_pair(self):
-        """A replica that lacks 20 keys of a partner's, a link to it, and the leaf of another key.
+        """A replica without 20 keys of its partner, a link to it, and the leaf of another key.
 
-        That is crowded between the two, and its leaf is asked for before the others.
+        That key is crowded between the two, and its leaf is asked for before the others.
         """
         keys = sorted((b"key %d" % n for n in range(21)), key=lambda key: antientropy.place(2, 0, key).leaf)
         partner = self.replica()
@@ -157,7 +157,7 @@ class ExchangeTest(ExchangeCase):
         return self.snapshot_of(partner), antientropy.place(2, 0, keys[0]).leaf
 
     def test_a_crowded_leaf_in_place_of_each(self):
-        """A partner answers each ask for a leaf with the true text of the crowded leaf: no other leaf is left."""
+        """The partner returns the true text of the crowded leaf for each ask for a leaf: no other leaf is left."""
         partner, leaf = self.crowded_pair()
 
         def answer(asks):
@@ -174,7 +174,7 @@ class ExchangeTest(ExchangeCase):
         self.assertEqual((synced.accepted, synced.bad, synced.lost), (20, 0, 0))
 
     def test_deadlines(self):
-        """One is over after each batch of asks. The replica goes on, and the exchange does later, in one session."""
+        """One passes after each batch of asks. The replica changes; the exchange continues later, in one session."""
         keys, value = [b"key %d" % n for n in range(100_000)], b"v" * 100
         asker = self.replica()
         asker.put_many(1, ((key, value) for key in keys))
@@ -223,7 +223,7 @@ class SyncTest(ExchangeCase):
     def sync_long_rows(self, change):
         """Takes 20 of 2,000 keys with values of 300 bytes over a link that changes the patches.
 
-        Returns the number of bytes of outlines and patches, and of the answers in whose place they are.
+        Returns the number of bytes of outlines and patches, and of the answers that they replace.
         """
         keys, value = [b"key %d" % n for n in range(2000)], b"v" * 300
         asker, partner, sent, answered = self.replica(), self.replica(), [], []
@@ -246,7 +246,7 @@ class SyncTest(ExchangeCase):
         return sum(sent), sum(answered)
 
     def test_patches(self):
-        """What both have doesn't travel."""
+        """Common versions aren't sent."""
         sent, answered = self.sync_long_rows(lambda patch: patch)
         self.assertLess(3 * sent, answered)
 
@@ -265,7 +265,7 @@ class SyncTest(ExchangeCase):
         self.assertEqual(asker.sync(1, snapshot.offer(1), answer, Bounds(plain=True)).accepted, 1)
 
     def test_outlines_without_a_text_count_as_nothing(self):
-        """A partner is asked plainly if it lies in each patch, or refuses the outlines."""
+        """Asks are plain if all the partner's patches are wrong, or if it refuses outlines."""
         for change in (lambda patch: patch[:-1] + bytes([patch[-1] ^ 1]), lambda patch: None):
             self.assertGreater(self.sync_long_rows(change), (0, 0))
 
@@ -278,24 +278,24 @@ class SyncTest(ExchangeCase):
         self.assertEqual(self.b.sync(1, self.offer, lambda asks: [None], Bounds(lost=3)).lost, 4)
 
     def test_journal_full(self):
-        """Asks stop. What was taken before stays."""
+        """Asks stop. Versions taken before stay."""
         small = self.replica(limit=10)
         with small.exchange(1, self.offer) as exchange:
             take_all(exchange, self.snapshot)
             progress = exchange.progress()
             self.assertIs(progress.report, Report.STOPPED)
-            self.assertIsInstance(progress.cause, antientropy.JournalFull)
+            self.assertIsInstance(progress.cause, antientropy.JournalFullError)
             exchange.go_on()
             self.assertTrue(exchange.asks())
         self.assertEqual(small.count().entries, progress.accepted)
-        self.assertRaises(antientropy.JournalFull, sync, small, self.a)
+        self.assertRaises(antientropy.JournalFullError, sync, small, self.a)
         self.assertGreaterEqual(small.count().entries, progress.accepted)
         self.assert_no_session(small)
 
     def test_not_canonical(self):
         offer = struct.pack(">BIBB32s", 1, 7, 2, 0, hashlib.sha256(b"junk").digest())
         answer = struct.pack(">BIBHQ4s", 3, 7, 0, 0, 4, b"junk")
-        self.assertRaises(antientropy.NotCanonical, self.b.sync, 1, offer, lambda asks: [answer])
+        self.assertRaises(antientropy.NotCanonicalError, self.b.sync, 1, offer, lambda asks: [answer])
         self.assertEqual(self.b.count().entries, 0)
         self.assert_no_session(self.b)
 

@@ -1,4 +1,4 @@
-"""The package's declarations are those of the header."""
+"""The package's declarations match the header."""
 
 import re
 import unittest
@@ -16,9 +16,6 @@ STRUCTS = {"receipt": _values.Receipt, "spot": _values.Spot, "offer_parts": _val
            "verdict": _values.Verdict, "progress": _values.Progress,
            "counts": _values.Counts, "bytes": _values.ByteCounts, "about": _values.About,
            "hint_counts": _values.HintCounts, "slot_counts": _values.SlotCounts}
-#: C's own loop of a sync: here an exchange is that loop.
-C_ONLY = {"open", "open_at_moment", "share_outstanding", "share_ask_at", "share_ask", "share_outline_at", "take",
-          "share_session", "cancel"}
 
 
 def argument(text):
@@ -30,12 +27,12 @@ def argument(text):
 
 
 def declared():
-    """The types of each call in the header, but for those that only C has."""
+    """The types of each call in the header."""
     calls = {}
     for result, name, arguments in re.findall(r"^(uint32_t|void) antientropy_(\w+)\((.*?)\);", TEXT, re.M | re.S):
         types = () if arguments == "void" else tuple(argument(text.strip()) for text in arguments.split(","))
         calls[name] = (None if result == "void" else c_uint32, types)
-    return {name: calls[name] for name in calls.keys() - C_ONLY}
+    return calls
 
 
 def constants():
@@ -56,7 +53,7 @@ class HeaderTest(unittest.TestCase):
 
     def test_reads(self):
         inline = re.findall(r"^static inline uint32_t antientropy_(\w+)\(\s*const struct", TEXT, re.M)
-        self.assertEqual(set(inline) - {name.replace("share_", "") for name in C_ONLY}, _calls.READS)
+        self.assertEqual(set(inline), _calls.READS)
 
     def test_types(self):
         for name, types in declared().items():
@@ -106,12 +103,13 @@ class HeaderTest(unittest.TestCase):
         causes = re.search(r"enum \{\s*ANTIENTROPY_OK = 0,(.*?)\};", TEXT, re.S).group(1)
         numbers = re.findall(r"ANTIENTROPY_(\w+) = (\d+)", causes)
         names = {int(number): name.title().replace("_", "") for name, number in numbers}
-        classes = {each.__name__: each for each in antientropy.Refused.__subclasses__()}
-        self.assertEqual(set(names.values()), set(classes))
+        classes = {each.__name__: each for each in antientropy.AntientropyError.__subclasses__()}
+        self.assertEqual({f"{name}Error" for name in names.values()}, set(classes))
         for number, name in names.items():
-            self.assertIs(getattr(antientropy, name), classes[name])
-            self.assertIn(name, antientropy.__all__)
+            self.assertIs(getattr(antientropy, f"{name}Error"), classes[f"{name}Error"])
+            self.assertIn(f"{name}Error", antientropy.__all__)
             self.assertEqual(antientropy._library.current().names[number], name)
+            self.assertIs(type(antientropy._library.current().refusal("put", number)), classes[f"{name}Error"])
 
 
 if __name__ == "__main__":

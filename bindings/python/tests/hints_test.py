@@ -19,7 +19,7 @@ class HintsTest(unittest.TestCase):
 
     def refused(self, name, call, *args):
         before = self.state()
-        with self.assertRaises(getattr(antientropy, name)):
+        with self.assertRaises(getattr(antientropy, f"{name}Error")):
             call(*args)
         self.assertEqual(self.state(), before)
 
@@ -68,14 +68,14 @@ class HintsTest(unittest.TestCase):
         with Hints.restore(100) as restored:
             self.assertEqual(restored.keep(2, b"cart", {1: 1}, b"milk"), 100)
             self.assertEqual(restored.count(), HintCounts(1, 0))
-        with self.assertRaises(antientropy.UnknownHint):
+        with self.assertRaises(antientropy.UnknownHintError):
             Hints.restore(0)
 
     def test_the_last_number(self):
         with Hints.restore((1 << 64) - 1) as last:
             self.assertEqual(last.keep(2, b"cart", {1: 1}, b"milk"), (1 << 64) - 1)
             for call, *args in ((last.keep, 2, b"k", {1: 1}, b""), (last.renew,)):
-                with self.assertRaises(antientropy.HintsFull):
+                with self.assertRaises(antientropy.HintsFullError):
                     call(*args)
 
     def test_refusals(self):
@@ -110,7 +110,7 @@ class HintsTest(unittest.TestCase):
             (self.hints.keep, 2, b"k", {}, b""), (self.hints.next, 2), (self.hints.hint, 1), (self.hints.confirm, 1),
             (self.hints.renew,), (self.hints.count,), (self.hints.count_bytes,),
         ):
-            with self.subTest(call), self.assertRaises(antientropy.Empty):
+            with self.subTest(call), self.assertRaises(antientropy.EmptyError):
                 call(*args)
 
 
@@ -122,7 +122,7 @@ class SlotsTest(unittest.TestCase):
 
     def refused(self, name, call, *args):
         before = self.slots.count()
-        with self.assertRaises(getattr(antientropy, name)):
+        with self.assertRaises(getattr(antientropy, f"{name}Error")):
             call(*args)
         self.assertEqual(self.slots.count(), before)
 
@@ -172,7 +172,7 @@ class SlotsTest(unittest.TestCase):
             (self.slots.lend,), (self.slots.give_back,), (self.slots.sample, 1, 1), (self.slots.adjust, 1),
             (self.slots.set_target, 1), (self.slots.count,),
         ):
-            with self.subTest(call), self.assertRaises(antientropy.Empty):
+            with self.subTest(call), self.assertRaises(antientropy.EmptyError):
                 call(*args)
 
 

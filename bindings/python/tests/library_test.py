@@ -7,7 +7,7 @@ import pickle
 import unittest
 
 import antientropy
-from antientropy import Hints, Refused, Replica, Slots
+from antientropy import Hints, AntientropyError, Replica, Slots
 from antientropy._library import current
 
 from tests.support import run
@@ -21,8 +21,9 @@ class LibraryTest(unittest.TestCase):
 
     def test_load_library(self):
         code = "import os, sys; os.environ['ANTIENTROPY_LIBRARY'] = '/none'; import antientropy; " \
-               "antientropy.load_library(sys.argv[1]); print(antientropy.version()[0], antientropy.BadKey.__name__)"
-        self.assertEqual(run("-c", code, LIBRARY), "2 BadKey\n")
+               "antientropy.load_library(sys.argv[1]); " \
+               "print(antientropy.version()[0], antientropy.BadKeyError.__name__)"
+        self.assertEqual(run("-c", code, LIBRARY), "2 BadKeyError\n")
 
     def test_no_library(self):
         code = "import os; os.environ['ANTIENTROPY_LIBRARY'] = '/none'; import antientropy; antientropy.Replica()"
@@ -38,8 +39,8 @@ class LibraryTest(unittest.TestCase):
             current().no_such_call
 
     def test_refusals_by_pickle(self):
-        error = pickle.loads(pickle.dumps(antientropy.Crowded("put", 7, "Crowded")))
-        self.assertIs(type(error), antientropy.Crowded)
+        error = pickle.loads(pickle.dumps(antientropy.CrowdedError("put", 7, "Crowded")))
+        self.assertIs(type(error), antientropy.CrowdedError)
         self.assertEqual((error.call, error.number, error.name), ("put", 7, "Crowded"))
 
     def test_a_handle_is_not_copied(self):
@@ -53,7 +54,7 @@ class LibraryTest(unittest.TestCase):
 
     def test_unknown_number(self):
         error = current().refusal("put", 250)
-        self.assertEqual((type(error), error.number, error.name), (Refused, 250, ""))
+        self.assertEqual((type(error), error.number, error.name), (AntientropyError, 250, ""))
 
     def test_each_public_item_has_a_docstring(self):
         for name in antientropy.__all__:

@@ -1,4 +1,4 @@
-"""The lines of examples/line_server.py: one that isn't a request is refused, and the next one is answered."""
+"""The lines of examples/line_server.py: one that isn't a request is refused, and the next one gets its answer."""
 
 import io
 import json
@@ -115,7 +115,7 @@ class LineServerTest(StoreCase):
         self.assertEqual(answers, [{"refused": name} for _, name in REFUSED])
 
     def test_bad_answers_within_a_sync(self):
-        """Each loses the ask, and bytes that are no answer are bad. At a bound the sync ends: a request follows."""
+        """Each loses the ask, and bytes that aren't an answer are bad. At a bound the sync ends: a request follows."""
         for bad in ("", "7", "{}", "[", "[]", "[7]", '["6"]', "[null]", '["61"]', "[" * 100_000):
             rounds = 9 if bad == '["61"]' else 257
             answers = self.answers([f'["sync", 2, "{self.offer}"]', *[bad] * rounds, '["get", "61"]'])
@@ -158,7 +158,7 @@ class ProcessTest(StoreCase):
         self.assertEqual(process.end(), (0, ""))
 
     def test_starts_that_are_refused(self):
-        """The store says why in one line. A new life takes what is readable."""
+        """The store prints the reason in one line. A new life takes the readable versions."""
         with closing(SqliteStore(self.path)) as store:
             store.put(b"a", b"x")
         path, new = self.path, self.path.with_name("2.db")

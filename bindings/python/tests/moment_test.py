@@ -5,7 +5,7 @@ import threading
 import unittest
 from itertools import islice
 
-from antientropy import BadClock, Replica
+from antientropy import BadClockError, Replica
 
 from tests.support import Hashing, ReplicaCase, reach, sync
 
@@ -54,7 +54,7 @@ class MomentTest(ReplicaCase):
             self.assertEqual(self.replica.sync(2, offered.offer(7), reach(offered, 7)).asks, 0)
             assert_no_moment(20)
             self.replica.put(1, b"later", b"value")
-            self.assertRaises(BadClock, self.replica.exchange, 65_536, offered.offer(7))
+            self.assertRaises(BadClockError, self.replica.exchange, 65_536, offered.offer(7))
             assert_no_moment(21)
             self.replica.put(1, b"last", b"value")
             self.replica.exchange(2, offered.offer(7)).close()

@@ -23,7 +23,7 @@ class PackedTest(ReplicaCase):
         replica.accept(b"k" * 255, {node: (1 << 64) - node for node in range(1, 33)}, b"")
         replica.accept(b"none", {}, b"of an empty clock")
         if replica.format == 2:
-            replica.put(2, b"cart", None, {1: 3})
+            replica.delete(2, b"cart", {1: 3})
             replica.put(2, b"great", bytes(range(256)) * 256)
         with Replica(replica.format) as partner:
             partner.put(9, b"tea", b"green")
@@ -51,7 +51,7 @@ class PackedTest(ReplicaCase):
                 self.assertEqual({type(entry.source) for entry in replica.entries()}, {Source})
 
     def test_little_room(self):
-        """There is always an entry, and never a part of one."""
+        """The result always has an entry, and never a part of one."""
         self.fill(self.replica)
         entries, pieces = list(self.replica.entries()), []
         for room in (0, 1, 100, 70_000, 1 << 30):
@@ -87,7 +87,7 @@ class PackedTest(ReplicaCase):
             entries = replica.entries()
             self.assertEqual(next(entries), (0, b"a", {1: 1}, b"x", Source.PUT))
             replica.migrate()
-            replica.put(1, b"b", None)
+            replica.delete(1, b"b")
             self.assertEqual(list(entries), [(1, b"b", {1: 1}, None, Source.PUT)])
 
     def test_bytes_that_are_no_entries(self):
@@ -161,7 +161,7 @@ class PositionTest(unittest.TestCase):
         self.assert_restored(unpack_entries(log, 2))
 
     def test_a_reader_who_has_missed_entries(self):
-        """Only the first number of the journal is accepted: from there the journal has all that was missed."""
+        """Only the first number of the journal is accepted: from there the journal has everything that was missed."""
         for n in range(2):
             self.use(n)
             self.renew()
@@ -169,7 +169,7 @@ class PositionTest(unittest.TestCase):
         self.assertEqual((count.first, count.entries), (9, 14))
         for start in (*range(9), *range(10, 14), 15):
             for read in (self.replica.entries, self.replica.packed_entries):
-                with self.subTest(start), self.assertRaises(antientropy.BadPosition):
+                with self.subTest(start), self.assertRaises(antientropy.BadPositionError):
                     read(start)
         self.assertEqual(list(self.replica.entries(9)), list(self.replica.entries()))
         self.assertEqual([entry.number for entry in self.replica.entries()], list(range(9, 14)))

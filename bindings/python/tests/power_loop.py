@@ -2,8 +2,8 @@
 
     python3 -B -m tests.power_loop [PUTS [SEED]]
 
-It ends when so many puts were acknowledged, 10,000 say. None of them may be lost, and no counter is used twice. The
-power cuts are those of examples/cluster/nemesis/power.py. They need a C compiler; some minutes are enough.
+It ends when that many puts were acknowledged, 10,000 for instance. None of them may be lost, and no counter is used
+twice. The power cuts are from examples/cluster/nemesis/power.py. They need a C compiler; a few minutes are enough.
 """
 
 import os
@@ -30,7 +30,7 @@ def say(*words):
 
 
 def put_for_ever(store, key):
-    """Puts a key again and again, and says the counter of each put that is acknowledged."""
+    """Puts a key again and again, and prints the counter of each acknowledged put."""
     while True:
         context = store.get(key)[0].clock if store.get(key) else {}
         counter = context.get(1, 0) + 1
@@ -38,7 +38,7 @@ def put_for_ever(store, key):
 
 
 def serve(path):
-    """Says what a store has of each key, and puts until it is killed."""
+    """Prints the state of each key of a store, and puts until it is killed."""
     store = SqliteStore(Path(path), LIMIT)
     keys = [b"%d" % thread for thread in range(THREADS)]
     for key in keys:
@@ -51,7 +51,7 @@ def serve(path):
 
 
 class Loop:
-    """A store whose power is cut, and what it has acknowledged."""
+    """A store whose power is cut, and the counters that it has acknowledged."""
 
     def __init__(self, folder, chance):
         from nemesis.power import Power, build
@@ -64,7 +64,7 @@ class Loop:
         SqliteStore.create(self.path, 1)
 
     def run(self, puts):
-        """Goes on until so many puts were acknowledged."""
+        """Continues until that many puts were acknowledged."""
         while self.puts < puts:
             self.live()
             cut = self.power.cut(self.chance if self.chance.random() < 0.7 else None)
@@ -86,7 +86,7 @@ class Loop:
         timer.join()
 
     def hear(self, word, key, said):
-        """Compares what the store says with what it has said before."""
+        """Compares the store's output with its earlier output."""
         counter, before = int(said), self.counters[key]
         if word == "has" and counter < before:
             raise SystemExit(f"a put is lost: key {key} has counter {counter} after {before}")

@@ -1,11 +1,11 @@
-"""Renewals in place, beside the puts of another thread, and those that puts start."""
+"""Renewals in place while another thread puts, and renewals that puts start."""
 
 import threading
 import time
 import unittest
 
 import antientropy
-from antientropy import BadPosition, Dirty, JournalFull, Replica, Report, Stale, Version
+from antientropy import BadPositionError, DirtyError, JournalFullError, Replica, Report, StaleError, Version
 
 from tests.support import ReplicaCase, sync
 
@@ -42,10 +42,10 @@ class Writer:
         self.read()
 
     def read(self):
-        """Logs the entries from the position on, or all that are there if it missed some."""
+        """Logs the entries from the position on, or the whole journal if it missed some."""
         try:
             entries = list(self.replica.entries(self.position))
-        except BadPosition:
+        except BadPositionError:
             entries = list(self.replica.entries())
         for entry in entries:
             self.log[entry.number] = entry
@@ -73,7 +73,7 @@ class RenewalTest(ReplicaCase):
         self.assertEqual(self.replica.put(1, b"b", b"z").number, 2)
         self.assertEqual([entry.key for entry in self.replica.entries(2)], [b"b"])
         self.assert_refused("BadPosition", self.replica, self.replica.entries, 0)
-        self.assertRaises(Dirty, self.replica.moment)
+        self.assertRaises(DirtyError, self.replica.moment)
 
     def test_refusals(self):
         for n in range(3):
@@ -82,7 +82,7 @@ class RenewalTest(ReplicaCase):
         for name, limit in (("BadRing", 0), ("BadRing", 1_000_001), ("JournalFull", 2)):
             with self.subTest(name):
                 entries = list(self.replica.entries())
-                with self.assertRaises(getattr(antientropy, name)) as caught:
+                with self.assertRaises(getattr(antientropy, f"{name}Error")) as caught:
                     self.replica.renew_in_place(limit)
                 self.assertEqual(caught.exception.call, "renewal_build")
                 self.assertEqual([self.replica.row(key) for key in self.replica.keys()], rows)
@@ -130,7 +130,7 @@ class RenewalTest(ReplicaCase):
         self.assertEqual((self.replica.count().first, self.replica.count().entries), (0, 2_000))
 
     def test_stale(self):
-        """Another renewal comes between. Nothing is lost."""
+        """Another renewal ends first. Nothing is lost."""
         library = self.replica._library
         self.replica.put_many(1, ((b"a", b"", [(1, n)] if n else ()) for n in range(5)))
 
@@ -139,7 +139,7 @@ class RenewalTest(ReplicaCase):
             self.replica.renew_in_place(9)
 
         self.replica._library = Built(library, renew)
-        self.assertRaises(Stale, self.replica.renew_in_place, 10)
+        self.assertRaises(StaleError, self.replica.renew_in_place, 10)
         self.assertEqual(self.replica.count()[:2], (5, 9))
         self.assertEqual(self.replica.get(b"a"), [Version({1: 5}, b"")])
 
@@ -161,13 +161,13 @@ class KeeperTest(unittest.TestCase):
                 self.assertEqual((keeper.is_due(due - 1), keeper.is_due(due)), (False, True), (limit, first, held))
 
     def test_puts_of_one_key(self):
-        """One key is put many times as often as the journal has entries, with no other call."""
+        """One key is put many times as often as the journal has entries, without any other call."""
         puts, done = 100_000, 0
         with Replica(limit=2_000, renew=True) as replica:
             while done < puts:
                 try:
                     done += len(replica.put_many(1, ((b"a", b"", [(1, n)] if n else ()) for n in range(done, puts))))
-                except JournalFull as full:  # (no room until the renewal has ended)
+                except JournalFullError as full: # (the journal is full until the renewal has ended)
                     done += len(full.done)
                     time.sleep(0.0001)
             self.wait_for(replica)
@@ -198,7 +198,7 @@ class KeeperTest(unittest.TestCase):
             for n in range(100):
                 replica.put(1, b"%d" % n, b"")
             self.wait_for(replica)
-            self.assertRaises(JournalFull, replica.put, 1, b"last", b"")
+            self.assertRaises(JournalFullError, replica.put, 1, b"last", b"")
             self.assertEqual(len(list(replica.keys())), 100)
 
     def test_close_while_a_thread_renews(self):
@@ -211,7 +211,7 @@ class KeeperTest(unittest.TestCase):
     def test_no_renewal_without_the_keyword(self):
         with Replica(limit=10) as replica:
             replica.put_many(1, ((b"a", b"", [(1, n)] if n else ()) for n in range(10)))
-            self.assertRaises(JournalFull, replica.put, 1, b"b", b"")
+            self.assertRaises(JournalFullError, replica.put, 1, b"b", b"")
 
 
 if __name__ == "__main__":

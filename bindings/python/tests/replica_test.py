@@ -9,12 +9,12 @@ from tests.support import ReplicaCase, crowd
 
 
 def length_of_rows(replica):
-    """The lengths of the rows that a replica holds, in all."""
+    """The total length of the rows that a replica holds."""
     return sum(len(replica.row(key)) for key in replica.keys())
 
 
 def length_of_entries(replica):
-    """The lengths of the entries of a journal in all, with 10 bytes for each pair of a clock."""
+    """The total length of the entries of a journal, with 10 bytes for each pair of a clock."""
     return sum(len(key) + len(value or b"") + 10 * len(clock) for _, key, clock, value, _ in replica.entries())
 
 
@@ -36,13 +36,29 @@ class ReplicaTest(ReplicaCase):
         self.assertEqual(self.replica.get(b"k"), [Version({1: 1, 2: 2}, b"three")])
 
     def test_tombstone(self):
-        self.replica.put(1, b"k", None)
+        self.replica.delete(1, b"k")
         (version,) = self.replica.get(b"k")
         self.assertEqual((version.value, version.kind), (None, Kind.TOMBSTONE))
-        self.assertIsNone(self.replica.value(b"k", 0))
         self.replica.put(1, b"k", b"", version.clock)
         (version,) = self.replica.get(b"k")
         self.assertEqual((version.value, version.kind), (b"", Kind.LIVE))
+
+    def test_value_that_is_none(self):
+        """A value that is missing by mistake deletes nothing."""
+        self.replica.put(1, b"k", b"one")
+        with self.assertRaises(TypeError):
+            self.replica.put(1, b"k", None, {1: 1})
+        self.assertEqual(self.replica.get(b"k"), [Version({1: 1}, b"one")])
+
+    def test_deletes(self):
+        self.replica.put(1, b"k", b"one")
+        self.replica.put(1, b"k", b"two", {1: 1})
+        with self.assertRaises(antientropy.StaleContextError):
+            self.replica.delete(1, b"k", {1: 1, 2: 1})
+        self.assertEqual(self.replica.delete(1, b"k", {1: 2}), Receipt(2, 3))
+        self.assertEqual(self.replica.get(b"k"), [Version({1: 3}, None)])
+        with Replica(1) as first, self.assertRaises(antientropy.BadValueError):
+            first.delete(1, b"k")
 
     def test_concurrent_versions(self):
         self.replica.put(1, b"k", b"one")
@@ -50,11 +66,6 @@ class ReplicaTest(ReplicaCase):
         self.assertFalse(self.replica.accept(b"k", {2: 1}, b"two"))
         versions = [Version({1: 1}, b"one"), Version({2: 1}, b"two")]
         self.assertEqual(self.replica.get(b"k"), versions)
-        self.assertEqual(list(self.replica.versions(b"k")), versions)
-        self.assertEqual(self.replica.count_versions(b"k"), 2)
-        self.assertEqual([self.replica.read(b"k", n) for n in range(2)], versions)
-        self.assertEqual([self.replica.value(b"k", n) for n in range(2)], [b"one", b"two"])
-        self.assertEqual([self.replica.clock(b"k", n) for n in range(2)], [{1: 1}, {2: 1}])
 
     def test_put_many(self):
         items = ((b"key %d" % n, b"value") for n in range(10))
@@ -70,7 +81,7 @@ class ReplicaTest(ReplicaCase):
         receipts = self.replica.put_many(1, items)
         with Replica() as other:
             items[3] = (b"b", None, [(1, 1)])
-            self.assertEqual(receipts, [other.put(1, *item) for item in items])
+            self.assertEqual(receipts, [other._put_read(1, *item) for item in items])
             self.assertEqual(list(self.replica.entries()), list(other.entries()))
         self.assertEqual(receipts[:4], [(0, 1), (1, 2), (2, 1), (3, 2)])
         self.assertEqual(self.replica.get(b"c"), [Version({1: 2, 2: 7}, None)])
@@ -86,12 +97,12 @@ class ReplicaTest(ReplicaCase):
         self.assertEqual(self.replica.get(b"k"), [Version({1: 6}, b"4")])
 
     def test_put_many_that_is_refused(self):
-        with self.assertRaises(antientropy.BadKey) as caught:
+        with self.assertRaises(antientropy.BadKeyError) as caught:
             self.replica.put_many(1, [(b"a", b""), (b"b", b""), (b"", b""), (b"c", b"")])
         self.assertEqual(caught.exception.done, (Receipt(0, 1), Receipt(1, 1)))
         self.assertEqual((caught.exception.call, caught.exception.number), ("put", 4))
         self.assertEqual(set(self.replica.keys()), {b"a", b"b"})
-        with self.assertRaises(antientropy.BadClock) as caught:
+        with self.assertRaises(antientropy.BadClockError) as caught:
             self.replica.put_many(0, [(b"c", b"")])
         self.assertEqual(caught.exception.done, ())
 
@@ -243,7 +254,7 @@ class ReplicaTest(ReplicaCase):
             with self.subTest(args), self.assertRaises(OverflowError):
                 self.replica.put(*args)
         with self.assertRaises(OverflowError):
-            self.replica.read(b"a", -1)
+            self.replica.entry(-1)
         self.assertEqual(self.replica.count().entries, 0)
 
 
@@ -287,7 +298,7 @@ class RefusalTest(ReplicaCase):
     def test_bad_value(self):
         self.refused("BadValue", self.replica.put, 1, b"k", bytes(65537), {1: 1})
         with Replica(1) as first:
-            self.assert_refused("BadValue", first, first.put, 1, b"k", None)
+            self.assert_refused("BadValue", first, first.delete, 1, b"k")
 
     def test_stale_context(self):
         self.refused("StaleContext", self.replica.put, 1, b"k", b"")
@@ -332,9 +343,6 @@ class RefusalTest(ReplicaCase):
             self.refused("BadMessage", list, self.replica.keys_of(leaf))
 
     def test_no_version(self):
-        self.refused("NoVersion", self.replica.read, b"k", 1)
-        self.refused("NoVersion", self.replica.value, b"k", 1)
-        self.refused("NoVersion", self.replica.clock, b"k", 1)
         self.refused("NoVersion", self.replica.entry, 1)
 
     def test_bad_position(self):
@@ -361,7 +369,7 @@ class RefusalTest(ReplicaCase):
             (self.replica.drop_sessions,), (self.replica.renew_in_place,), (lambda: self.replica.format,),
             (self.replica.put_unread, 1, b"k", b""), (self.replica.load_format, 2, b""),
         ):
-            with self.subTest(call), self.assertRaises(antientropy.Empty):
+            with self.subTest(call), self.assertRaises(antientropy.EmptyError):
                 call(*args)
 
 

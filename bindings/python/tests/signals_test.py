@@ -33,7 +33,7 @@ class Interrupted:
 
 
 def use(replica, hints):
-    """What calls of many kinds return."""
+    """Results of calls of many kinds."""
     results = [replica.put(1, b"cart", b"milk"), replica.put_many(2, [(b"tea", b"green"), (b"jam", b"plum")])]
     results += [replica.accept(b"cart", {3: 1}, b"eggs")]
     results += [replica.accept(b"large", {node: 1}, b"v" * 4096) for node in range(1, 21)]
@@ -41,7 +41,7 @@ def use(replica, hints):
     partner = Replica(1)
     partner.put_many(9, [(b"%d" % n, b"value") for n in range(20)])
     results += [sync(replica, partner), replica.get(b"cart"), replica.get(b"crowded"), replica.row(b"large")]
-    results += [list(replica.keys()), list(replica.entries()), replica.value(b"cart", 1), replica.clock(b"cart", 0)]
+    results += [list(replica.keys()), list(replica.entries())]
     results += [replica.count().entries, replica.top_counter(1, b"cart"), replica.load_rows(replica.row(b"tea"))]
     results += [replica.packed_entries(room=100), replica.about(), replica.drop_sessions(), replica.count_bytes()]
     with replica.snapshot() as snapshot, snapshot.share() as shared:
@@ -127,7 +127,7 @@ class SignalsTest(unittest.TestCase):
         self.assertGreater(len(turns), 200)
 
     def test_a_handler_holds_another_moment(self):
-        """It puts while a moment is hashed, and takes a snapshot before that of the moment is counted."""
+        """It puts while a moment is hashed, and takes a snapshot before the moment's is counted."""
         replica = Replica()
         replica.put(1, b"first", b"")
         replica._library = Interrupted(replica._library, ("hash_portion", "moment"))

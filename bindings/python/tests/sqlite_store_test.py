@@ -1,6 +1,6 @@
-"""The store of examples/sqlite_store.py: what it acknowledged survives SIGKILL, and no counter goes back.
+"""The store of examples/sqlite_store.py: acknowledged puts survive SIGKILL, and no counter goes back.
 
-SIGKILL can't show a missing fsync: the kernel still has what a killed process has written.
+SIGKILL can't show a missing fsync: the kernel still has the writes of a killed process.
 """
 
 import os
@@ -25,7 +25,7 @@ KILLS, KEYS, LIMIT = 50, 12, 80
 
 
 class Ledger:
-    """What a store has acknowledged or shown, and the greatest counter of its node for each key."""
+    """The versions that a store has acknowledged or shown, and the greatest counter of its node for each key."""
 
     def __init__(self, node):
         self.node = node
@@ -33,7 +33,7 @@ class Ledger:
         self.counters = {}
 
     def note(self, key, version):
-        """Notes a version that the store has acknowledged or shown."""
+        """Records a version that the store has acknowledged or shown."""
         self.versions[key, tuple(version.clock.items()), version.value] = version
         self.counters[key] = max(self.counters.get(key, 0), version.clock.get(self.node, 0))
 
@@ -74,7 +74,7 @@ class Node:
         return counter, before
 
     def accept(self, key, clock, value):
-        """Hands in a copy of another node."""
+        """Accepts a copy of another node."""
         self.process.ask("accept", key.hex(), list(clock.items()), value.hex())
         self.ledger.note(key, Version(clock, value))
 
@@ -92,7 +92,7 @@ class Node:
 
 
 def to_version(said):
-    """A version that a store said."""
+    """A version in a store's output."""
     clock, value = said
     return Version(dict(clock), None if value is None else bytes.fromhex(value))
 
@@ -106,7 +106,7 @@ def greatest(node, entries):
 
 
 class KillTest(unittest.TestCase):
-    """Two stores are used, and one after another killed: nothing is lost, and no counter goes back."""
+    """Two stores are used, and killed in turn: nothing is lost, and no counter goes back."""
 
     def setUp(self):
         seed = int(os.environ.get("SEED", time.time_ns() % 1_000_000))
@@ -138,7 +138,7 @@ class KillTest(unittest.TestCase):
     # ---- use and death
 
     def start_all(self):
-        """Starts the stores that have died, and checks what they came back with."""
+        """Starts the stores that have died, and checks their contents."""
         for node in self.nodes:
             if node.process is None:
                 node.process = StoreProcess(node.path, LIMIT)
@@ -174,7 +174,7 @@ class KillTest(unittest.TestCase):
         victim.process.kill()
 
     def kill_at_the_start(self, victim):
-        """Kills a store, and once more while it starts."""
+        """Kills a store, and again while it starts."""
         victim.process.kill()
         self.check_end(victim)
         victim.process = StoreProcess(victim.path, LIMIT)
@@ -209,7 +209,7 @@ class KillTest(unittest.TestCase):
         node.process = None
 
     def check_disk(self, node):
-        """The disk has what the store acknowledged. Its entries make a replica, as the store must at its next start."""
+        """The disk has the acknowledged entries. They make a replica, as the store must at its next start."""
         node.entries = rows_of(node.path)
         with Replica(limit=LIMIT) as replica:
             for place, (number, *version) in enumerate(node.entries):
@@ -249,7 +249,7 @@ class StoreTest(StoreCase):
     def test_refused_calls_leave_no_row(self):
         store = self.open()
         store.put(b"a", b"x")
-        with self.assertRaises(antientropy.StaleContext):
+        with self.assertRaises(antientropy.StaleContextError):
             store.put(b"a", b"y")
         self.assertFalse(store.accept(b"a", {1: 1}, b"x"))
         self.assertEqual(len(rows_of(self.path)), 1)
@@ -265,7 +265,7 @@ class StoreTest(StoreCase):
         self.assertEqual(rows_of(self.path)[2], (2, b"a", {1: 11}, b"y"))
 
     def test_entries_over_renewals(self):
-        """A position goes on. That of a reader who has missed entries is refused."""
+        """A position stays valid, unless its reader has missed entries: then it is refused."""
         store, read = self.open(), []
         for n in range(10):
             store.put(b"a", b"%d" % n, {1: n} if n else {})
@@ -276,7 +276,7 @@ class StoreTest(StoreCase):
         self.assertEqual([entry.number for entry in read], list(range(20)))
         self.assertEqual(store.entries(20), [])
         for start in (15, 21):
-            with self.assertRaises(antientropy.BadPosition):
+            with self.assertRaises(antientropy.BadPositionError):
                 store.entries(start)
         self.assertEqual(len(store.entries()), len(rows_of(self.path)))
 
@@ -287,7 +287,7 @@ class StoreTest(StoreCase):
             self.assertEqual(rows_of(self.path)[-1], (len(rows_of(self.path)) - 1, b"a", {1: n + 1}, b"%d" % n))
         store.put(b"b", b"")
         store.put(b"c", b"")
-        with self.assertRaises(antientropy.JournalFull):
+        with self.assertRaises(antientropy.JournalFullError):
             store.put(b"d", b"")
         store = self.reopened(store, limit=3)
         self.assertEqual(store.get(b"a"), [Version({1: 10}, b"9")])
@@ -308,7 +308,7 @@ class StoreTest(StoreCase):
             self.assertEqual(snapshot.root(), root)
 
     def test_a_sync_that_breaks(self):
-        """The link is lost after the first 256 leaves: what they brought is on the disk."""
+        """The link is lost after the first 256 leaves: their versions are on the disk."""
         store, calls = self.open(limit=5000), []
 
         def reach_at_first(asks):
@@ -338,7 +338,7 @@ class StoreTest(StoreCase):
 
     def test_numbers_that_no_node_has(self):
         for node in (0, 65_536):
-            with self.assertRaises(antientropy.BadClock):
+            with self.assertRaises(antientropy.BadClockError):
                 SqliteStore.create(self.path.with_name("other.db"), node)
         self.assertEqual([path.name for path in self.path.parent.iterdir() if "other" in path.name], [])
 
@@ -362,11 +362,11 @@ class StoreTest(StoreCase):
         store = self.reopened(store, limit=2)
         self.assertEqual(rows_of(self.path), [(0, b"a", {1: 5}, b"4")])
         store.put(b"b", b"x")
-        with self.assertRaises(antientropy.JournalFull):
+        with self.assertRaises(antientropy.JournalFullError):
             store.put(b"c", b"x")
 
     def test_a_commit_is_synced(self):
-        """SQLite is asked for an fsync at each commit. Whether the disk obeys isn't tested."""
+        """SQLite calls fsync at each commit. Its effect on the disk isn't tested."""
         database = self.open()._file._database
         self.assertEqual(database.execute("PRAGMA journal_mode").fetchone(), ("wal",))
         self.assertEqual(database.execute("PRAGMA synchronous").fetchone(), (2,))
@@ -384,7 +384,7 @@ class StoreTest(StoreCase):
         self.assertEqual(store.get(b"a"), [Version({1: 1}, b"x")])
 
     def test_a_failed_commit_ends_the_process(self):
-        """Files have a greatest size: nothing that didn't fit was acknowledged."""
+        """File sizes are limited: nothing that didn't fit was acknowledged."""
         most = 200_000
         process = StoreProcess(self.path, 1000, lambda: resource.setrlimit(resource.RLIMIT_FSIZE, (most, most)))
         process.start()

@@ -17,7 +17,7 @@ from sqlite_store import Doubt, SqliteStore  # noqa: E402
 
 __all__ = ["Doubt", "MEMORY", "SqliteStore", "StoreCase", "copy_files", "rows_of"]
 
-#: A folder in memory, if the system has one: to a killed process it is as good as a disk.
+#: A folder in memory, if the system has one: for a killed process it is as good as a disk.
 MEMORY = next(filter(os.path.isdir, ["/dev/shm"]), None)
 
 

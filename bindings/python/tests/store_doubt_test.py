@@ -32,7 +32,7 @@ class DoubtTest(StoreCase):
             self.assertEqual(store.put(b"a", b"%d" % n, {1: n} if n else {}).counter, n + 1)
 
     def assert_doubt(self, what):
-        """No start goes on with the files. Returns what a new life has of the key."""
+        """Each start refuses the files. Returns the versions of the key in a new life."""
         for _ in range(2):
             with self.assertRaisesRegex(Doubt, what):
                 SqliteStore(self.copy)
@@ -53,7 +53,7 @@ class DoubtTest(StoreCase):
         path.write_bytes(data)
 
     def checkpoint(self):
-        """Brings all into the main file."""
+        """Moves everything into the main file."""
         SqliteStore(self.copy).close()
         self.assertFalse(self.log.exists())
 
@@ -138,7 +138,7 @@ class DoubtTest(StoreCase):
             self.restore()
 
     def test_pages_of_the_main_file(self):
-        """Whatever is wrong with them, it is either found, or the store has all."""
+        """Any damage of them is either found, or the store has all entries."""
         self.checkpoint()
         size, found = self.copy.stat().st_size, 0
         for place in range(0, size, 97):
@@ -153,7 +153,7 @@ class DoubtTest(StoreCase):
         self.assertGreater(found, 5)
 
     def test_a_page_in_the_middle_of_the_main_file(self):
-        """A new life has what is before it, and what is behind it."""
+        """A new life has the entries before and after it."""
         path, new = self.copy.with_name("pages.db"), self.copy.with_name("2.db")
         SqliteStore.create(path, 1)
         with closing(SqliteStore(path)) as store:
@@ -178,7 +178,7 @@ class DoubtTest(StoreCase):
         self.assertEqual(self.assert_doubt("the note is missing"), [Version({1: PUTS}, b"29")])
 
     def test_one_slot_of_the_note_damaged(self):
-        """The other one is a put behind, at most."""
+        """The other one is at most one put behind."""
         data = self.note.read_bytes()
         for place in (*range(24), *range(512, len(data))):
             self.flip(self.note, place)
@@ -198,7 +198,7 @@ class DoubtTest(StoreCase):
         self.assert_doubt("the note is that of node 3")
 
     def check_old_copy(self, go_on):
-        """The store goes on, and then its file is replaced by an older one."""
+        """The store accepts more puts, and then its file is replaced by an older one."""
         with closing(SqliteStore(self.path)) as store:
             go_on(store)
         shutil.copy(f"{self.path}-noted", self.note)
@@ -237,7 +237,7 @@ class DoubtTest(StoreCase):
 
 
 class PartnerTest(StoreCase):
-    """After a crash of the machine a store may have lost its end, and its note with it. Partners have it."""
+    """After a crash of the machine a store may have lost its last entries, and its note. Partners have them."""
 
     def setUp(self):
         super().setUp()
@@ -254,7 +254,7 @@ class PartnerTest(StoreCase):
                 self.partner.accept(entry.key, entry.clock, entry.value)
 
     def assert_marked(self, store):
-        """The store can be read, and goes on with no put: neither now nor later."""
+        """The store can be read, and refuses every put, now and later."""
         for call in (store.put, lambda key, value: store.accept(key, {9: 1}, value)):
             with self.assertRaisesRegex(Doubt, "counter 2 of node 1"):
                 call(b"c", b"x")
@@ -284,7 +284,7 @@ class PartnerTest(StoreCase):
         self.assert_marked(store)
 
     def test_a_lost_put_and_a_renewal(self):
-        """A renewal finds what a sync has taken, and what isn't in the file yet."""
+        """A renewal finds versions that a sync has taken, and that aren't in the file yet."""
         store = SqliteStore(self.copy)
         store._replica.accept(b"a", {1: 2}, b"lost")
         store.renew()

@@ -12,13 +12,13 @@ COMMAND = [sys.executable, "-S", EXAMPLES / "line_server.py"]
 
 
 def environment(path):
-    """The environment of a store. What Python compiles is kept beside its file, so that it starts sooner."""
+    """The environment of a store. Python's compiled files are cached next to its file, so that it starts sooner."""
     compiled = {"PYTHONDONTWRITEBYTECODE": "", "PYTHONPYCACHEPREFIX": f"{path.parent}/compiled"}
     return {**os.environ, "PYTHONPATH": str(IMPORTED), **compiled}
 
 
 class Died(Exception):
-    """The process has ended: a request that has no answer wasn't acknowledged."""
+    """The process has ended: a request without an answer wasn't acknowledged."""
 
     def __init__(self, process):
         super().__init__(process)
@@ -38,7 +38,7 @@ class StoreProcess:
         return self.read()
 
     def ask(self, call, *args):
-        """Makes a request, and returns the answer: none is refused here."""
+        """Makes a request, and returns the answer, which isn't a refusal."""
         self.write([call, *args])
         said = self.read()
         assert not isinstance(said, dict), said
@@ -53,7 +53,7 @@ class StoreProcess:
             raise Died(self) from None
 
     def read(self):
-        """Reads a line: one that isn't whole is none."""
+        """Reads a line, or nothing if it is incomplete."""
         line = self._process.stdout.readline()
         if not line.endswith("\n"):
             raise Died(self)
@@ -64,13 +64,13 @@ class StoreProcess:
         self._process.send_signal(signal.SIGKILL)
 
     def end(self):
-        """Waits for the end of the process. Returns its status and what it wrote as errors."""
+        """Waits for the end of the process. Returns its status and its standard error."""
         errors = self._process.communicate()[1]
         return self._process.returncode, errors
 
 
 def run(path, *words):
-    """Runs a command without input. Returns its status and what it wrote."""
+    """Runs a command without input. Returns its status and its output."""
     pipes = {"stdin": subprocess.DEVNULL, "stdout": subprocess.PIPE, "stderr": subprocess.STDOUT}
     done = subprocess.run([*COMMAND, *words], text=True, env=environment(path), **pipes)
     return done.returncode, done.stdout
@@ -82,7 +82,7 @@ def create(path, node):
 
 
 def sync(store, partner, node):
-    """Lets a store take what a partner has, and returns the number of versions. The messages go through here."""
+    """Syncs a store from a partner, and returns the number of versions. The messages pass through here."""
     offer = partner.ask("offer")
     said = store.ask("sync", node, offer)
     while isinstance(said, list):

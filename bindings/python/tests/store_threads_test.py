@@ -42,7 +42,7 @@ class Later(threading.Thread):
     def run(self):
         try:
             self.result = self._call(*self._args)
-        except antientropy.Refused as refused:
+        except antientropy.AntientropyError as refused:
             self.result = refused.name
 
     def end(self):
@@ -159,7 +159,7 @@ class ThreadsTest(StoreCase):
         self.assert_has_all(store, b"a", b"b")
 
     def test_a_sync_that_ends_while_a_renewal_writes(self):
-        """What it has taken since then isn't in the new replica: it begins anew."""
+        """Versions taken since then aren't in the new replica: the sync restarts."""
         store, asked, go = self.open(limit=1000), threading.Event(), threading.Event()
         store.put(b"a", b"x")
         sync = Later(self.sync, store, lambda: (asked.set(), go.wait(LONG)))
@@ -198,22 +198,22 @@ class ThreadsTest(StoreCase):
     def test_a_sync_that_has_no_room(self):
         store = self.open(limit=290)
         for _ in range(2):
-            with self.assertRaises(antientropy.JournalFull):
+            with self.assertRaises(antientropy.JournalFullError):
                 self.sync(store, lambda: None)
         self.assertEqual(len(rows_of(self.path)), len(store.entries()))
 
     def test_a_store_closed_while_it_syncs(self):
         store = self.open(limit=1000)
-        with self.assertRaises(antientropy.Empty):
+        with self.assertRaises(antientropy.EmptyError):
             self.sync(store, store.close)
-        with self.assertRaises(antientropy.Empty):
+        with self.assertRaises(antientropy.EmptyError):
             store.put(b"a", b"x")
         self.assertEqual(len(self.open(limit=1000).entries()), 0)
 
     # ---- renewals
 
     def test_a_renewal_while_a_snapshot_is_made(self):
-        """The snapshot is that of the new replica, whether that of the old one is made already or is hashed."""
+        """The snapshot is the new replica's, even if the old one's is made already or being hashed."""
         store = self.open()
 
         def renew():
@@ -242,7 +242,7 @@ class ThreadsTest(StoreCase):
         for n in range(100):
             store.put(b"%d" % n, b"")
         for _ in range(50):
-            with self.assertRaises(antientropy.JournalFull):
+            with self.assertRaises(antientropy.JournalFullError):
                 store.put(b"more", b"")
         self.assertLessEqual(disk.count("DELETE FROM entry"), 3)
 

@@ -1,4 +1,4 @@
-"""What several tests use."""
+"""Code that several tests share."""
 
 import os
 import subprocess
@@ -10,7 +10,7 @@ import antientropy
 from antientropy._library import current
 
 PACKAGE = Path(__file__).resolve().parents[1]
-#: The folder of the package that is tested: it may be a copy with the extension.
+#: The folder of the tested package, which may be a copy with the extension.
 IMPORTED = Path(antientropy.__file__).resolve().parents[1]
 EXAMPLES = PACKAGE / "examples"
 
@@ -26,13 +26,13 @@ def reach(snapshot, number=1):
 
 
 def sync(replica, partner):
-    """Takes what a partner has."""
+    """Syncs from a partner."""
     with partner.snapshot() as snapshot:
         return replica.sync(9, snapshot.offer(1), reach(snapshot))
 
 
 def take_all(exchange, snapshot, between=lambda: None):
-    """Takes the answers to all asks, those to the last ones first. Returns the bytes of asks and answers.
+    """Takes the answers to all asks, in reverse order. Returns the bytes of asks and answers.
 
     It calls a function after each batch.
     """
@@ -75,12 +75,12 @@ def run(*words):
 
 
 class ReplicaCase(unittest.TestCase):
-    """A test that can tell whether a replica was changed."""
+    """A test that can detect changes of a replica."""
 
     def assert_refused(self, name, replica, call, *args):
-        """A call is refused by a cause, and leaves the replica unchanged. Returns the exception."""
+        """Checks that a call is refused, and leaves the replica unchanged. Returns the exception."""
         before = self.state(replica)
-        with self.assertRaises(getattr(antientropy, name)) as caught:
+        with self.assertRaises(getattr(antientropy, f"{name}Error")) as caught:
             call(*args)
         self.assertEqual(caught.exception.name, name)
         self.assertEqual(self.state(replica), before)

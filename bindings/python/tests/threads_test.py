@@ -1,4 +1,4 @@
-"""Several threads with one replica."""
+"""Several threads that share one replica."""
 
 import threading
 import unittest

@@ -34,7 +34,7 @@ class VersionsTest(unittest.TestCase):
             key, value = bytearray(b"key"), bytearray(b"value")
             replica.put(1, key, value)
             for call in (replica.put, replica.put_unread):
-                with self.assertRaises(antientropy.StaleContext):
+                with self.assertRaises(antientropy.StaleContextError):
                     call(1, key, value)
             for words in (("node", key, value), (1, key, 7), (1, key, value, 7), (1, key, value, {1: "counter"})):
                 with self.assertRaises(TypeError):
@@ -50,9 +50,10 @@ class VersionsTest(unittest.TestCase):
             for n, clock in enumerate((dict(pairs), UserDict(pairs), pairs, iter(pairs), map(list, pairs))):
                 self.assertEqual(replica.accept(b"key", clock, b""), n == 0)
             self.assertEqual(replica.get(b"key")[0].clock, dict(pairs))
-            for clock, error in (([(1, 1), (1, 1)], antientropy.BadClock), ([(1, 1)] * 40, antientropy.BadClock),
-                                 ([(1, 2, 3)], ValueError), ([1], TypeError), ({1: -1}, OverflowError),
-                                 ({1 << 64: 1}, OverflowError), ({n: 1 for n in range(1, 34)}, antientropy.ClockFull)):
+            twice, large = antientropy.BadClockError, antientropy.ClockFullError
+            for clock, error in (([(1, 1), (1, 1)], twice), ([(1, 1)] * 40, twice), ([(1, 2, 3)], ValueError),
+                                 ([1], TypeError), ({1: -1}, OverflowError), ({1 << 64: 1}, OverflowError),
+                                 ({n: 1 for n in range(1, 34)}, large)):
                 with self.subTest(clock), self.assertRaises(error):
                     replica.accept(b"key", clock, b"")
 
@@ -64,7 +65,7 @@ class VersionsTest(unittest.TestCase):
             replica.accept(b"long", {2: 1}, value)
             self.assertEqual([version.value for version in replica.get(b"long")], [value, value])
             self.assertGreater(len(replica.row(b"long")), 2 * len(value))
-            self.assertEqual(list(replica.versions(b"crowded")), replica.get(b"crowded"))
+            self.assertEqual(len(replica.get(b"crowded")), 64)
 
     def test_a_replica_that_was_not_made(self):
         replica = Replica.__new__(Replica)
@@ -78,7 +79,7 @@ class VersionsTest(unittest.TestCase):
                  lambda n: replica.row(b"%d" % n), lambda n: replica.accept(b"%d" % n, {2: 1}, b"")]
 
         def repeat(call):
-            with self.assertRaises(antientropy.Empty):
+            with self.assertRaises(antientropy.EmptyError):
                 for n in range(1_000_000):
                     call(n)
             ended.append(call)
