@@ -1,18 +1,18 @@
-//! An outage and its repair: two replicas write apart, take over what they lack, and merge the key that both wrote.
+//! An outage and its repair: two replicas accept writes separately, sync, and merge the key that both wrote.
 
 use antientropy::{merge, Clock, Config, Refusal, Replica, Synced};
 
 const A: u16 = 1;
 const B: u16 = 2;
 
-/// Takes what the partner has. Here its snapshot is called directly; elsewhere the messages go over a network.
+/// Syncs from the partner. Its snapshot is called directly here; in production the messages travel over a network.
 fn sync(replica: &mut Replica, partner: &mut Replica, node: u16) -> Result<Synced, Refusal> {
     let snapshot = partner.snapshot()?;
     let offer = snapshot.offer(1)?;
     replica.sync(node, &offer, |asks| asks.iter().map(|ask| snapshot.serve(1, ask).ok()).collect())
 }
 
-/// Returns a number of versions in words.
+/// Formats a number of versions.
 fn count(number: u64) -> String {
     match number {
         1 => "1 version".to_owned(),

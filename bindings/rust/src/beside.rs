@@ -11,8 +11,8 @@ use crate::snapshot::Snapshot;
 use crate::sync::{self, Synced};
 use crate::values::Bounds;
 
-/// The locks by which threads share a replica, or a type that has one: [`Mutex`], and [`RwLock`], by whose
-/// [`read`](RwLock::read) threads read the replica at once. No other type can implement it.
+/// Locks for a replica that threads share, or for a type that has one: [`Mutex`], and [`RwLock`], whose
+/// [`read`](RwLock::read) lets threads read the replica concurrently. No other type can implement it.
 pub trait Lock: sealed::Lock {}
 
 impl<T: AsMut<Replica>> Lock for Mutex<T> {}
@@ -21,9 +21,9 @@ impl<T: AsMut<Replica>> Lock for RwLock<T> {}
 mod sealed {
     use super::{Mutex, Replica, RwLock};
 
-    /// What the calls here need of a lock.
+    /// The methods of a lock that the calls here use.
     pub trait Lock {
-        /// Makes some calls with no others between, unless the lock is poisoned.
+        /// Makes some calls without others in between, unless the lock is poisoned.
         fn try_with<U>(&self, calls: impl FnOnce(&mut Replica) -> U) -> Option<U>;
     }
 
@@ -49,10 +49,11 @@ impl<L: Lock> Access for Shared<'_, L> {
     }
 }
 
-/// Returns a snapshot of a replica that threads share. The lock is free while nodes are hashed, so other threads put.
+/// Returns a snapshot of a replica that threads share. The lock is free while nodes are hashed, so other threads can
+/// put.
 ///
-/// The rows are those of a moment of the call, and the replica keeps no moment then. Offer them when the entries that
-/// the snapshot counts are on the disk.
+/// The rows are from a moment during the call, which is dropped at the end. Offer them when the entries that the
+/// snapshot counts are on the disk.
 ///
 /// ```
 /// use std::sync::RwLock;
@@ -62,7 +63,7 @@ impl<L: Lock> Access for Shared<'_, L> {
 /// let shared = RwLock::new(Replica::new(Config::default())?);
 /// thread::scope(|scope| {
 ///     scope.spawn(|| shared.write().unwrap().put(1, b"cart", b"milk", &Clock::new()));
-///     scope.spawn(|| shared.read().unwrap().get(b"cart")); // threads read at once
+///     scope.spawn(|| shared.read().unwrap().get(b"cart")); // threads read concurrently
 ///     let snapshot = snapshot_beside(&shared)?;
 ///     assert!(snapshot.entries() <= 1);
 ///     snapshot.offer(7)
@@ -77,7 +78,7 @@ pub fn snapshot_beside<L: Lock>(shared: &L) -> Result<Snapshot, Refusal> {
     at_moment(&mut Shared(shared), |replica| replica.moment())
 }
 
-/// Opens an exchange of a shared replica, as [`Replica::exchange`] does. The lock is free while nodes are hashed.
+/// Opens an exchange of a shared replica, like [`Replica::exchange`]. The lock is free while nodes are hashed.
 ///
 /// # Panics
 ///
@@ -86,10 +87,10 @@ pub fn exchange_beside<L: Lock>(shared: &L, partner: u16, offer: &[u8], bounds: 
     Exchange::open(&mut Shared(shared), partner, offer, bounds)
 }
 
-/// Takes the versions of a partner's offer that a shared replica lacks, as [`Replica::sync_within`] does.
+/// Takes the versions that a shared replica is missing from a partner's offer, like [`Replica::sync_within`].
 ///
-/// The lock is free while nodes are hashed and while `reach` waits, so other threads put. A migration, or a renewed
-/// replica in the place of this one, ends the sync as [`Gone`](crate::Report::Gone).
+/// The lock is free while nodes are hashed and while `reach` waits, so other threads can put. A migration, or a renewed
+/// replica in place of this one, ends the sync as [`Gone`](crate::Report::Gone).
 ///
 /// ```
 /// use std::sync::Mutex;
@@ -117,16 +118,17 @@ where
     sync::sync(&mut Shared(shared), bounds, partner, offer, reach)
 }
 
-/// Renews a shared replica in its place, as [`Replica::renew_in_place`] does.
+/// Renews a shared replica in place, like [`Replica::renew_in_place`].
 ///
-/// It holds the rows now as a moment, makes the new journal of them without the lock, and accepts what was put
-/// meanwhile. Other threads wait only for its steps under the lock: some 64 entries at once, and a few at last. The
-/// numbers of entries go on: those since the moment keep theirs, and a log that has all entries before it reads on.
+/// It holds the current rows as a moment, builds the new journal from them without the lock, and accepts the entries
+/// put meanwhile. Other threads wait only for its steps under the lock: about 64 entries at a time, and a few at the
+/// end. Entry numbers continue: entries since the moment keep theirs, and a log that has all earlier entries reads on.
 ///
 /// # Errors
 ///
 /// `BadRing` (the limit), `JournalFull` (more versions are held than the limit, or accepted meanwhile) or `Stale`
-/// (another thread has renewed or migrated the replica meanwhile). The replica is unchanged then, but for its moment.
+/// (another thread has renewed or migrated the replica meanwhile). A refusal leaves the replica unchanged, except its
+/// moment.
 ///
 /// # Panics
 ///
@@ -135,10 +137,11 @@ pub fn renew_beside<L: Lock>(shared: &L, limit: u64) -> Result<(), Refusal> {
     renewal::renew(&mut Shared(shared), limit)
 }
 
-/// Renews a shared replica as [`renew_beside`], with its limit, if [`Replica::is_renewal_due`]. Returns true if it has.
+/// Renews a shared replica like [`renew_beside`], with its limit, if [`Replica::is_renewal_due`]. Returns true if it
+/// has renewed it.
 ///
-/// A thread that repeats it lets the journal have room: a put is refused as `JournalFull` only if the last tenth of the
-/// limit is used before the renewal has ended, or if rows alone fill the journal.
+/// If a thread repeats this call, a put is refused as `JournalFull` only if the last tenth of the limit is used before
+/// the renewal has ended, or if the rows fill the journal.
 ///
 /// ```
 /// use std::sync::RwLock;
@@ -149,7 +152,7 @@ pub fn renew_beside<L: Lock>(shared: &L, limit: u64) -> Result<(), Refusal> {
 /// for _ in 0..100 {
 ///     let receipt = shared.write().unwrap().put(1, b"cart", b"milk", &context)?;
 ///     context = Clock::from([(1, receipt.counter)]);
-///     renew_if_due(&shared)?; // better in a thread of its own
+///     renew_if_due(&shared)?; // better in a separate thread
 /// }
 /// assert_eq!(shared.read().unwrap().count()?.entries, 100);
 /// # Ok::<(), antientropy::Refusal>(())

@@ -27,7 +27,7 @@ pub enum CheckpointError {
 #[derive(Clone, Copy, Debug, PartialEq, Eq, Hash)]
 #[non_exhaustive]
 pub enum Damage {
-    /// The file doesn't begin as a checkpoint does.
+    /// The file doesn't begin like a checkpoint.
     NotCheckpoint,
     /// The file ends early, or a length in it is damaged.
     Truncated,
@@ -35,7 +35,7 @@ pub enum Damage {
     TooLong,
     /// The rows of the leaf of this number are refused.
     Leaf(u16),
-    /// The rows have another root than the file says.
+    /// The rows' root differs from the file's.
     Root,
 }
 
@@ -154,7 +154,7 @@ fn load_rows(replica: &mut Replica, leaf: u16, rows: &[u8]) -> Result<(), Checkp
     }
 }
 
-/// Reads `len` bytes. A damaged length may be huge, so the memory grows with the bytes that are there.
+/// Reads `len` bytes. A damaged length may be huge, so the memory grows with the bytes in the file.
 fn read(file: &mut impl Read, len: u64) -> Result<Vec<u8>, CheckpointError> {
     let mut bytes = Vec::new();
     file.take(len).read_to_end(&mut bytes)?;

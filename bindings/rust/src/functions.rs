@@ -56,7 +56,7 @@ pub fn compare(first: &Clock, second: &Clock) -> Result<Order, Refusal> {
     Ok(Order::from(order))
 }
 
-/// Merges clocks, for the context of a put that replaces the versions of all.
+/// Merges clocks, for the context of a put that replaces the versions of all these clocks.
 ///
 /// ```
 /// use antientropy::{merge, Clock};

@@ -7,19 +7,19 @@ use crate::refusal::{check, Refusal};
 use crate::sys;
 use crate::values::{Clock, Kind, Pair};
 
-/// Bytes that a call gets on the stack for its result. A longer result needs a second call.
+/// Size of a result's buffer on the stack, in bytes. A longer result needs a second call.
 const BYTES_ROOM: usize = 16 << 10;
 
 /// Bytes of the longest key.
 pub(crate) const KEY_MAX: usize = 255;
 
-/// The most pairs of a clock.
+/// Maximum number of pairs of a clock.
 pub(crate) const CLOCK_MAX: usize = 32;
 
 /// A call that frees a handle.
 type Free = unsafe extern "C" fn(*mut sys::Handle);
 
-/// A handle that holds something, and frees it when it is dropped.
+/// A non-empty handle, which is freed when this is dropped.
 pub(crate) struct Owned {
     raw: sys::Handle,
     free: Free,
@@ -27,15 +27,16 @@ pub(crate) struct Owned {
 
 // SAFETY: the library lets a handle go to another thread if the program orders the calls before and after. The header
 // names locks, the start and the end of threads, and sequentially consistent atomics. Safe code may also use weaker
-// atomics that order, as channels do: on x86-64, the library's only processor, those are as good.
+// atomics that order, as channels do: on x86-64, the library's only processor, those are equivalent.
 unsafe impl Send for Owned {}
 
-// SAFETY: a shared reference gives only copies of the handle, and they go only to calls by shares. Any number of
-// threads may make those at once, as long as no other call of the handle is made, for which it is borrowed exclusively.
+// SAFETY: a shared reference gives only copies of the handle, which are passed only to calls by shares. Any number of
+// threads may make such calls concurrently, as long as no other call of the handle is made, for which it is borrowed
+// exclusively.
 unsafe impl Sync for Owned {}
 
 impl Owned {
-    /// Returns what a call makes in an empty handle. `free` is the call that frees it.
+    /// Returns the handle that a call fills. `free` is the call that frees it.
     pub(crate) fn make(free: Free, call: impl FnOnce(*mut sys::Handle) -> u32) -> Result<Owned, Refusal> {
         let mut raw = sys::Handle { at: ptr::null_mut(), held: false, before: 0 };
         check(call(&mut raw))?;
@@ -47,7 +48,7 @@ impl Owned {
         &mut self.raw
     }
 
-    /// Returns a copy of the handle for one call by a share, or for several that follow one another.
+    /// Returns a copy of the handle for one call by a share, or for several in sequence.
     pub(crate) fn share(&self) -> sys::Handle {
         self.raw
     }
@@ -73,12 +74,13 @@ pub(crate) fn written<T: Default>(call: impl FnOnce(&mut T) -> u32) -> Result<T,
     Ok(result)
 }
 
-/// Returns what a call writes to its room, which is for `N` elements first, and then for as many as it needs.
+/// Returns the elements that a call writes, first to a buffer for `N` elements, then to one of the length needed.
 ///
 /// # Safety
 ///
-/// The call gets room, its length and the place of the length needed. If it returns 0, it has written that length there
-/// and as many elements to the room. If it returns SMALL, it has written a length that suffices the next time.
+/// The call gets a buffer, its length and the address for the length needed. If it returns 0, it has written that
+/// length, and that number of elements to the buffer. If it returns SMALL, it has written a length that suffices the
+/// next time.
 pub(crate) unsafe fn fill<T: Copy, const N: usize>(
     mut call: impl FnMut(*mut T, usize, &mut u64) -> u32,
 ) -> Result<Vec<T>, Refusal> {
@@ -93,7 +95,7 @@ pub(crate) unsafe fn fill<T: Copy, const N: usize>(
     }
 }
 
-/// Returns what a call writes to room for `need` elements.
+/// Returns the elements that a call writes to a buffer for `need` elements.
 ///
 /// # Safety
 ///
@@ -123,7 +125,7 @@ pub(crate) unsafe fn bytes(call: impl FnMut(*mut u8, usize, &mut u64) -> u32) ->
 ///
 /// # Safety
 ///
-/// As for `fill`. The first argument is the place of the kind.
+/// As for `fill`. The first argument is the address for the kind.
 pub(crate) unsafe fn value(
     mut call: impl FnMut(&mut u8, *mut u8, usize, &mut u64) -> u32,
 ) -> Result<(Kind, Vec<u8>), Refusal> {

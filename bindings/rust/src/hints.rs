@@ -7,9 +7,9 @@ use crate::refusal::{check, found, Refusal};
 use crate::sys;
 use crate::values::{Hint, HintCounts, Version};
 
-/// The hints that a node carries. A hint is of no range, and its number never names another one.
+/// The hints that a node carries in memory. A hint doesn't belong to a range, and its number never names another one.
 ///
-/// Confirm a hint after its owner has the version on its disk:
+/// Confirm a hint once its owner has the version on its disk:
 ///
 /// ```
 /// use antientropy::{Clock, Config, Hints, Replica, Version};
@@ -43,8 +43,8 @@ impl Hints {
 
     /// Makes an empty store of hints, after a restart. The first hint gets the number `first`.
     ///
-    /// It must be above all numbers in the program's log: hints that are kept again get new numbers, which are logged,
-    /// and no old number names another hint.
+    /// It must be above all numbers in the program's log: hints that are kept again get new numbers to log, and no old
+    /// number names another hint.
     ///
     /// # Errors
     ///
@@ -84,7 +84,7 @@ impl Hints {
         })
     }
 
-    /// Returns the owner's pending hint with the least number over `after`: 0 gives the first.
+    /// Returns the owner's pending hint with the least number over `after`, which is 0 for the first.
     pub fn next_pending(&mut self, owner: u16, after: u64) -> Result<Option<Hint>, Refusal> {
         let number: Option<u64> = found(written(|id| {
             // SAFETY: as in `sys`.
@@ -111,7 +111,7 @@ impl Hints {
         found(self.hint_parts(number))
     }
 
-    /// Ends the wait of a pending hint, after its owner has the version on its disk.
+    /// Marks a pending hint as delivered, once its owner has the version on its disk.
     ///
     /// `known` is true if the owner knew the version.
     ///
@@ -123,9 +123,9 @@ impl Hints {
         check(unsafe { sys::antientropy_hint_confirm(self.handle.raw(), number, known) })
     }
 
-    /// Drops the delivered hints. The pending ones get new numbers, above every number that was used, in order.
+    /// Drops the delivered hints. The pending ones get new numbers in order, above every number that was used.
     ///
-    /// An old number names no hint then.
+    /// After that, an old number names no hint.
     ///
     /// # Errors
     ///
@@ -143,9 +143,9 @@ impl Hints {
         })
     }
 
-    /// Returns the size in bytes of all hints, also of those that are delivered.
+    /// Returns the size of all hints in bytes, including delivered ones.
     ///
-    /// It is that of their keys, values and clocks, 10 bytes for each pair of a clock.
+    /// It counts their keys, values and clocks, 10 bytes for each pair of a clock.
     pub fn bytes(&mut self) -> Result<u64, Refusal> {
         written(|bytes| {
             // SAFETY: as in `sys`.

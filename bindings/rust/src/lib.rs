@@ -1,6 +1,18 @@
 #![doc = include_str!("../README.md")]
 #![deny(missing_docs, unsafe_op_in_unsafe_fn)]
-#![warn(clippy::all, clippy::undocumented_unsafe_blocks)]
+#![warn(clippy::all, clippy::pedantic, clippy::undocumented_unsafe_blocks)]
+// A call without a section of errors is refused only as `NoMemory`, or as the call that its text names. The library's
+// numbers are cut to types that hold its limits. A result on the stack needs no allocation. Fields of `sys` have the
+// names of the header. Public names are the crate's, not its private modules'. Debian's clippy doesn't have one of
+// these lints.
+#![allow(
+    unknown_lints,
+    clippy::missing_errors_doc,
+    clippy::cast_possible_truncation,
+    clippy::large_stack_arrays,
+    clippy::module_name_repetitions,
+    clippy::struct_field_names
+)]
 
 mod beside;
 mod checkpoint;

@@ -1,4 +1,4 @@
-//! Moments that are hashed in portions, between other calls of a replica.
+//! Moments that are hashed in portions, in between other calls of a replica.
 
 use std::ops::ControlFlow;
 
@@ -9,12 +9,12 @@ use crate::replica::Replica;
 /// Maximum number of nodes in a portion.
 const PORTION_MAX: u64 = 64;
 
-/// A way to the calls of a replica.
+/// Access to the calls of a replica.
 pub(crate) trait Access {
-    /// Makes some calls, with no others between. Returns `None` if a panic may have left the replica's owner broken.
+    /// Makes some calls, without others in between. Returns `None` if a panic may have left the replica's owner broken.
     fn try_with<T>(&mut self, calls: impl FnOnce(&mut Replica) -> T) -> Option<T>;
 
-    /// Makes some calls, with no others between.
+    /// Makes some calls, without others in between.
     fn with<T>(&mut self, calls: impl FnOnce(&mut Replica) -> T) -> T {
         self.try_with(calls).expect("the lock of the replica is poisoned")
     }
@@ -26,8 +26,8 @@ impl Access for Replica {
     }
 }
 
-/// Holds a moment, hashes it, and makes a call as soon as it is whole, with no others between. Drops the moment then:
-/// its rows stay with what the call made, and no later hold frees them under a lock.
+/// Holds a moment, hashes it, and makes a call as soon as it is whole, without others in between. Then drops the
+/// moment: its rows stay with the result of the call, and no later hold frees them under a lock.
 pub(crate) fn at_moment<A: Access, T>(
     access: &mut A,
     mut call: impl FnMut(&mut Replica) -> Result<T, Refusal>,

@@ -7,15 +7,15 @@ use crate::refusal::{check, Refusal};
 use crate::sys;
 use crate::values::{Clock, Entry, Kind, Pair, Source, Version};
 
-/// Bytes that a call gets for packed entries. If the first entry is longer, it gets as many as that one needs.
+/// Size of the buffer for packed entries, in bytes. A longer first entry gets a buffer of its length.
 const ROOM: u64 = 1 << 20;
 
-/// Some entries of a journal, packed one after the other (`docs/FORMATS.md`).
+/// Some entries of a journal, concatenated (`docs/FORMATS.md`).
 #[derive(Clone, Debug, PartialEq, Eq, Hash)]
 pub struct Packed {
     /// Bytes of the entries: none if no entry is left.
     pub bytes: Vec<u8>,
-    /// Number after the last of the entries: go on there.
+    /// Number after the last of the entries: continue there.
     pub next: u64,
 }
 
@@ -27,7 +27,7 @@ impl Packed {
         Ok(packed)
     }
 
-    /// Reads the entries that follow, in the place of these.
+    /// Replaces these entries by the ones that follow.
     fn read_on(&mut self, handle: &Owned) -> Result<(), Refusal> {
         let mut need = ROOM;
         self.bytes.clear();
@@ -51,7 +51,7 @@ impl Packed {
     }
 }
 
-/// The entries of a journal, of which some are read at once.
+/// The entries of a journal, which are read in batches.
 pub(crate) struct Entries<'a> {
     handle: &'a Owned,
     format: u8,
@@ -61,7 +61,7 @@ pub(crate) struct Entries<'a> {
 }
 
 impl<'a> Entries<'a> {
-    /// Returns the entries of a replica from a number on. `format` is that of the replica.
+    /// Returns the entries of a replica from a number on. `format` is the replica's format.
     pub(crate) fn of(handle: &'a Owned, format: u8, start: u64) -> Result<Entries<'a>, Refusal> {
         let packed = Packed::read(handle, start)?;
         Ok(Entries { handle, format, packed, parsed: 0, number: start })

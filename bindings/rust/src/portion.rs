@@ -6,8 +6,8 @@ use crate::sys;
 
 /// Some nodes of a replica's moment that have no digest.
 ///
-/// [`Replica::take_portion`](crate::Replica::take_portion) returns it. It needs no replica, and may outlive it. So
-/// threads that share a replica hash without its lock, as [`snapshot_beside`](crate::snapshot_beside) does:
+/// [`Replica::take_portion`](crate::Replica::take_portion) returns it. It needs no replica, and may outlive it, so
+/// threads that share a replica can hash without its lock, like [`snapshot_beside`](crate::snapshot_beside):
 ///
 /// ```
 /// use std::sync::Mutex;

@@ -11,9 +11,9 @@ const NAME_ROOM: usize = 64;
 
 macro_rules! refusals {
     ($(#[doc = $doc:literal] $name:ident = $number:literal,)*) => {
-        /// The cause for which the library refused a call. Except as the header says, a refused call changes nothing.
+        /// The reason why the library refused a call. Except as the header says, a refused call changes nothing.
         ///
-        /// The page `docs/FORMATS.md` says what to do at each cause.
+        /// The page `docs/FORMATS.md` has the remedy for each cause.
         ///
         /// ```
         /// use antientropy::Refusal;
@@ -40,7 +40,8 @@ macro_rules! refusals {
         }
 
         impl Refusal {
-            /// Returns the number that the header has for the cause.
+            /// Returns the cause's number in the header.
+            #[must_use]
             pub fn number(self) -> u32 {
                 match self {
                     $(Refusal::$name => $number,)*
@@ -60,7 +61,7 @@ macro_rules! refusals {
 }
 
 refusals! {
-    /// A node is 0, over 65,535 or there twice, or a counter is 0.
+    /// A node is 0, over 65,535 or repeated, or a counter is 0.
     BadClock = 1,
     /// The clock would have more than 32 pairs.
     ClockFull = 2,
@@ -70,17 +71,17 @@ refusals! {
     BadKey = 4,
     /// Too long; a tombstone with a value, or in format 1; or an unknown kind.
     BadValue = 5,
-    /// A held version has a greater counter of the node than the context, or has seen all of the new version's clock.
+    /// A held version has seen all of the new clock, or more of the node's puts than the context.
     StaleContext = 6,
     /// The key would have over 64 versions.
     Crowded = 7,
-    /// The journal has no room, or no numbers are left for a renewal's entries.
+    /// The entries don't fit into the journal, or a renewal has no numbers left.
     JournalFull = 8,
-    /// A key or an offer is of another range, or the rows are of two leaves.
+    /// A key or an offer belongs to another range, or the rows to two leaves.
     OtherRange = 9,
-    /// Some node has no digest, or there is no moment.
+    /// Some node has no digest, or the replica has no moment.
     Dirty = 10,
-    /// Another thread has renewed or migrated the replica meanwhile.
+    /// The replica isn't the renewal's: it was renewed or migrated meanwhile.
     Stale = 11,
     /// No session has this number.
     UnknownSession = 12,
@@ -88,15 +89,15 @@ refusals! {
     NotAsked = 13,
     /// The text's digest isn't the expected one.
     WrongDigest = 14,
-    /// The digest is right, but the text isn't a node's: the session has failed.
+    /// The digest matches, but the text isn't a node's: the session has failed.
     NotCanonical = 15,
-    /// The offer or the rows are of another format.
+    /// The offer or the rows have another format.
     OtherFormat = 16,
     /// 64 sessions are open, or 1,024 are kept: drop the ended ones.
     SessionsFull = 17,
     /// No slot is free, or none is lent.
     NoSlot = 18,
-    /// The moment is before the greatest accepted one.
+    /// The time is before the latest one accepted.
     ClockBack = 19,
     /// No pending hint has this number, or no hint can have it.
     UnknownHint = 20,
@@ -112,20 +113,20 @@ refusals! {
     BadMessage = 31,
     /// Malloc or realloc failed.
     NoMemory = 32,
-    /// The room is too small.
+    /// The buffer is too small.
     Small = 33,
-    /// The handle holds nothing.
+    /// The handle is empty.
     Empty = 34,
-    /// The handle holds something already.
+    /// The handle isn't empty.
     Held = 35,
-    /// There is no such version, entry or hint, or none that follows.
+    /// No such version, entry, hint or leaf, or none follows.
     NoVersion = 36,
-    /// No entry is to be read from this number on: it is over the count of entries, or from before the last renewal.
+    /// Entries can't be read from this number on: it is over the number of entries, or from before the last renewal.
     BadPosition = 37,
 }
 
 impl Refusal {
-    /// Returns the name that the library has for the number: no text if it has none.
+    /// Returns the library's name of the number: an empty string if it doesn't know the number.
     #[must_use]
     pub fn name(self) -> String {
         let number = self.number();
@@ -156,7 +157,7 @@ pub(crate) fn check(number: u32) -> Result<(), Refusal> {
     }
 }
 
-/// Turns "there is no such version, entry or hint" into `None`.
+/// Turns `NoVersion` into `None`.
 pub(crate) fn found<T>(result: Result<T, Refusal>) -> Result<Option<T>, Refusal> {
     match result {
         Err(Refusal::NoVersion) => Ok(None),

@@ -1,4 +1,4 @@
-//! Renewals of a replica in its place, between other calls of it.
+//! Renewals of a replica in place, in between its other calls.
 
 use std::thread;
 use std::time::{Duration, Instant};
@@ -9,13 +9,13 @@ use crate::refusal::{check, Refusal};
 use crate::replica::Replica;
 use crate::sys;
 
-/// Number of entries that a renewal accepts at once, at first.
+/// Initial number of entries that a renewal accepts at a time.
 const AT_ONCE: u64 = 64;
 
 /// Maximum number of entries that a renewal leaves to its finish.
 const FEW: u64 = 64;
 
-/// The new replica that is made beside the old one. After its finish it has the old one.
+/// The new replica, which is built while the old one is in use. After its finish it holds the old one.
 struct Renewal {
     handle: Owned,
 }
@@ -31,13 +31,13 @@ impl Renewal {
         Ok(Renewal { handle })
     }
 
-    /// Makes the new replica of the rows.
+    /// Builds the new replica from the rows.
     fn build(&mut self) -> Result<(), Refusal> {
         // SAFETY: as in `sys`.
         check(unsafe { sys::antientropy_renewal_build(self.handle.raw()) })
     }
 
-    /// Accepts the next entries. Returns the number of those that are left.
+    /// Accepts the next entries. Returns the number of entries left.
     fn catch_up(&mut self, replica: &Replica, most: u64) -> Result<u64, Refusal> {
         let mut share = replica.handle.share();
         written(|left| {
@@ -46,7 +46,7 @@ impl Renewal {
         })
     }
 
-    /// Accepts the entries that are left, and puts the new replica in the place of the old one.
+    /// Accepts the remaining entries, and replaces the old replica by the new one.
     fn finish(&mut self, replica: &mut Replica) -> Result<(), Refusal> {
         // SAFETY: as in `sys`.
         check(unsafe { sys::antientropy_renewal_finish(self.handle.raw(), replica.handle.raw()) })?;
@@ -54,7 +54,7 @@ impl Renewal {
     }
 }
 
-/// Renews a replica in its place. The old one is freed when no call has the replica.
+/// Renews a replica in place. The old one is freed when no call uses the replica.
 pub(crate) fn renew<A: Access>(access: &mut A, limit: u64) -> Result<(), Refusal> {
     let mut renewal = at_moment(access, |replica| Renewal::begin(replica, limit))?;
     renewal.build()?;
@@ -62,8 +62,8 @@ pub(crate) fn renew<A: Access>(access: &mut A, limit: u64) -> Result<(), Refusal
     access.with(|replica| renewal.finish(replica))
 }
 
-/// Accepts entries until few are left. After each step the lock is left to others for as long, so that all puts that
-/// waited are made. If they outrun it nevertheless, it accepts more at once and waits no more, so it ends.
+/// Accepts entries until few are left. After each step the lock is free for the same time, so that all waiting puts are
+/// made. If they still outrun it, it accepts more at a time without waiting, so it ends.
 fn catch_up<A: Access>(access: &mut A, renewal: &mut Renewal) -> Result<(), Refusal> {
     let (mut most, mut outrun) = (AT_ONCE, false);
     let (mut left, mut took) = step(access, renewal, most)?;
@@ -80,7 +80,7 @@ fn catch_up<A: Access>(access: &mut A, renewal: &mut Renewal) -> Result<(), Refu
     Ok(())
 }
 
-/// Accepts the next entries. Returns the number of those that are left, and the time for which it had the lock.
+/// Accepts the next entries. Returns the number of entries left, and the time for which it held the lock.
 fn step<A: Access>(access: &mut A, renewal: &mut Renewal, most: u64) -> Result<(u64, Duration), Refusal> {
     access.with(|replica| {
         let begin = Instant::now();

@@ -67,9 +67,9 @@ impl Default for Config {
 
 /// A replica of one range of a ring.
 ///
-/// A call that takes `&self` reads the replica, and threads may read it at once. A lock around a replica lets threads
-/// share it, best an [`RwLock`](std::sync::RwLock): [`snapshot_beside`](crate::snapshot_beside) and
-/// [`sync_beside`](crate::sync_beside) free it while they hash.
+/// A call that takes `&self` reads the replica, and threads may read it concurrently. A lock around a replica lets
+/// threads share it, best an [`RwLock`](std::sync::RwLock): [`snapshot_beside`](crate::snapshot_beside) and
+/// [`sync_beside`](crate::sync_beside) unlock it while they hash.
 ///
 /// ```
 /// use antientropy::{merge, Clock, Config, Replica};
@@ -78,7 +78,7 @@ impl Default for Config {
 /// let versions = replica.get(b"cart")?;
 /// let context = merge(versions.iter().map(|version| &version.clock))?;
 /// replica.put(1, b"cart", b"milk, eggs", &context)?;
-/// assert_eq!(replica.count_versions(b"cart")?, 1);
+/// assert_eq!(replica.get(b"cart")?.len(), 1);
 /// # Ok::<(), antientropy::Refusal>(())
 /// ```
 #[derive(Debug)]
@@ -103,7 +103,7 @@ impl Replica {
         Ok(Replica { handle, held: 0 })
     }
 
-    /// Makes an empty replica that finds keys by a hash with a seed.
+    /// Makes an empty replica with a seed for the hash of keys.
     ///
     /// Random words make it hard for clients to choose keys with equal hashes, which are slow to find.
     ///
@@ -120,11 +120,11 @@ impl Replica {
         Ok(Replica { handle, held: 0 })
     }
 
-    /// Returns a new replica with the versions that are held: one entry for each, as a copy, and no sessions.
+    /// Returns a new replica with the held versions: one entry for each, as a copy, and no sessions.
     ///
-    /// The numbers of entries go on: both replicas count as many entries, and the next entry gets a number that was
-    /// never used. So do those of sessions. This replica is left unchanged: drop it, and go on with the new one under
-    /// the same node number.
+    /// Entry numbers continue: both replicas have the same entry count, and the next entry gets a number that was never
+    /// used. Session numbers continue, too. This replica is unchanged: drop it, and use the new one under the same node
+    /// number. Takes time in proportion to the rows.
     ///
     /// # Errors
     ///
@@ -140,20 +140,20 @@ impl Replica {
         Ok(renewed)
     }
 
-    /// Renews the replica as [`renew`](Replica::renew) does, in its place. The sessions and the moment are gone then.
+    /// Renews the replica like [`renew`](Replica::renew), but in place. Drops its sessions and its moment.
     ///
     /// [`renew_beside`](crate::renew_beside) does it while other threads put.
     ///
     /// # Errors
     ///
-    /// `BadRing` (the limit) or `JournalFull` (more versions are held than the limit, or no numbers are left). The
-    /// replica is unchanged then, but for its moment.
+    /// `BadRing` (the limit) or `JournalFull` (more versions are held than the limit, or no numbers are left). A
+    /// refusal leaves the replica unchanged, except its moment.
     pub fn renew_in_place(&mut self, limit: u64) -> Result<(), Refusal> {
         renewal::renew(self, limit)
     }
 
-    /// Returns true if a renewal is due: at nine tenths of the limit, once half of the room that the last renewal left
-    /// is used. So a journal that its rows alone fill isn't renewed for ever.
+    /// Returns true if a renewal is due: at nine tenths of the limit, once half of the space that the last renewal left
+    /// is used. This keeps a journal that its rows fill from being renewed again and again.
     ///
     /// ```
     /// use antientropy::{Clock, Config, Replica};
@@ -174,7 +174,7 @@ impl Replica {
         Ok(used * 10 >= limit * 9 && used > self.held && (used - self.held) * 2 >= limit - self.held)
     }
 
-    /// Notes the journal that a renewal left.
+    /// Records the journal's length after a renewal.
     pub(crate) fn note_renewed(&mut self) -> Result<(), Refusal> {
         let Counts { entries, first, .. } = self.count()?;
         self.held = entries - first;
@@ -188,7 +188,7 @@ impl Replica {
         check(unsafe { sys::antientropy_migrate(self.handle.raw()) })
     }
 
-    /// Returns the format, the range and the number of entries: what a checkpoint or a log has to name.
+    /// Returns the format, the range and the number of entries: the identity to store in a checkpoint or a log.
     pub fn about(&self) -> Result<About, Refusal> {
         let about: sys::About = written(|about| {
             // SAFETY: as in `sys`.
@@ -205,10 +205,10 @@ impl Replica {
         })
     }
 
-    /// Returns the size of the rows, of the journal and of what sessions keep.
+    /// Returns the size of the rows, of the journal and of the sessions' additional contents.
     ///
-    /// It looks at each chunk of 15 rows and at the digests of each session's leaves: call it once in some seconds, not
-    /// at each put.
+    /// It visits each chunk of 15 rows and the digests of each session's leaves: call it every few seconds, not at each
+    /// put.
     pub fn bytes(&self) -> Result<Bytes, Refusal> {
         written(|bytes| {
             // SAFETY: as in `sys`.
@@ -219,11 +219,11 @@ impl Replica {
 
 /// Versions.
 impl Replica {
-    /// Puts a value at a node, after a read: the context is the clock of all that was read.
+    /// Puts a value at a node, after a read: the context is the merged clock of the versions read.
     ///
     /// The new version replaces each held version whose clock is at most its clock. The client has read each of these:
     /// `StaleContext` means that a held version has a greater counter of the node than the context, so another client
-    /// has put in between. Read again then.
+    /// has put in between; read again.
     ///
     /// # Errors
     ///
@@ -233,7 +233,7 @@ impl Replica {
         self.put_by(sys::antientropy_put_read, node, key, Some(value), context)
     }
 
-    /// Puts a tombstone at a node, after a read, as [`put`](Replica::put) puts a value.
+    /// Puts a tombstone at a node, after a read, like [`put`](Replica::put).
     ///
     /// # Errors
     ///
@@ -242,18 +242,18 @@ impl Replica {
         self.put_by(sys::antientropy_put_read, node, key, None, context)
     }
 
-    /// Puts as [`put`](Replica::put) does, for a caller that has made its check itself.
+    /// Puts like [`put`](Replica::put), without its check, which the caller must make.
     ///
     /// The new version replaces even a held version that the client hasn't read.
     ///
     /// # Errors
     ///
-    /// As of `put`, but `StaleContext` only if a held version has seen all of the new version's clock.
+    /// As of `put`, but `StaleContext` only if a held version's clock includes the new version's.
     pub fn put_unread(&mut self, node: u16, key: &[u8], value: &[u8], context: &Clock) -> Result<Receipt, Refusal> {
         self.put_by(sys::antientropy_put, node, key, Some(value), context)
     }
 
-    /// Puts a tombstone as [`put_unread`](Replica::put_unread) puts a value.
+    /// Puts a tombstone like [`put_unread`](Replica::put_unread).
     ///
     /// # Errors
     ///
@@ -318,7 +318,7 @@ impl Replica {
         Ok(taken != 0)
     }
 
-    /// Returns all versions held for a key. Several are concurrent.
+    /// Returns all versions held for a key. Several versions are concurrent.
     pub fn get(&self, key: &[u8]) -> Result<Vec<Version>, Refusal> {
         let mut versions = Vec::new();
         while let Some((version, held)) = self.read_counted(key, versions.len() as u64)? {
@@ -330,45 +330,6 @@ impl Replica {
         Ok(versions)
     }
 
-    /// Returns an iterator over the versions held for a key, which reads each when it is its turn.
-    pub fn versions<'a>(&'a self, key: &'a [u8]) -> impl Iterator<Item = Result<Version, Refusal>> + 'a {
-        let indexes = 0..;
-        indexes.map_while(move |index| self.read(key, index).transpose())
-    }
-
-    /// Returns the number of versions held for a key.
-    pub fn count_versions(&self, key: &[u8]) -> Result<u64, Refusal> {
-        written(|count| {
-            // SAFETY: as in `sys`.
-            unsafe { sys::antientropy_share_versions(&mut self.handle.share(), key.as_ptr(), key.len(), count) }
-        })
-    }
-
-    /// Returns one of the versions held for a key, by its index from 0.
-    pub fn read(&self, key: &[u8], index: u64) -> Result<Option<Version>, Refusal> {
-        Ok(self.read_counted(key, index)?.map(|(version, _)| version))
-    }
-
-    /// Returns the kind and the value of one of the versions held for a key. A tombstone's value has no bytes.
-    pub fn value(&self, key: &[u8], index: u64) -> Result<Option<(Kind, Vec<u8>)>, Refusal> {
-        let (mut share, at, key_len) = (self.handle.share(), key.as_ptr(), key.len());
-        // SAFETY: as in `sys`.
-        found(unsafe {
-            value(|kind, out, len, need| {
-                sys::antientropy_share_value(&mut share, at, key_len, index, kind, out, len, need)
-            })
-        })
-    }
-
-    /// Returns the clock of one of the versions held for a key.
-    pub fn clock(&self, key: &[u8], index: u64) -> Result<Option<Clock>, Refusal> {
-        let (mut share, at, key_len) = (self.handle.share(), key.as_ptr(), key.len());
-        // SAFETY: as in `sys`.
-        found(unsafe {
-            clock(|out, len, need| sys::antientropy_share_clock(&mut share, at, key_len, index, out, len, need))
-        })
-    }
-
     /// Returns the text of the row of a key (`docs/FORMATS.md`), or `None` if no version is held.
     ///
     /// # Errors
@@ -376,21 +337,6 @@ impl Replica {
     /// `BadKey`.
     pub fn row(&self, key: &[u8]) -> Result<Option<Vec<u8>>, Refusal> {
         row(&self.handle, sys::antientropy_share_get, key)
-    }
-
-    /// Returns the least key of a leaf above a key, or the first one for a key of no bytes.
-    ///
-    /// # Errors
-    ///
-    /// `BadMessage` if the tree has no such leaf.
-    pub fn key_after(&self, leaf: u16, key: &[u8]) -> Result<Option<Vec<u8>>, Refusal> {
-        let (mut share, at, key_len) = (self.handle.share(), key.as_ptr(), key.len());
-        // SAFETY: as in `sys`.
-        found(unsafe {
-            bytes(|out, len, need| {
-                sys::antientropy_share_key_after(&mut share, leaf.into(), at, key_len, out, len, need)
-            })
-        })
     }
 
     /// Returns an iterator over the keys, leaf by leaf.
@@ -446,7 +392,7 @@ impl Replica {
 
     /// Returns an iterator over the entries of the journal, from a number on. It ends after a refusal.
     ///
-    /// A log reads from the count of entries that it has. It lacks none after a renewal if it had all before.
+    /// A log reads from its count of entries. A renewal skips no entry for a log that had all of them.
     ///
     /// ```
     /// # use antientropy::{Clock, Config, Replica};
@@ -462,8 +408,8 @@ impl Replica {
     ///
     /// # Errors
     ///
-    /// `BadPosition` if the number is over the count of entries, or below that at the last renewal: then entries were
-    /// missed, or it is another replica's number. Read from [`Counts::first`] then, which gives the whole journal.
+    /// `BadPosition` if the number is over the count of entries, or below the count at the last renewal: entries were
+    /// missed, or the number belongs to another replica. Read from [`Counts::first`], which returns the whole journal.
     pub fn entries(&self, start: u64) -> Result<impl Iterator<Item = Result<Entry, Refusal>> + '_, Refusal> {
         let format = self.about()?.format;
         Ok(Entries::of(&self.handle, format, start)?.all())
@@ -499,7 +445,7 @@ impl Replica {
 
     /// Returns the greatest counter of a node in the clocks of a key's versions, or 0.
     ///
-    /// It is that of the journal's entries of numbers below `entries` (all, if there are fewer).
+    /// It looks at the journal's entries of numbers below `entries`, or at all if there are fewer.
     ///
     /// ```
     /// # use antientropy::{Clock, Config, Replica};
@@ -539,7 +485,7 @@ impl Replica {
 
 /// The tree, offers and checkpoints.
 impl Replica {
-    /// Hashes all nodes of the tree that have no digest. Only `snapshot_if_clean` needs it.
+    /// Hashes all nodes of the tree that have no digest. Only `snapshot_if_clean` requires it.
     pub fn rehash(&mut self) -> Result<(), Refusal> {
         // SAFETY: as in `sys`.
         check(unsafe { sys::antientropy_rehash(self.handle.raw()) })
@@ -547,7 +493,7 @@ impl Replica {
 
     /// Hashes at most `most` of the nodes that have no digest though all their children have one.
     ///
-    /// Returns the number of nodes that have none then. Repeat it until that is 0: other calls may come between.
+    /// Returns the number of nodes still without one. Repeat it until it returns 0; other calls may be made in between.
     ///
     /// ```
     /// # use antientropy::{Clock, Config, Replica};
@@ -564,12 +510,12 @@ impl Replica {
         })
     }
 
-    /// Returns a snapshot of the rows now. Hashes the nodes that have no digest. The replica keeps no moment then.
+    /// Returns a snapshot of the current rows. Hashes the nodes that have no digest, and drops the moment.
     pub fn snapshot(&mut self) -> Result<Snapshot, Refusal> {
         at_moment(self, |replica| replica.moment())
     }
 
-    /// Returns a snapshot of the rows now.
+    /// Returns a snapshot of the current rows.
     ///
     /// # Errors
     ///
@@ -588,12 +534,12 @@ impl Replica {
         Snapshot::of(handle)
     }
 
-    /// Returns the digest of the root now. Replicas of a range with equal roots hold the same versions.
+    /// Returns the digest of the current root. Replicas of a range with equal roots hold the same versions.
     pub fn root(&mut self) -> Result<Root, Refusal> {
         self.snapshot()?.root()
     }
 
-    /// Accepts all versions in rows of one leaf as copies, or none.
+    /// Accepts all versions in rows of one leaf as copies, or none of them.
     ///
     /// [`Snapshot::rows`] and [`Replica::row`] return such rows.
     ///
@@ -608,8 +554,8 @@ impl Replica {
         })
     }
 
-    /// Accepts all versions in rows of a format and of any leaves, in ascending order of key, as copies, or none. A
-    /// replica of format 2 loads rows of format 1 too.
+    /// Accepts all versions in rows of a format and of any leaves, in ascending order of key, as copies, or none of
+    /// them. A replica of format 2 loads rows of format 1 too.
     ///
     /// # Errors
     ///
@@ -623,9 +569,10 @@ impl Replica {
         })
     }
 
-    /// Writes a checkpoint of the rows now (`docs/FORMATS.md`). Returns the number of entries that it covers.
+    /// Writes a checkpoint of the current rows (`docs/FORMATS.md`). Returns the number of entries that it includes.
     ///
-    /// The caller brings the file to its disk. A log goes on at the entry of the number returned.
+    /// Each leaf is written separately: pass a file in a [`BufWriter`](std::io::BufWriter). The caller syncs the file
+    /// to its disk, and renames it. A log continues at the entry of the number returned.
     ///
     /// ```
     /// # use antientropy::{Clock, Config, Replica};
@@ -645,8 +592,9 @@ impl Replica {
 
     /// Returns a new replica with the rows of a checkpoint, and a journal of at most `limit` entries.
     ///
-    /// The root finds damage, but no forged file. Compare [`about`](Replica::about) with your configuration. Entries
-    /// are numbered from 0.
+    /// Pass a file in a [`BufReader`](std::io::BufReader). The root detects damage, but not a forged file. Compare
+    /// [`about`](Replica::about) with your configuration. Entries are numbered from 0: accept the logged ones, and save
+    /// again.
     ///
     /// # Errors
     ///
@@ -656,16 +604,16 @@ impl Replica {
     }
 }
 
-/// The moment: the rows at a time, which are hashed and offered while the replica goes on.
+/// The moment: the rows at one time, which are hashed and offered while the replica changes.
 ///
 /// It is whole when each of its nodes has a digest. [`Replica::snapshot`], `root`, `save`, `exchange` and `sync` hold,
-/// hash and drop a moment in one call, in the place of another one.
+/// hash and drop a moment in one call, in place of the previous one.
 impl Replica {
-    /// Keeps the rows now as the replica's moment, in the place of another one. No later call changes it.
+    /// Keeps the current rows as the replica's moment, in place of the previous one. No later call changes it.
     ///
-    /// Copies no row, and keeps the digests that the nodes have. While the moment is kept, the first change of each
-    /// block of some rows copies the block. The next hold frees the blocks that only this moment has: if threads share
-    /// the replica, call `drop_moment` before its snapshot is dropped, and they don't wait for that.
+    /// Copies no row, and keeps the nodes' digests. While the moment is kept, the first change in a block of rows
+    /// copies the block. The next hold frees the blocks that only this moment has: if threads share the replica, call
+    /// `drop_moment` before its snapshot is dropped, so that they don't wait for that.
     ///
     /// ```
     /// # use antientropy::{Clock, Config, Replica};
@@ -673,7 +621,7 @@ impl Replica {
     /// replica.put(1, b"cart", b"milk", &Clock::new())?;
     /// replica.hold()?;
     /// replica.put(1, b"gift", b"wrapped", &Clock::new())?;
-    /// while replica.hash_moment(100)? > 0 {} // other calls may be made between
+    /// while replica.hash_moment(100)? > 0 {} // other calls may be made in between
     /// assert_eq!((replica.moment()?.entries(), replica.count()?.front), (1, 1));
     /// # Ok::<(), antientropy::Refusal>(())
     /// ```
@@ -682,7 +630,7 @@ impl Replica {
         check(unsafe { sys::antientropy_hold(self.handle.raw()) })
     }
 
-    /// Lets go of the moment, if there is one. Snapshots of it stay.
+    /// Drops the moment, if any. Its snapshots stay valid.
     pub fn drop_moment(&mut self) -> Result<(), Refusal> {
         // SAFETY: as in `sys`.
         check(unsafe { sys::antientropy_drop_moment(self.handle.raw()) })
@@ -690,8 +638,8 @@ impl Replica {
 
     /// Hashes at most `most` of the moment's nodes that have no digest though all their children have one.
     ///
-    /// Returns the number of its nodes that have none then: 0 if it is whole, or if there is no moment. Repeat it until
-    /// that is 0: other calls may be made between.
+    /// Returns the number of its nodes still without one: 0 if it is whole or doesn't exist. Repeat it until it returns
+    /// 0; other calls may be made in between.
     pub fn hash_moment(&mut self, most: u64) -> Result<u64, Refusal> {
         written(|left| {
             // SAFETY: as in `sys`.
@@ -699,9 +647,9 @@ impl Replica {
         })
     }
 
-    /// Takes a portion of the moment's nodes, those that `hash_moment` would hash: any thread hashes them.
+    /// Takes a portion of the moment's nodes, the same that `hash_moment` would hash: any thread may hash it.
     ///
-    /// The portion has no node if the moment is whole, or if there is none.
+    /// The portion is empty if the moment is whole or doesn't exist.
     pub fn take_portion(&self, most: u64) -> Result<Portion, Refusal> {
         let mut share = self.handle.share();
         let handle = Owned::make(sys::antientropy_portion_free, |into| {
@@ -711,10 +659,10 @@ impl Replica {
         Ok(Portion::of(handle))
     }
 
-    /// Installs the digests of a portion in the moment. Nodes that aren't hashed yet are hashed here.
+    /// Installs the digests of a portion in the moment. Hashes the portion's nodes that aren't hashed yet.
     ///
-    /// Returns the number of the moment's nodes that have no digest then, as `hash_moment` does. Digests of another
-    /// moment's nodes are left out if the node's text is another one.
+    /// Returns the number of the moment's nodes still without a digest, like `hash_moment`. Skips the digests of
+    /// another moment's nodes if the node's text differs.
     pub fn install_portion(&mut self, mut portion: Portion) -> Result<u64, Refusal> {
         written(|left| {
             // SAFETY: as in `sys`, for both handles.
@@ -726,7 +674,7 @@ impl Replica {
     ///
     /// # Errors
     ///
-    /// `Dirty` if there is none, or if it isn't whole.
+    /// `Dirty` if it isn't whole or doesn't exist.
     pub fn moment(&self) -> Result<Snapshot, Refusal> {
         self.snapshot_by(sys::antientropy_share_moment)
     }
@@ -734,10 +682,9 @@ impl Replica {
 
 /// Syncs.
 impl Replica {
-    /// Opens an exchange with a partner by its offer. Hashes the nodes that have no digest. The replica keeps no moment
-    /// then.
+    /// Opens an exchange with a partner by its offer. Hashes the nodes that have no digest, and drops the moment.
     ///
-    /// It is finished, and has no session, if the roots are equal.
+    /// If the roots are equal, it is finished and has no session.
     ///
     /// # Errors
     ///
@@ -751,7 +698,7 @@ impl Replica {
     ///
     /// # Errors
     ///
-    /// As of `exchange`, or `Dirty` if there is none, or if it isn't whole.
+    /// As of `exchange`, or `Dirty` if the moment isn't whole or doesn't exist.
     pub fn exchange_at_moment(&mut self, partner: u16, offer: &[u8], bounds: Bounds) -> Result<Exchange, Refusal> {
         let (replica, at, len) = (self.handle.raw(), offer.as_ptr(), offer.len());
         let Bounds { asks, bytes, bad, lost, plain } = bounds;
@@ -763,20 +710,20 @@ impl Replica {
         Ok(Exchange { handle, plain })
     }
 
-    /// Drops the sessions that have ended, and all that they keep: rows that later puts have changed, and texts.
+    /// Drops the sessions that have ended, with the changed rows and the texts that they keep.
     ///
-    /// Open sessions are unchanged. Entries of the source `Partner` have the source `Copy` then. An exchange that is
-    /// closed and [`sync`](Replica::sync) drop them, too.
+    /// Open sessions are unchanged. Entries of the source `Partner` get the source `Copy`. Closing an exchange and
+    /// [`sync`](Replica::sync) drop ended sessions, too.
     pub fn drop_sessions(&mut self) -> Result<(), Refusal> {
         // SAFETY: as in `sys`.
         check(unsafe { sys::antientropy_drop_sessions(self.handle.raw()) })
     }
 
-    /// Takes the versions of a partner's offer that this replica lacks, by an exchange that it closes, also if it is
-    /// refused or `reach` panics.
+    /// Takes the versions that this replica is missing from a partner's offer, by an exchange that it closes, even if
+    /// it is refused or `reach` panics.
     ///
-    /// `reach` sends asks to the partner, and returns the answers in any order: `None` for one that is missing, or
-    /// fewer answers than asks. The sync has the bounds of [`Bounds::default`].
+    /// `reach` sends asks to the partner, and returns the answers in any order: `None` for a missing one, or fewer
+    /// answers than asks. The sync has the bounds of [`Bounds::default`].
     ///
     /// ```
     /// # use antientropy::{Clock, Config, Replica};
@@ -791,8 +738,8 @@ impl Replica {
     ///
     /// # Errors
     ///
-    /// As of `exchange`; `JournalFull` if there is no room for an answer, and `NotCanonical` if one isn't a node's.
-    /// Versions that were taken before stay.
+    /// As of `exchange`; `JournalFull` if no space is left for an answer, and `NotCanonical` if one doesn't encode a
+    /// node. Versions taken before stay.
     pub fn sync<R>(&mut self, partner: u16, offer: &[u8], reach: R) -> Result<Synced, Refusal>
     where
         R: FnMut(&[Vec<u8>]) -> Vec<Option<Vec<u8>>>,
@@ -800,7 +747,7 @@ impl Replica {
         self.sync_within(Bounds::default(), partner, offer, reach)
     }
 
-    /// Takes the versions of a partner's offer as [`sync`](Replica::sync), within other bounds.
+    /// Takes the versions of a partner's offer like [`sync`](Replica::sync), within the given bounds.
     pub fn sync_within<R>(&mut self, bounds: Bounds, partner: u16, offer: &[u8], reach: R) -> Result<Synced, Refusal>
     where
         R: FnMut(&[Vec<u8>]) -> Vec<Option<Vec<u8>>>,
@@ -821,7 +768,7 @@ fn loaded(call: impl FnOnce(&mut sys::Loaded) -> u32) -> Result<Loaded, RowsRefu
     let mut loaded = sys::Loaded::default();
     check(call(&mut loaded))
         .map_err(|refusal| RowsRefused { refusal, offset: (refusal == Refusal::RowBroken).then_some(loaded.offset) })?;
-    Ok(Loaded { taken: loaded.taken, known: loaded.known })
+    Ok(Loaded { accepted: loaded.taken, known: loaded.known })
 }
 
 /// The refusal of rows to load.

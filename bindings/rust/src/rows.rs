@@ -12,7 +12,7 @@ type RowCall = unsafe extern "C" fn(*mut sys::Handle, *const u8, usize, *mut u8,
 /// A call that returns the next key of a leaf.
 type KeyCall = unsafe extern "C" fn(*mut sys::Handle, u64, *mut u8, usize, *mut u64) -> u32;
 
-/// Returns the text of the row of a key, or `None` if no version is held. `call` is one for this kind of handle.
+/// Returns the text of the row of a key, or `None` if no version is held. `call` is for this kind of handle.
 pub(crate) fn row(handle: &Owned, call: RowCall, key: &[u8]) -> Result<Option<Vec<u8>>, Refusal> {
     let (mut share, at, key_len) = (handle.share(), key.as_ptr(), key.len());
     // SAFETY: as in `sys`.
@@ -20,7 +20,7 @@ pub(crate) fn row(handle: &Owned, call: RowCall, key: &[u8]) -> Result<Option<Ve
     Ok(Some(row).filter(|row| !row.is_empty()))
 }
 
-/// The key of a leaf that an iterator has returned last.
+/// The last key of a leaf that an iterator has returned.
 struct Seen {
     leaf: u16,
     key: [u8; KEY_MAX],
@@ -40,7 +40,7 @@ pub(crate) struct Keys<'a> {
 }
 
 impl<'a> Keys<'a> {
-    /// Returns the keys of the rows of a handle. `call` is one for this kind of handle.
+    /// Returns the keys of the rows of a handle. `call` is for this kind of handle.
     pub(crate) fn of(handle: &'a Owned, call: KeyCall) -> Keys<'a> {
         Keys { handle, call }
     }
@@ -69,7 +69,7 @@ impl<'a> Keys<'a> {
         })
     }
 
-    /// Returns the next key of a leaf, or the first one of those after it.
+    /// Returns the next key of a leaf, or the first one of a later leaf.
     fn key_on(&self, seen: &mut Seen) -> Result<Option<Vec<u8>>, Refusal> {
         loop {
             match self.key_next(seen) {

@@ -5,7 +5,7 @@ use crate::refusal::{check, Refusal};
 use crate::sys;
 use crate::values::SlotCounts;
 
-/// Slots: their target stays from the floor to the ceiling, and begins at the ceiling.
+/// Slots: their target stays between the floor and the ceiling, and starts at the ceiling.
 ///
 /// It falls if the latency of the foreground is above the threshold, in microseconds.
 ///
@@ -24,7 +24,7 @@ pub struct Slots {
 }
 
 impl Slots {
-    /// Makes slots, of which none is lent.
+    /// Makes slots. None is lent.
     ///
     /// # Errors
     ///
@@ -57,11 +57,11 @@ impl Slots {
         check(unsafe { sys::antientropy_slot_give_back(self.handle.raw()) })
     }
 
-    /// Takes the latency of a reply in microseconds, with its moment in milliseconds.
+    /// Records the latency of a reply in microseconds, with its time in milliseconds.
     ///
     /// # Errors
     ///
-    /// `ClockBack` if a later moment was accepted before.
+    /// `ClockBack` if a later time was recorded before.
     pub fn sample(&mut self, moment: u64, micros: u32) -> Result<(), Refusal> {
         // SAFETY: as in `sys`.
         check(unsafe { sys::antientropy_slots_sample(self.handle.raw(), moment, micros) })
@@ -69,7 +69,7 @@ impl Slots {
 
     /// Sets the target by the samples of the last minute. Returns their 99th percentile in microseconds.
     ///
-    /// Without samples it returns `None`, and the target is left unchanged.
+    /// Without samples it returns `None`, and the target is unchanged.
     ///
     /// # Errors
     ///

@@ -11,8 +11,8 @@ use crate::values::{About, Root};
 
 /// The rows of a replica at one moment.
 ///
-/// It serves a partner's asks while the replica goes on, maybe in another thread, and may outlive the replica. Threads
-/// may read it at once: by a reference, or each by a snapshot of its own, which [`share`](Snapshot::share) returns.
+/// It serves a partner's asks while the replica changes, maybe in another thread, and may outlive the replica. Threads
+/// may read it concurrently: by reference, or each by a separate snapshot, which [`share`](Snapshot::share) returns.
 ///
 /// ```
 /// use antientropy::{read_offer, Clock, Config, Replica};
@@ -41,7 +41,7 @@ impl Snapshot {
 
     /// Returns another snapshot of the same rows. Copies no row.
     ///
-    /// The rows are freed with the last one.
+    /// The last one frees the rows.
     ///
     /// ```
     /// # use antientropy::{Clock, Config, Replica};
@@ -80,7 +80,7 @@ impl Snapshot {
         self.about.range
     }
 
-    /// Returns the number of entries at the moment of the snapshot: a log goes on there.
+    /// Returns the number of entries at the moment of the snapshot: a log continues there.
     #[must_use]
     pub fn entries(&self) -> u64 {
         self.about.entries
@@ -119,7 +119,7 @@ impl Snapshot {
         Ok(digest)
     }
 
-    /// Returns the message that offers the snapshot. The caller gives each of its offers a number.
+    /// Returns the message that offers the snapshot. The caller numbers its offers.
     pub fn offer(&self, number: u32) -> Result<Vec<u8>, Refusal> {
         let mut share = self.handle.share();
         // SAFETY: as in `sys`.
@@ -172,7 +172,7 @@ impl Snapshot {
         Keys::of(&self.handle, sys::antientropy_share_snapshot_key_next).of_leaf(leaf)
     }
 
-    /// Writes a checkpoint of the rows (`docs/FORMATS.md`).
+    /// Writes a checkpoint of the rows (`docs/FORMATS.md`), like [`Replica::save`](crate::Replica::save).
     pub fn save<W: Write>(&self, mut file: W) -> Result<(), CheckpointError> {
         checkpoint::save(self, &mut file)
     }

@@ -1,4 +1,4 @@
-//! A whole sync with a partner.
+//! A complete sync with a partner.
 
 use crate::exchange::Exchange;
 use crate::moment::Access;
@@ -21,7 +21,7 @@ pub struct Synced {
     pub bad: u64,
     /// Number of lost asks, whose answers were missing.
     pub lost: u64,
-    /// Leaves that were left, since a key in them is crowded.
+    /// Leaves that were left because a key in them is crowded.
     pub left: Vec<u16>,
 }
 
@@ -43,7 +43,7 @@ impl Synced {
     }
 }
 
-/// Takes the versions of an offer that a replica lacks.
+/// Takes the versions that a replica is missing from an offer.
 pub(crate) fn sync<A, R>(
     access: &mut A,
     bounds: Bounds,
@@ -65,7 +65,7 @@ where
         for answer in reach(&asks).into_iter().flatten() {
             open.with(|exchange, replica| exchange.take(replica, &answer))?;
         }
-        // An ask whose answer was judged isn't on its way any more.
+        // An ask whose answer was judged isn't in flight any more.
         asks.iter().try_for_each(|ask| open.exchange.lose(ask))?;
     }
 }

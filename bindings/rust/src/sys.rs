@@ -1,18 +1,18 @@
 //! The declarations of `include/antientropy.h`. `tests/header.rs` compares them with the header.
 //!
-//! A call is sound under these conditions, to which the SAFETY comments of the other modules refer:
+//! A call is sound under these conditions. The SAFETY comments of the other modules refer to them:
 //!
-//! - The handle is that of an `Owned`, which is borrowed exclusively: so the call has it alone.
-//! - A share is a copy of the handle of an `Owned`, and no other call has it meanwhile. The `Owned` is borrowed, so the
-//!   calls that are made of its handle at once are all by shares.
-//! - A pointer with a length is that of one slice. An empty slice has an aligned pointer other than NULL.
-//! - A result goes to a local variable or to room for the length that is passed, and overlaps nothing.
+//! - The handle belongs to an `Owned`, which is borrowed exclusively, so no other call has it.
+//! - A share is a copy of the handle of an `Owned`, and no other call has it meanwhile. The `Owned` is borrowed, so all
+//!   concurrent calls of its handle are by shares.
+//! - A pointer with a length points to one slice. An empty slice has an aligned pointer other than NULL.
+//! - A result is written to a local variable or to a buffer of the length passed, and overlaps nothing.
 
 use std::ffi::c_void;
 
 use crate::values::{Bytes, Counts, HintCounts, Pair, Receipt, Root, SlotCounts};
 
-/// Length of an ask. With room for no more, no ask is an outline.
+/// Length of an ask. In a buffer of this length, no ask is an outline.
 pub const ASK_LEN: usize = 8;
 
 /// A handle. Hints have all of these fields, the other five structs of handles in the header the first two.
@@ -112,7 +112,7 @@ pub struct Percentile {
     pub micros: u64,
 }
 
-// The calls that read a replica or a snapshot. `share` is a copy of its handle, which the call alone uses.
+// The calls that read a replica or a snapshot. `share` is a copy of its handle, which only the call uses.
 extern "C" {
     pub fn antientropy_share_renew(share: *mut Handle, into: *mut Handle, limit: u64) -> u32;
     pub fn antientropy_share_renewal_begin(share: *mut Handle, limit: u64, renewal: *mut Handle) -> u32;
@@ -133,26 +133,6 @@ extern "C" {
         out_len: usize,
         need: *mut u64,
     ) -> u32;
-    pub fn antientropy_share_versions(share: *mut Handle, key: *const u8, key_len: usize, count: *mut u64) -> u32;
-    pub fn antientropy_share_value(
-        share: *mut Handle,
-        key: *const u8,
-        key_len: usize,
-        index: u64,
-        kind: *mut u8,
-        out: *mut u8,
-        out_len: usize,
-        need: *mut u64,
-    ) -> u32;
-    pub fn antientropy_share_clock(
-        share: *mut Handle,
-        key: *const u8,
-        key_len: usize,
-        index: u64,
-        out: *mut Pair,
-        out_len: usize,
-        need: *mut u64,
-    ) -> u32;
     pub fn antientropy_share_read(
         share: *mut Handle,
         key: *const u8,
@@ -163,15 +143,6 @@ extern "C" {
         pairs_len: usize,
         value: *mut u8,
         value_len: usize,
-    ) -> u32;
-    pub fn antientropy_share_key_after(
-        share: *mut Handle,
-        leaf: u64,
-        key: *const u8,
-        key_len: usize,
-        out: *mut u8,
-        out_len: usize,
-        need: *mut u64,
     ) -> u32;
     pub fn antientropy_share_key_next(
         share: *mut Handle,

@@ -15,7 +15,7 @@ pub struct Pair {
     pub counter: u64,
 }
 
-/// A clock: the pairs of nodes and counters that a version or a context has.
+/// A clock: the pairs of nodes and counters of a version or a context.
 ///
 /// A call takes the pairs in any order, and returns them by rising node. `==` compares the lists of pairs;
 /// [`compare`](crate::compare) and [`merge`](crate::merge) are the library's.
@@ -30,7 +30,7 @@ pub struct Pair {
 pub struct Clock(Vec<Pair>);
 
 impl Clock {
-    /// Returns the clock that has seen nothing: the context of a client that has read no version.
+    /// Returns the empty clock: the context of a client that has read no version.
     #[must_use]
     pub const fn new() -> Clock {
         Clock(Vec::new())
@@ -95,7 +95,8 @@ macro_rules! numbered {
         }
 
         impl $name {
-            /// Returns the number that the header has for it.
+            /// Returns its number in the header.
+            #[must_use]
             pub fn number(self) -> u64 {
                 match self {
                     $($name::$member => $number,)*
@@ -111,7 +112,7 @@ numbered! {
     Kind {
         /// The version has a value.
         Live = 0,
-        /// The version says that the key was removed.
+        /// The version marks the key as removed.
         Tombstone = 1,
     }
 }
@@ -135,15 +136,15 @@ numbered! {
     VerdictKind {
         /// The session took it.
         Taken = 0,
-        /// Its leaf was left, since a key in it is crowded.
+        /// Its leaf was left because a key in it is crowded.
         Left = 1,
         /// It counts as bad: `BadMessage`, `NotAsked` or `WrongDigest`.
         Bad = 2,
         /// It is late, of another offer, or the exchange is over: it counts as nothing.
         Late = 3,
-        /// There was no room for it: `JournalFull` or `NoMemory`.
+        /// No space was left for it: `JournalFull` or `NoMemory`.
         Refused = 4,
-        /// It has the right digest, but isn't a node's: the session has failed.
+        /// It has the expected digest, but doesn't encode a node: the session has failed.
         Failed = 5,
     }
 }
@@ -153,11 +154,11 @@ numbered! {
     Report {
         /// The replica holds each version of the offer, or one that has seen it.
         Finished = 0,
-        /// Some node is to be asked, or its ask is on its way.
+        /// An ask is in flight, or is still to be sent.
         Waiting = 1,
-        /// All is taken but the leaves that were left.
+        /// Everything is taken except the leaves that were left.
         Left = 2,
-        /// There was no room for an answer: go on, or close.
+        /// No space was left for an answer: call `go_on` or `close`.
         Stopped = 3,
         /// More answers were bad than the bounds allow.
         TooManyBad = 4,
@@ -225,7 +226,7 @@ pub(crate) fn kind_of(value: Option<&[u8]>) -> Kind {
 /// An entry of a journal: an accepted version, with its key and its source.
 #[derive(Clone, Debug, PartialEq, Eq, Hash)]
 pub struct Entry {
-    /// Number of the entry, from 0. Numbers go on over renewals.
+    /// Number of the entry, from 0. Numbering continues over renewals.
     pub number: u64,
     /// Key of the version.
     pub key: Vec<u8>,
@@ -238,7 +239,7 @@ pub struct Entry {
 /// A version that is kept for its owner, a node that is down.
 #[derive(Clone, Debug, PartialEq, Eq, Hash)]
 pub struct Hint {
-    /// Number of the hint, which no other one has or had.
+    /// Number of the hint, which is never reused.
     pub number: u64,
     /// Node for which the version is kept.
     pub owner: u16,
@@ -253,9 +254,9 @@ pub struct Hint {
 #[derive(Clone, Copy, Debug, Default, PartialEq, Eq, Hash)]
 pub struct Receipt {
     /// Number of the entry in the journal: [`Replica::entry`](crate::Replica::entry) returns the version for copies.
-    /// After a renewal it may be that of another version.
+    /// After a renewal it may name another version.
     pub number: u64,
-    /// The node's counter in the new version's clock. The other counters are those of the context.
+    /// The node's counter in the new version's clock. The context has the other counters.
     pub counter: u64,
 }
 
@@ -288,15 +289,15 @@ pub struct OfferParts {
 /// The bounds of an exchange or a sync.
 #[derive(Clone, Copy, Debug, PartialEq, Eq, Hash)]
 pub struct Bounds {
-    /// Maximum of asks on their way. One may always be.
+    /// Maximum number of asks in flight. One is always allowed.
     pub asks: u64,
-    /// Maximum of bytes of the answers to them, as far as they can be estimated.
+    /// Maximum number of estimated bytes of their answers.
     pub bytes: u64,
-    /// Maximum of bad answers: after one more it is over.
+    /// Maximum number of bad answers: one more ends it.
     pub bad: u64,
-    /// Maximum of lost asks: after one more it is over.
+    /// Maximum number of lost asks: one more ends it.
     pub lost: u64,
-    /// Whether no ask is an outline: that takes less of both processors, and more of the link.
+    /// True if no ask is an outline: that saves processor time on both sides, and sends more over the link.
     pub plain: bool,
 }
 
@@ -320,28 +321,28 @@ pub struct Verdict {
     pub known: u64,
 }
 
-/// How far an exchange is.
+/// The progress of an exchange.
 #[derive(Clone, Copy, Debug, PartialEq, Eq, Hash)]
 pub struct Progress {
     /// The report.
     pub report: Report,
-    /// Cause for which it stopped: `JournalFull` or `NoMemory`.
+    /// Cause of a stop: `JournalFull` or `NoMemory`.
     pub cause: Option<Refusal>,
-    /// Asks that were sent.
+    /// Asks sent.
     pub asks: u64,
-    /// Asks on their way.
+    /// Asks in flight.
     pub on_way: u64,
-    /// Bytes of the answers to them, as far as they can be estimated.
+    /// Estimated bytes of their answers.
     pub bytes_on_way: u64,
     /// Bad answers.
     pub bad: u64,
     /// Lost asks.
     pub lost: u64,
-    /// New versions in the answers that were taken.
+    /// New versions in the answers taken.
     pub accepted: u64,
     /// Known versions in them.
     pub known: u64,
-    /// Leaves that were taken.
+    /// Leaves taken.
     pub leaves: u64,
 }
 
@@ -353,7 +354,7 @@ impl From<sys::Progress> for Progress {
     }
 }
 
-/// Returns the cause of a number that a verdict or a report has: 0 is none.
+/// Returns the cause of a number in a verdict or a report, or `None` for 0.
 pub(crate) fn cause_of(number: u64) -> Option<Refusal> {
     check(number as u32).err()
 }
@@ -361,8 +362,8 @@ pub(crate) fn cause_of(number: u64) -> Option<Refusal> {
 /// The result of loading rows.
 #[derive(Clone, Copy, Debug, PartialEq, Eq, Hash)]
 pub struct Loaded {
-    /// Number of new versions: they are now entries of the journal.
-    pub taken: u64,
+    /// Number of accepted versions: they are now entries of the journal.
+    pub accepted: u64,
     /// Number of known versions.
     pub known: u64,
 }
@@ -371,9 +372,9 @@ pub struct Loaded {
 #[repr(C)]
 #[derive(Clone, Copy, Debug, Default, PartialEq, Eq, Hash)]
 pub struct Counts {
-    /// Entries, with those before renewals: the number of the next entry.
+    /// Entries, including those before renewals: the number of the next entry.
     pub entries: u64,
-    /// Maximum of `entries` less `first`: there the journal is full.
+    /// Maximum of `entries` minus `first`, at which the journal is full.
     pub limit: u64,
     /// Nodes of the tree that have no digest.
     pub dirty: u64,
@@ -383,7 +384,7 @@ pub struct Counts {
     pub open_sessions: u64,
     /// Number of the journal's first entry: 0 before the first renewal.
     pub first: u64,
-    /// `entries` at the last moment that was whole: `first` if there was none since a renewal.
+    /// `entries` at the last moment that was whole: `first` without one since a renewal.
     pub front: u64,
 }
 
@@ -395,12 +396,13 @@ pub struct Bytes {
     pub rows: u64,
     /// The keys, values and clocks of the entries from `first` of the counts on: 10 bytes for each pair of a clock.
     pub journal: u64,
-    /// What sessions keep in addition: the texts that they took, and the leaves of their rows that have changed since
+    /// Additional contents of sessions: the texts that they took, and the leaves of their rows that have changed since
     /// or have no digest now.
     pub sessions: u64,
 }
 
-/// The range of a replica or a snapshot, and the position of its journal: what a checkpoint or a log has to name.
+/// The range of a replica or a snapshot, and the position of its journal: the identity to store in a checkpoint or a
+/// log.
 #[derive(Clone, Copy, Debug, PartialEq, Eq, Hash)]
 pub struct About {
     /// Format of the tree: 1 or 2.
@@ -409,7 +411,7 @@ pub struct About {
     pub bits: u8,
     /// Number of the range, from 0.
     pub range: u16,
-    /// Entries, with those before renewals: the number of the next entry.
+    /// Entries, including those before renewals: the number of the next entry.
     pub entries: u64,
 }
 

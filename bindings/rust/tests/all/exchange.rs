@@ -54,7 +54,7 @@ fn equal_roots() {
     assert_eq!((exchange.asks(&replica).unwrap().len(), sessions(&replica)), (0, (0, 0)));
 }
 
-/// A partner that answers each ask for a leaf with the text of the crowded leaf, which is asked for first.
+/// A partner that returns the crowded leaf's text for each ask for a leaf. The crowded leaf is asked for first.
 #[test]
 fn a_leaf_is_left_for_its_own_answer() {
     let (mut a, mut b, leaf) = crowded_pair(20);

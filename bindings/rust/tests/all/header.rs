@@ -1,4 +1,4 @@
-//! The declarations of the crate are those of the header.
+//! The declarations of the crate match the header.
 
 use std::collections::BTreeMap;
 use std::fs;
@@ -6,7 +6,7 @@ use std::path::Path;
 
 use antientropy::{Kind, Order, Refusal, Report, Source, VerdictKind};
 
-/// Returns the text of a file without its comments, its white space as single blanks.
+/// Returns the text of a file without its comments, with white space as single blanks.
 fn text(path: &str) -> String {
     let path = Path::new(env!("CARGO_MANIFEST_DIR")).join(path);
     let text = fs::read_to_string(&path).unwrap_or_else(|error| panic!("{}: {error}", path.display()));
@@ -60,9 +60,12 @@ fn camel(name: &str) -> String {
     name.split('_').map(word).collect()
 }
 
-/// C's own loop of a sync, with its struct `Taken`. Here an exchange is that loop.
-const LOOP_OF_C: [&str; 9] =
-    ["open", "open_at_moment", "outstanding", "ask_at", "ask", "outline_at", "take", "session", "cancel"];
+/// The calls that only C programs make: the loop of a sync, with its struct `Taken`, which an exchange replaces here,
+/// and reads of a part of a key's versions.
+const FOR_C_ALONE: [&str; 13] = [
+    "open", "open_at_moment", "outstanding", "ask_at", "ask", "outline_at", "take", "session", "cancel", "versions",
+    "value", "clock", "key_after",
+];
 
 /// Returns the arguments and the result of each function of the library, by its name, as Rust has them.
 fn functions_of_the_header() -> BTreeMap<String, String> {
@@ -72,7 +75,7 @@ fn functions_of_the_header() -> BTreeMap<String, String> {
         for declared in between(&text, &format!(" {result} antientropy_"), ");") {
             let (name, arguments) = declared.split_once('(').unwrap();
             let call = name.trim_start_matches("share_");
-            if LOOP_OF_C.contains(&call) {
+            if FOR_C_ALONE.contains(&call) {
                 continue;
             }
             let arguments = arguments.split(',').filter(|argument| *argument != "void").map(field);

@@ -1,8 +1,8 @@
-//! A drop frees what a handle holds.
+//! A drop frees the memory of a handle.
 
 use std::fs;
 
-use antientropy::{Bounds, Hints, Slots};
+use antientropy::{Bounds, Config, Hints, Replica, Slots};
 
 use crate::support::{filled, live, replica, NONE};
 
@@ -17,7 +17,7 @@ fn resident() -> usize {
     statm.split(' ').nth(1).unwrap().parse::<usize>().unwrap() * 4096
 }
 
-/// Makes something of `bytes` bytes again and again: without frees the process would grow by 128 MiB each round. Other
+/// Makes an object of `bytes` bytes again and again: without frees the process would grow by 128 MiB each round. Other
 /// tests run meanwhile, so one of three rounds has to grow by less.
 #[track_caller]
 fn assert_freed(bytes: usize, mut make: impl FnMut()) {
@@ -67,4 +67,32 @@ fn slots() {
     assert_freed(SLOTS_LEN, || {
         Slots::new(1, 4, 1).unwrap().lend().unwrap();
     });
+}
+
+/// Returns a replica of format 1 with a key.
+fn small() -> Replica {
+    let mut replica = Replica::new(Config { format: 1, ..Config::default() }).unwrap();
+    replica.put(1, b"cart", b"milk", &NONE).unwrap();
+    replica
+}
+
+/// 10,000 replicas, snapshots and exchanges leave no more than the first thousand: one of three rounds has to.
+#[test]
+fn ten_thousand_of_each() {
+    let (mut partner, mut replica) = (small(), small());
+    partner.put(2, b"gift", b"wrapped", &NONE).unwrap();
+    let offer = partner.snapshot().unwrap().offer(1).unwrap();
+    let mut make = || {
+        small().snapshot().unwrap().share().unwrap().root().unwrap();
+        let mut exchange = replica.exchange(1, &offer, Bounds::default()).unwrap();
+        assert_eq!(exchange.asks(&replica).unwrap().len(), 1);
+        exchange.close(&mut replica).unwrap();
+    };
+    let mut stays = || {
+        (0..1_000).for_each(|_| make());
+        let before = resident();
+        (0..9_000).for_each(|_| make());
+        resident() <= before + before / 10
+    };
+    assert!((0..3).any(|_| stays()));
 }

@@ -25,7 +25,7 @@ fn rows_of_a_leaf() {
     let snapshot = filled(50).snapshot().unwrap();
     let leaf = place(2, 0, b"key 3").unwrap().leaf;
     let rows = snapshot.rows(leaf).unwrap();
-    assert!(replica().load_rows(&rows).unwrap().taken >= 1);
+    assert!(replica().load_rows(&rows).unwrap().accepted >= 1);
     assert_eq!(snapshot.rows(4096), Err(Refusal::BadMessage));
 }
 

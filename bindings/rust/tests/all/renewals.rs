@@ -1,4 +1,4 @@
-//! Renewals in place, beside the puts of another thread.
+//! Renewals in place, while another thread puts.
 
 use std::collections::BTreeMap;
 use std::sync::atomic::{AtomicBool, Ordering};
@@ -38,7 +38,7 @@ impl<'a> Writer<'a> {
         self.puts += 1;
     }
 
-    /// Logs the entries after the last one, or all that are there if some were missed.
+    /// Logs the entries after the last one, or the whole journal if some were missed.
     fn read(&mut self) {
         let position = self.log.keys().next_back().map_or(0, |last| last + 1);
         let replica = self.shared.read().unwrap();
@@ -52,7 +52,7 @@ impl<'a> Writer<'a> {
 
     /// Each key has the version of its last put, also in a replica that is restored from the log.
     fn check(&self) {
-        let (mut restored, mut replica) = (replica(), self.shared.write().unwrap());
+        let (mut restored, mut replica) = (with_limit(1_000_000), self.shared.write().unwrap());
         for entry in self.log.values() {
             restored.accept(&entry.key, &entry.version).unwrap();
         }
@@ -140,7 +140,7 @@ impl<F: FnMut(&mut Replica, u32)> AsMut<Replica> for Busy<F> {
     }
 }
 
-/// Puts a key a number of times more, each after the last one. It is the only key.
+/// Puts the only key `puts` more times, each after the last put.
 fn put_more(replica: &mut Replica, puts: u64) {
     let entries = replica.count().unwrap().entries;
     for counter in entries..entries + puts {
@@ -202,7 +202,7 @@ fn a_replica_that_is_renewed_when_it_is_due() {
     writer.check();
 }
 
-/// A journal that its rows fill is renewed some times, and then it isn't due any more.
+/// A journal that its rows fill is renewed a few times, until no renewal is due any more.
 #[test]
 fn rows_fill_a_journal() {
     let (shared, mut renewals) = (Mutex::new(with_limit(100)), 0);

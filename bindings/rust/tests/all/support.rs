@@ -37,8 +37,8 @@ pub fn crowd(replica: &mut Replica, key: &[u8]) {
     }
 }
 
-/// Returns a replica with `keys` keys that another one lacks, that other one, and the leaf of a key that is crowded
-/// between the two. It is the first of their leaves.
+/// Returns a replica with `keys` keys, another one without them, and the leaf of a key that is crowded between the two.
+/// It is the first of their leaves.
 pub fn crowded_pair(keys: usize) -> (Replica, Replica, u16) {
     let (mut a, mut b) = (filled(keys), replica());
     let leaf_of = |key: &[u8]| place(2, 0, key).unwrap().leaf;
@@ -55,7 +55,7 @@ pub fn sessions(replica: &Replica) -> (u64, u64) {
     (counts.sessions, counts.open_sessions)
 }
 
-/// Returns the answers of a partner that is called directly.
+/// Returns the answers of a directly called partner.
 pub fn serve(snapshot: &Snapshot, number: u32, asks: &[Vec<u8>]) -> Vec<Option<Vec<u8>>> {
     asks.iter().map(|ask| snapshot.serve(number, ask).ok()).collect()
 }
@@ -70,7 +70,7 @@ pub fn state(replica: &Replica) -> Held {
     (counts, replica.entries(counts.first).unwrap().map(Result::unwrap).collect(), rows)
 }
 
-/// A call is refused by a cause, and leaves the replica unchanged.
+/// Checks that a call is refused, and leaves the replica unchanged.
 #[track_caller]
 pub fn assert_refused<T: Debug>(
     cause: Refusal,

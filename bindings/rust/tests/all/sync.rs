@@ -1,4 +1,4 @@
-//! Whole syncs.
+//! Complete syncs.
 
 use std::panic::{catch_unwind, AssertUnwindSafe};
 
@@ -97,7 +97,7 @@ fn plain_asks() {
     assert_eq!(synced.accepted, 10);
 }
 
-/// A partner that lies in each patch, and one before outlines, which refuses them.
+/// A partner whose patches are all wrong, and an older one, which refuses outlines.
 #[test]
 fn outlines_without_a_text() {
     for lies in [true, false] {

@@ -1,4 +1,4 @@
-//! Handles that go to other threads.
+//! Handles that are moved to other threads.
 
 use std::sync::atomic::{AtomicBool, Ordering};
 use std::sync::{mpsc, Mutex, RwLock};
@@ -52,8 +52,6 @@ fn a_lock_lets_threads_share_a_replica() {
 fn read(replica: &Replica, key: &[u8]) -> bool {
     let versions = replica.get(key).unwrap();
     assert!(versions.iter().all(|version| version.value.as_deref() == Some(key)));
-    assert!(replica.versions(key).map(Result::unwrap).eq(versions.iter().cloned()));
-    assert_eq!(replica.count_versions(key), Ok(versions.len() as u64));
     assert_eq!(replica.row(key).unwrap().is_some(), !versions.is_empty());
     !versions.is_empty()
 }
@@ -147,7 +145,7 @@ fn put_without_pause(replicas: [&Mutex<Replica>; 2], stop: &AtomicBool) {
     }
 }
 
-/// Takes what a partner has. Returns the partner's snapshot.
+/// Syncs from a partner. Returns the partner's snapshot.
 fn sync(replica: &Mutex<Replica>, partner: &Mutex<Replica>) -> Snapshot {
     let snapshot = snapshot_beside(partner).unwrap();
     let offer = snapshot.offer(1).unwrap();
