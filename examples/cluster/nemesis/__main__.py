@@ -12,19 +12,20 @@ from . import figures, judge, program, rest
 from .clients import Clients
 from .history import read
 from .log import Log, Watch
+from .machine import Machine
 from .modes import ALL, MODES
 from .nodes import Nodes, build
 from .schedule import Nemesis
 
-#: Seconds that the cluster may take to come to rest in the end.
+#: Seconds that the cluster may take to be at rest in the end.
 REST_S = 60.0
 
-#: Few entries of a range and of a log, and short rounds, so that a run has renewals, checkpoints and syncs.
+#: Few entries per range and log, and short rounds, so that a run has renewals, checkpoints and syncs.
 SETTINGS = {"limit": "4000", "checkpoint_entries": "200", "round_ms": "400"}
 
 
 def words() -> argparse.Namespace:
-    """Reads the command's words."""
+    """Parses the command's arguments."""
     parser = argparse.ArgumentParser(prog="python3 -m nemesis", description=__doc__)
     parser.add_argument("--seed", type=int, default=1, help="chooses the faults and the clients' deeds")
     parser.add_argument("--seconds", type=float, default=30, help="time under faults")
@@ -50,7 +51,7 @@ def work(given: argparse.Namespace, room: Path) -> int:
         if not nodes.powers:
             print("there is no C compiler: disks have no faults")
         nodes.begin()
-        with figures.Counts(nodes.base, Log(logs / "status.log", watch)) as counts:
+        with Machine(room, log), figures.Counts(nodes.base, Log(logs / "status.log", watch)) as counts:
             with Clients(given.clients, given.seed, nodes.base, logs, watch) as clients:
                 begin = watch.now()
                 Nemesis(given.seed, nodes, clients, log, room, logs, mode).run(given.seconds)

@@ -31,7 +31,8 @@ class Judged:
     if, in addition, each other holder either is able and in its reach, or certainly out of it: a holder that takes a
     put and then finds nobody leaves it open whether it is done, so there is no other try.
 
-    That must be so from 3 seconds before the request until its end. A place takes part if it serves, isn't paused, has
+    That must be so from 3 seconds before the request until its end, and the machine mustn't be late in this time
+    (`machine.py`). A place takes part if it serves, isn't paused, has
     a disk that is neither slow nor full nor failing, and the cluster came to rest since it lost something. Messages
     between two places must pass in both directions, late by at most 100 milliseconds. A client's connection ends with
     the node, so its first request after a start isn't judged if it had no answer.
@@ -41,6 +42,8 @@ class Judged:
         events = case.history.events
         self._places = sorted({event.place for event in events if event.op == "start"})
         self._times = Times(events, self._places)
+        late = [(event.at, event.at + event.members["seconds"]) for event in events if event.op == "late"]
+        self._late_begins, self._late_ends = zip(*late) if late else ((), ())
         keys = {it.key for it in case.history.requests}
         self._holders = {key: frozenset(it.place for it in case.replicas_of(key)) for key in keys}
         self._known: Dict[Tuple[Reach, int, FrozenSet[int], bool, bool], bool] = {}
@@ -49,7 +52,11 @@ class Judged:
         self.refused = [it for it in requests if it.status in NOT_SERVED]
 
     def _could_be_served(self, request: Request) -> bool:
-        reach = self._times.between(request.begin - BEFORE_S, request.end + AFTER_S)
+        begin, end = request.begin - BEFORE_S, request.end + AFTER_S
+        # (one thread logged these times, so no two overlap)
+        if bisect.bisect(self._late_begins, end) > bisect.bisect(self._late_ends, begin):
+            return False
+        reach = self._times.between(begin, end)
         asked = reach, request.place, self._holders[request.key], request.is_get, request.refused == NO_HINT
         if asked not in self._known:
             self._known[asked] = request.place in reach.well and self._can(*asked)

@@ -13,7 +13,7 @@ BLIND: Context = (None, ())
 
 
 class Caller:
-    """Reads and puts keys. Each request is a line of its log. For one thread at a time."""
+    """Reads and puts keys. Each request is a line of its log. For a single thread."""
 
     def __init__(self, number: int, base: int, log: Log) -> None:
         self._number, self._log = number, log
@@ -75,11 +75,11 @@ class Caller:
 
 
 def context_of(found: Found) -> Context:
-    """Returns the context that covers what a get found: the empty one if it found no version, or wasn't answered."""
+    """Returns the context that covers a get's result: the empty one if it found no version, or got no response."""
     return BLIND if found.context is None else (found.context, found.marks)
 
 
 def _refusal(answer: Answer) -> Dict[str, Any]:
-    """Returns the members of a refusal with any status: its name, whether the put may have happened, and for whom."""
+    """Returns the members of a refusal with any status: its name, `perhaps`, and the places that it is for."""
     body = answer.json() if answer.status not in (0, 200, 300) else {}
     return {name: body[name] for name in ("refused", "perhaps", "for") if name in body}

@@ -1,4 +1,4 @@
-"""A run as the rules of its judge see it: by keys, by what was seen of them, and by what became of disks."""
+"""A run as the rules of its judge see it: by keys, by the versions seen of them, and by the state of disks."""
 
 from __future__ import annotations
 
@@ -9,21 +9,21 @@ from typing import Callable, Dict, Iterator, List, NamedTuple, Optional, Sequenc
 from .history import Dump, Event, Get, History, Line, Replica, Version, Write
 from .overwrites import Overwrites
 
-#: Replicas of a range, answers of a read, and nodes of a put: those that the cluster promises.
+#: The cluster's promises: replicas of a range, responses that a read needs, and nodes that have a put.
 COPIES, READS, WRITES = 3, 2, 2
 
-#: What the nemesis does to disks that takes something away.
+#: The nemesis' deeds that take something from a disk.
 LOSSES = ("destroy", "damage", "old")
 
 FOREVER = float("inf")
 
-#: Seconds by which a node may learn late that its disk is full, or has room again, and the log may say so late.
+#: Maximum delay in seconds until a node and the log show that its disk is full, or has space again.
 LATE_S = 5.0
 
 
 @dataclass(frozen=True)
 class Breach:
-    """A rule that was broken, and the lines that show it."""
+    """A broken rule, and the lines that show it."""
 
     what: str
     lines: Sequence[Line] = ()
@@ -33,7 +33,7 @@ Rule = Callable[["Case"], Iterator[Breach]]
 
 
 class Row(NamedTuple):
-    """The versions of a key that a place showed or held. It was asked between two times."""
+    """The versions of a key that a place showed or held, when it was asked between two times."""
 
     key: str
     place: int
@@ -54,7 +54,7 @@ class Case:
         self.writes: Dict[str, List[Write]] = {}
         self._puts: Dict[Tuple[str, Optional[str]], List[Write]] = {}
         self.gets: Dict[str, List[Get]] = {}
-        #: The ranges in which a key is held
+        #: The ranges that hold a key
         self.ranges: Dict[str, Set[int]] = {}
         for write in history.writes:
             self.writes.setdefault(write.key, []).append(write)
@@ -66,16 +66,16 @@ class Case:
                 for key in replica.rows:
                     self.ranges.setdefault(key, set()).add(number)
         self.keys = sorted({*self.writes, *self.gets, *self.ranges})
-        #: What happened to disks that had more than they have now
+        #: Losses of disks that had more than they have now
         self.losses = [event for event in history.events if event.op in LOSSES]
         self._lost = _lost(history.events)
         self._full = _full(history.events)
-        #: Each version of a key that was seen, its clocks, and where it was seen first under each of them
+        #: Each version of a key that was seen, its clocks, and its first appearance under each of them
         self.versions: Dict[str, Dict[str, Dict[str, Line]]] = {}
         for key, mark, clock, line in self._seen():
             self.versions.setdefault(key, {}).setdefault(mark, {}).setdefault(clock, line)
         self.overwrites = {key: self._overwrites(key, is_certain=False) for key in self.keys}
-        #: The same without what is uncertain
+        #: The same without uncertain overwrites
         self.certain = {
             key: self._overwrites(key, is_certain=True) if self._has_unknown(key) else self.overwrites[key]
             for key in self.keys
@@ -90,7 +90,7 @@ class Case:
         return [Row(key, it.by, it.versions, it.begin, it.end, it.line) for it in self.gets.get(key, ())]
 
     def rows_held(self, key: str) -> Iterator[Row]:
-        """Returns what its holders held of a key in the end, and alone after they had been killed."""
+        """Returns the rows of a key that its holders had in the end, and in dumps of single nodes after a kill."""
         for replica in self.replicas_of(key):
             yield _row(replica, key, FOREVER, FOREVER)
         for held in self.history.held:
@@ -106,18 +106,18 @@ class Case:
         return self._puts.get((key, mark), [])
 
     def seen(self) -> Iterator[Tuple[str, str, str, Line]]:
-        """Returns each version that was seen: its key, its mark, each of its clocks, and where it was seen first."""
+        """Returns each version that was seen: its key, its mark, each of its clocks, and its first appearance."""
         for key, versions in self.versions.items():
             for mark, clocks in versions.items():
                 for clock, line in clocks.items():
                     yield key, mark, clock, line
 
     def losses_before(self, place: int, at: float) -> int:
-        """Returns how often a place had lost something of its disk, or had begun another life, before a time."""
+        """Returns the number of losses of a place's disk, and of its further lives, before a time."""
         return bisect.bisect(self._lost.get(place, []), at)
 
     def has_lost(self, place: int, begin: float, end: float) -> bool:
-        """Returns true if a place lost something of its disk, or began another life, between two times."""
+        """Returns true if a place lost a part of its disk, or began another life, between two times."""
         return self.losses_before(place, begin) != self.losses_before(place, end)
 
     def was_full(self, place: int, begin: float, end: float) -> bool:
@@ -144,7 +144,7 @@ class Case:
 
 
 def shown(replica: Replica, key: str) -> Line:
-    """Returns the part of a dump that a replica holds of a key."""
+    """Returns the part of a dump with a replica's versions of a key."""
     row = "; ".join(f"{it.mark} at {it.clock}" for it in replica.rows.get(key, ())) or "nothing"
     return Line(replica.line.file, replica.line.number, f"place {replica.place} holds of {key}: {row}")
 
@@ -159,7 +159,7 @@ def _row(replica: Replica, key: str, begin: float, end: float) -> Row:
 
 
 def _lost(events: Sequence[Event]) -> Dict[int, List[float]]:
-    """Returns when each place lost something of its disk, or began another life."""
+    """Returns the times at which each place lost a part of its disk, or began another life."""
     lost: Dict[int, List[float]] = {}
     last: Dict[int, int] = {}
     for event in events:

@@ -1,4 +1,4 @@
-"""The clients of a run, in processes of their own, so that they don't wait for each other."""
+"""The clients of a run, in several processes, so that they don't wait for each other."""
 
 from __future__ import annotations
 
@@ -17,11 +17,11 @@ from .places import PLACES
 #: Processes of clients.
 PROCESSES = 4
 
-#: Clients that the nemesis directs, and others that read for them.
+#: Numbers of clients that the nemesis directs, and of further clients that read for them.
 DIRECTED, READERS = 10, 6
 
-#: Seconds that a client waits between two deeds, on average: a run of three minutes has some 100,000 requests, which
-#: its judge can go through. A skewed load has no pauses.
+#: Average number of seconds that a client waits between two deeds: a run of three minutes has some 100,000 requests,
+#: which its judge can process. A skewed load has no pauses.
 THINK_S = 0.04
 
 
@@ -66,7 +66,7 @@ class Process:
 
 
 class Clients:
-    """The clients of a run, at rest until they are let work, and others that the nemesis directs."""
+    """The clients of a run, at rest until `work`, and others that the nemesis directs."""
 
     def __init__(
         self,
@@ -100,21 +100,21 @@ class Clients:
             caller.close()
 
     def work(self) -> None:
-        """Lets the clients work."""
+        """Starts the clients' work."""
         self._tell(op="work")
 
     def rest(self) -> None:
-        """Lets no client begin, and waits until none has an open request."""
+        """Stops new requests, and waits until no client has an open one."""
         self._tell(op="rest")
         for process in self._processes:
             process.await_rest()
 
     def skew(self, keys: Sequence[str] = (), places: Sequence[int] = ()) -> None:
-        """From now on most requests are for these keys, at these places; without any, for all."""
+        """Directs most requests to these keys and places from now on; without any, to all."""
         self._tell(op="skew", keys=keys, places=places)
 
     def only(self, deed: str) -> None:
-        """From now on clients that measure only get, or only put."""
+        """Restricts clients that measure to gets, or to puts, from now on."""
         self._tell(op="only", deed=deed)
 
     def _tell(self, **command: object) -> None:

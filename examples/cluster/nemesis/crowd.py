@@ -1,7 +1,7 @@
 """A process of clients that read, put and delete keys, and log the responses.
 
-A run starts it as `python3 -m nemesis.crowd`, and tells it by lines of JSON what to do: first its settings, then
-commands. After a command to rest it prints a line when all its clients are at rest. It ends with its input.
+A run starts it as `python3 -m nemesis.crowd`, and directs it by lines of JSON: first its settings, then commands. After
+a command to rest it prints a line when all its clients are at rest. It ends with its input.
 """
 
 from __future__ import annotations
@@ -23,46 +23,46 @@ from .log import Log, Watch
 
 KEYS = tuple(f"k{number:03}" for number in range(150))
 
-#: A key whose number it divides may be deleted. The judge knows less of such keys.
+#: A key may be deleted if this divides its number. The judge knows less of such keys.
 DELETED = 8
 
-#: The share of the deeds that put a new key, which nobody puts again: what is lost of it isn't overwritten.
+#: The share of the deeds that put a new key. Nobody puts it again, so no overwrite hides a loss.
 NEW = 0.04
 
-#: Old contexts of a key that a client may still put with.
+#: Number of old contexts of a key that a client may still put with.
 OLD_CONTEXTS = 6
 
 #: Keys of a client that measures.
 OWN_KEYS = 50
 
-#: Seconds for which a client leaves a place alone that didn't answer, the least and the most.
+#: Minimum and maximum number of seconds for which a client avoids a place that didn't respond.
 SHUNNED_S = (1.0, 3.0)
 
-#: Seconds that clients have to end.
+#: Seconds that clients may take to end.
 END_S = 10.0
 
 
 @dataclass(frozen=True)
 class Settings:
-    """The clients of a process: the number of the first one, and how many; and what all clients of the run share."""
+    """The clients of a process: the first one's number, their count, and the settings that all clients share."""
 
     first: int
     count: int
     seed: int
     base: int
     logs: str
-    #: When the run began
+    #: Time at which the run began
     began: float
-    #: The places that they call
+    #: The places that the clients call
     places: Sequence[int]
-    #: Seconds that a client waits between two deeds, on average
+    #: Average number of seconds that a client waits between two deeds
     think_s: float
-    #: Whether each has its own keys
+    #: True if each client has separate keys
     measures: bool
 
 
 class Gate:
-    """Lets the clients work, or holds them all at rest."""
+    """A gate that lets the clients work, or holds them all at rest."""
 
     def __init__(self) -> None:
         self._changed = threading.Condition()
@@ -83,17 +83,17 @@ class Gate:
                 self._changed.notify_all()
 
     def work(self) -> None:
-        """Lets the clients work."""
+        """Starts the clients' work."""
         self._set(is_open=True)
 
     def rest(self) -> None:
-        """Lets no client begin, and waits until none has an open request."""
+        """Stops new requests, and waits until no client has an open one."""
         self._set(is_open=False)
         with self._changed:
             self._changed.wait_for(lambda: self._busy == 0)
 
     def end(self) -> None:
-        """Lets all clients end."""
+        """Ends all clients."""
         self._ended = True
         self._set(is_open=False)
 
@@ -104,7 +104,7 @@ class Gate:
 
 
 class Load:
-    """The keys and places that clients choose: few keys often, and a skewed load has fewer yet, and no pauses."""
+    """The keys and places that clients choose: few keys often. A skewed load has fewer still, and no pauses."""
 
     def __init__(self, places: Sequence[int], think_s: float) -> None:
         self._places, self._think_s = places, think_s
@@ -114,7 +114,7 @@ class Load:
         self.only = "get"
 
     def skew(self, keys: Sequence[str], places: Sequence[int]) -> None:
-        """From now on most requests are for these keys, at these places; without any, for all."""
+        """Directs most requests to these keys and places from now on; without any, to all."""
         self._skewed = (keys, places)
 
     def key(self, chance: random.Random) -> str:
@@ -134,12 +134,12 @@ class Load:
         return chance.expovariate(1 / self._think_s) if self._think_s and not self.is_skewed() else 0.0
 
     def is_skewed(self) -> bool:
-        """Returns true if clients want a few keys alone."""
+        """Returns true if clients want only a few keys."""
         return bool(self._skewed[0])
 
 
 class Client(threading.Thread):
-    """A client: it reads before it puts, or puts with a context that may be old, or with none."""
+    """A client: it reads before it puts, or puts with a context that may be old, or without one."""
 
     def __init__(self, number: int, seed: int, gate: Gate, load: Load, caller: Caller) -> None:
         super().__init__(name=f"client {number}", daemon=True)
@@ -201,7 +201,7 @@ class Client(threading.Thread):
 
 
 class Measurer(Client):
-    """A client that gets or puts its own keys. It puts with its last context, and reads if it has none after a put."""
+    """A client that gets or puts separate keys. It puts with its last context, and reads if a put left it without."""
 
     def _step(self) -> None:
         key = f"own-{self._number}-{self._chance.randrange(OWN_KEYS)}"
@@ -213,7 +213,7 @@ class Measurer(Client):
 
 
 class Crowd:
-    """The clients of a process, at rest until they are let work."""
+    """The clients of a process, at rest until a command to work."""
 
     def __init__(self, settings: Settings) -> None:
         self._gate, self._load = Gate(), Load(settings.places, settings.think_s)

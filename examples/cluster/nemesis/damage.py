@@ -1,6 +1,6 @@
-"""What happens to the disk of a node that isn't running: bits change, files and folders vanish, an old disk is back.
+"""Damage to the disk of a node that isn't running: bits change, files and folders vanish, an old disk is back.
 
-A name chooses among the files. Each function returns what it did, in words for the log.
+A name chooses among the files. Each function returns a description of its deed for the log.
 """
 
 from __future__ import annotations
@@ -11,7 +11,7 @@ import shutil
 from pathlib import Path
 from typing import List, Optional
 
-#: A value that a client put, and so many of a file's last ones are damaged often.
+#: The form of a client's value, and the number of values at a file's end that are damaged often.
 VALUE, VALUE_BYTES = re.compile(rb"c\d+-\d{6}"), 9
 LAST_VALUES = 30
 
@@ -52,7 +52,7 @@ def remove_each(disk: Path, _: random.Random, name: str) -> Optional[str]:
 
 
 def remove_folder(disk: Path, chance: random.Random, _: str) -> Optional[str]:
-    """Removes the folder of a range, or that of the hints."""
+    """Removes the folder of a range or of the hints."""
     folders = sorted(path for path in disk.iterdir() if path.is_dir() and not _is_aside(path.relative_to(disk)))
     if not folders:
         return None
@@ -62,7 +62,7 @@ def remove_folder(disk: Path, chance: random.Random, _: str) -> Optional[str]:
 
 
 def empty(disk: Path) -> str:
-    """Removes all."""
+    """Removes everything."""
     for path in list(disk.iterdir()):
         if path.is_dir():
             shutil.rmtree(path)
@@ -79,14 +79,14 @@ def copy(disk: Path, to: Path) -> str:
 
 
 def put_back(copied: Path, disk: Path) -> str:
-    """Puts an old copy in the place of a disk."""
+    """Replaces a disk with an old copy."""
     shutil.rmtree(disk)
     shutil.move(str(copied), str(disk))
     return "put an old disk back"
 
 
 def _flip(disk: Path, chance: random.Random, path: Path) -> str:
-    """Flips one bit of a file, often of a value that a client put."""
+    """Flips one bit of a file, often in a client's value."""
     held = bytearray(path.read_bytes())
     values = [it.start() for it in VALUE.finditer(held)][-LAST_VALUES:]
     at = chance.randrange(len(held))
@@ -105,13 +105,13 @@ def _remove(disk: Path, path: Path) -> str:
 
 
 def _files(disk: Path, name: str, least: int = 0) -> List[Path]:
-    """Returns the files that a node reads, and not those that were kept aside, if they have so many bytes."""
+    """Returns the files of at least `least` bytes that a node reads, without those that were kept aside."""
     files = ((path, path.relative_to(disk)) for path in disk.rglob("*") if path.is_file())
     return sorted(path for path, at in files if name in str(at) and not _is_aside(at) and path.stat().st_size >= least)
 
 
 def _last_of_each(disk: Path, name: str) -> List[Path]:
-    """Returns the file with bytes of each folder that was written last."""
+    """Returns the most recently written file of each folder, among those with bytes."""
     last = {path.parent: path for path in sorted(_files(disk, name, 1), key=lambda path: path.stat().st_mtime_ns)}
     return sorted(last.values())
 

@@ -1,4 +1,4 @@
-"""What the episodes of a nemesis are made of: each deed is logged, and one that would lose too much isn't done."""
+"""The deeds of a nemesis' episodes. Each deed is logged, and a deed that would lose too much isn't done."""
 
 from __future__ import annotations
 
@@ -16,29 +16,29 @@ from .log import Log
 from .nodes import Nodes
 from .places import PLACES
 
-#: Seconds that the cluster may take to come to rest between two lost disks.
+#: Seconds that the cluster may take to be at rest between two lost disks.
 REST_S = 30.0
 
-#: Lives of all places after which no disk is lost any more: a key's clock has room for 32, and each life may put it.
+#: Maximum number of lives before no more disks are lost: a key's clock can have 32, and each life may put the key.
 MOST_LIVES = 28
 
-#: Seconds that a node may take to serve, or to end, after a fault of its disk, and between two looks.
+#: Seconds that a node may take to serve, or to end, after a fault of its disk, and seconds between two looks.
 PATIENT_S, LOOK_S, LOOK_SOON_S = 15.0, 0.2, 0.05
 
-#: Seconds that an episode waits for nodes to serve: they may be cut off, and then they do only later.
+#: Seconds that an episode waits for nodes to serve. Nodes that are cut off may serve only later.
 START_S = 3.0
 
-#: Keys that are read at a node whose disk is full.
+#: Number of keys that are read at a node whose disk is full.
 READ = 5
 
-#: Does something to a disk, and returns what, or None if there was nothing to do it to.
+#: Damages a disk, and returns a description, or None if there was nothing to damage.
 Damage = Callable[[Path], Optional[str]]
 
 
 class Deeds:
-    """The deeds of a nemesis, by chance.
+    """The random deeds of a nemesis.
 
-    At most one disk is lost, damaged or old at a time: the cluster must have come to rest since the one before.
+    At most one disk is lost, damaged or old at a time: the cluster must have been at rest since the previous one.
     """
 
     def __init__(self, seed: int, nodes: Nodes, clients: Clients, log: Log) -> None:
@@ -48,11 +48,11 @@ class Deeds:
         self._lost: List[Tuple[int, str, int]] = []
         self._may_lose = True
         self._until = 0.0
-        #: False once the nodes don't all serve although nothing is in their way
+        #: False if the nodes don't all serve although nothing prevents it
         self.has_healed = True
 
     def set_end(self, seconds: float) -> None:
-        """Sets the time of the run."""
+        """Sets the duration of the run."""
         self._until = time.monotonic() + seconds
 
     def is_over(self) -> bool:
@@ -60,7 +60,7 @@ class Deeds:
         return time.monotonic() >= self._until
 
     def wait(self, least_s: float, most_s: float) -> None:
-        """Waits a time by chance, but not beyond the end of the run."""
+        """Waits a random time, until the end of the run at most."""
         time.sleep(max(0.0, min(self.chance.uniform(least_s, most_s), self._until - time.monotonic())))
 
     def some(self, count: int) -> List[int]:
@@ -68,14 +68,14 @@ class Deeds:
         return self.chance.sample(PLACES, count)
 
     def some_up(self, count: int) -> List[int]:
-        """Chooses places whose nodes serve, if there are so many; otherwise any."""
+        """Chooses places whose nodes serve, if there are enough, and any places otherwise."""
         up = self.nodes.up()
         return self.chance.sample(up if len(up) >= count else PLACES, count)
 
     # ---- messages
 
     def cut_off(self, drops: Sequence[links.Link], is_instant: Optional[bool] = None) -> None:
-        """Drops messages, mostly in silence, as a network does; sometimes their calls fail at once."""
+        """Drops messages, mostly in silence, as a network does. Sometimes their calls fail at once."""
         if is_instant is None:
             is_instant = self.chance.random() < 0.2
         self.links.partition(drops, is_instant)
@@ -97,7 +97,7 @@ class Deeds:
             time.sleep(LOOK_SOON_S)
 
     def heal(self) -> None:
-        """Heals all, waits until all nodes serve, and after a lost disk lets the cluster come to rest."""
+        """Ends all faults, waits until all nodes serve, and after a lost disk until the cluster is at rest."""
         for place in self.nodes.paused():
             self.nodes.resume(place)
         self.links.heal()
@@ -117,13 +117,13 @@ class Deeds:
         self.clients.work()
 
     def come_to_rest(self) -> None:
-        """Waits until all replicas are equal and no hint is pending, but not for long."""
+        """Waits a short time until all replicas are equal and no hint is pending."""
         rest.settle(self.nodes.base, PATIENT_S)
 
     # ---- disks
 
     def strain(self, places: Sequence[int]) -> None:
-        """Often lets slow syncs keep entries of a few keys waiting."""
+        """Often makes entries of a few keys wait for slow syncs."""
         if self.chance.random() < 0.7:
             self.clients.skew(self.chance.sample(KEYS, 3), places)
             for place in places:
@@ -144,14 +144,14 @@ class Deeds:
         self.log.write(op="disks")
 
     def can_lose(self) -> bool:
-        """Returns true if a disk may be lost now: no other one is, and clocks have room for another life."""
+        """Returns true if a disk may be lost now: no other disk is lost, and clocks can have another life."""
         return self._may_lose and self.nodes.lives() < MOST_LIVES
 
     def lose(self, place: int, op: str, damage: Damage) -> None:
-        """Kills a node, does something to its disk, if one may be lost now, and starts it.
+        """Kills a node, damages its disk if one may be lost now, and starts the node.
 
-        Its power isn't cut: a last record that is damaged then looks like one that wasn't written to its end. Waits a
-        while until the node serves, or has given up its life: then it may need links to serve.
+        Its power isn't cut: otherwise a damaged last record would look like an unfinished one. Waits a while until the
+        node serves, or has given up its life. In that case it may need links to serve.
         """
         if not self.can_lose():
             return
@@ -167,14 +167,14 @@ class Deeds:
             time.sleep(LOOK_SOON_S)
 
     def await_life(self, place: int) -> None:
-        """Waits a while until a node gives up the life that it had when its disk was lost."""
+        """Waits a while until a node gives up the life of its lost disk."""
         before = max((life for lost, _, life in self._lost if lost == place), default=0)
         until = time.monotonic() + START_S
         while self.nodes.life(place) <= before and time.monotonic() < until:
             time.sleep(LOOK_SOON_S)
 
     def _check_lost(self) -> None:
-        """Expects that nodes whose disks were lost have a new life, or have all, and show what they kept aside."""
+        """Expects that nodes whose disks were lost have a new life or everything, and show the files kept aside."""
         for place, op, before in self._lost:
             life = self.nodes.life(place)
             if op == "destroy":
@@ -186,7 +186,7 @@ class Deeds:
     # ---- what must hold meanwhile
 
     def expect(self, what: str, holds: Callable[[], bool]) -> None:
-        """Waits until something holds, and logs whether it did."""
+        """Waits until a condition holds, and logs the outcome."""
         until = time.monotonic() + PATIENT_S
         while not holds():
             if time.monotonic() > until:
@@ -196,7 +196,7 @@ class Deeds:
         self.log.write(op="expect", what=what, met=True)
 
     def status(self, place: int) -> dict:
-        """Returns what a node says of itself; of one that doesn't answer, that it has nothing and is full."""
+        """Returns a node's status. If it doesn't respond, returns one of an empty node with a full disk."""
         return self._front.status(place) or {"hints": {"pending": 0}, "aside": [], "full": True}
 
     def reads(self, place: int) -> bool:
@@ -205,7 +205,7 @@ class Deeds:
         return all(found.answer.status in (200, 300, 404) for found in gets)
 
     def dump_alone(self, place: int, file: Path) -> Optional[dict]:
-        """Writes what a node holds to a file, as soon as it tells it, and returns it: None if it doesn't in time."""
+        """Writes a node's dump to a file, as soon as it has one, and returns it, or None after the time limit."""
         until = time.monotonic() + START_S
         while True:
             held = rest.dump_one(self._front, place, file)
@@ -214,7 +214,7 @@ class Deeds:
             time.sleep(LOOK_S)
 
     def sync_neighbours(self, place: int) -> None:
-        """Lets the two nodes that hold most ranges of a place start a round, and waits until one has ended it."""
+        """Starts a round at the two nodes that hold most ranges of a place, and waits until one has ended."""
         ended = threading.Event()
 
         def repair(neighbour: int) -> None:

@@ -1,15 +1,15 @@
 /*
  * The faults of a disk: a library for LD_PRELOAD, between one program and the files below one folder.
  *
- * It keeps in a second folder, the shadow, what a power cut takes back: for each file the bytes and the sizes that
- * writes changed since its last fsync, and the names that were made, changed and removed since the last fsync of their
- * folder. A name and what its file holds have nothing to do with each other, as on a disk. `power.py` takes it back
- * once the program has been killed, and sets the other faults in the file `control` of the shadow, which is mapped
- * here: a full disk, syncs that fail, slow syncs.
+ * It keeps in a second folder, the shadow, the changes that a power cut undoes: the bytes and the sizes of each file
+ * that writes changed since its last fsync, and the names that were made, changed and removed since the last fsync of
+ * their folder. A name and its file's data are independent, as on a disk. `power.py` undoes the changes once the
+ * program has been killed, and sets the other faults in the file `control` of the shadow, which is mapped here: a full
+ * disk, syncs that fail, slow syncs.
  *
  * DISK_FAULTS_FOLDER and DISK_FAULTS_SHADOW name the two folders, on one file system: a removed file is kept by a link.
- * Each change is recorded before it is made, so a kill between the two loses nothing. Not seen: files that are mapped
- * to be written, O_SYNC, and a child that doesn't execute another program.
+ * Each change is recorded before it is made, so a kill between the two loses nothing. Not recorded: files that are
+ * mapped to be written, O_SYNC, and a child that doesn't execute another program.
  */
 #define _GNU_SOURCE
 #include <dlfcn.h>
@@ -33,7 +33,7 @@
 #define MOST_OPEN 65536
 #define MOST_PARTS 1024
 
-/* What the nemesis sets, and counts that it reads. */
+/* The settings of the nemesis, and counts that it reads. */
 struct control {
     _Atomic int64_t room;    /* bytes that files may still grow by; negative: no limit */
     _Atomic int64_t failing; /* syncs that will fail; negative: all */
@@ -52,7 +52,7 @@ enum kind { WRITTEN = 1, RESIZED, SYNCED, CREATED, MADE, REMOVED, REMOVED_FOLDER
  *     RESIZED         at: new size, size: the file's before
  *     SYNCED          at: all records before this position are on the disk
  *     REMOVED         at: the position of this record, which names the link in the shadow
- *     RENAMED         at: likewise, of a file that was replaced; count: the inode
+ *     RENAMED         at: the same, for a file that was replaced; count: the inode
  */
 struct record {
     int64_t kind, at, count, size, length;
@@ -107,7 +107,7 @@ static void find(void *call, const char *name)
     memcpy(call, &found, sizeof found);
 }
 
-/* Finds the calls of the C library. Another library's constructor may call one before this one's has run. */
+/* Finds the calls of the C library. Another library's constructor may call one before this library's has run. */
 static void find_all(void)
 {
     if (real.close)
@@ -134,7 +134,7 @@ static void give_up(const char *what)
 
 /* ---- records */
 
-/* Opens a file of records, behind its last whole one. Returns its length. */
+/* Opens a file of records, after its last whole one. Returns its length. */
 static off_t open_records(const char *name, int *opened)
 {
     char path[2 * PATH_MAX];
@@ -173,7 +173,7 @@ static void record_name(enum kind kind, int64_t at, int64_t count, const char *p
     names_recorded += append(names, head, path, length, other, other ? strlen(other) : 0);
 }
 
-/* Records what a change of a file takes away: the bytes from `at` to `end`. The caller has the file's lock. */
+/* Records the bytes from `at` to `end`, before a change of a file removes them. The caller has the file's lock. */
 static void record_bytes(struct file *file, int descriptor, struct record head, off_t at, off_t end)
 {
     size_t length = end > at ? (size_t)(end - at) : 0;
@@ -320,9 +320,9 @@ static void untrack(struct file *file)
     pthread_mutex_unlock(&lock);
 }
 
-/* ---- room */
+/* ---- space */
 
-/* Takes the room by which a write would grow a file. Returns the bytes that may be written. */
+/* Takes the space for the growth of a file by a write. Returns the number of bytes that may be written. */
 static size_t take_room(off_t at, size_t wanted, off_t size)
 {
     int64_t growth = (int64_t)at + (int64_t)wanted - (int64_t)size;
@@ -338,7 +338,7 @@ static size_t take_room(off_t at, size_t wanted, off_t size)
     return lacking < wanted ? wanted - lacking : 0;
 }
 
-/* Gives back the room of what was removed. */
+/* Frees the space of removed data. */
 static void give_room(int64_t bytes)
 {
     int64_t room = atomic_load(&control->room);
@@ -346,7 +346,7 @@ static void give_room(int64_t bytes)
         ;
 }
 
-/* Returns -1 if there is no room for a new name. */
+/* Returns -1 if there isn't space for a new name. */
 static int admit_name(void)
 {
     if (atomic_load(&control->room) != 0)
@@ -443,7 +443,7 @@ static void wait_ms(int64_t ms)
         ;
 }
 
-/* Returns true if this sync is one that fails. */
+/* Returns true if this sync must fail. */
 static bool is_failing(void)
 {
     int64_t failing = atomic_load(&control->failing);
@@ -452,7 +452,7 @@ static bool is_failing(void)
     return failing != 0;
 }
 
-/* Drops the records up to a position, unless all that were there then have been dropped since. */
+/* Drops the records up to a position, unless all records of that time have been dropped since. */
 static void file_is_synced(struct file *file, off_t position, long dropped)
 {
     pthread_mutex_lock(&file->lock);
@@ -488,7 +488,7 @@ static void folder_is_synced(const char *folder, off_t position)
     pthread_mutex_unlock(&lock);
 }
 
-/* Syncs a file or a folder. What is written meanwhile doesn't count as synced. */
+/* Syncs a file or a folder. Later writes don't count as synced. */
 static int sync_file(int descriptor, int (*sync)(int))
 {
     struct file *file = file_of(descriptor);
@@ -629,7 +629,7 @@ static int make_path(int folder, const char *path, mode_t mode)
 
 /* ---- the start */
 
-/* A child has the locks as they were: nothing is watched in it until it executes another program. */
+/* Watches nothing in a child until it executes another program: the child has copies of locks that may be taken. */
 static void in_child(void)
 {
     control = NULL;
@@ -685,7 +685,7 @@ OPENS(open64)
 OPENS_AT(openat)
 OPENS_AT(openat64)
 
-/* (these are what a call without a mode is compiled to, if the C library's checks are on) */
+/* (the functions that a call without a mode compiles to, if the C library's checks are on) */
 int __open_2(const char *path, int flags);
 int __open64_2(const char *path, int flags);
 

@@ -1,4 +1,4 @@
-"""The figures of a run: the responses to clients, and the counts of the nodes while it went on."""
+"""The figures of a run: the responses to clients, and the counts of the nodes."""
 
 from __future__ import annotations
 
@@ -12,7 +12,7 @@ from .front import Front
 from .log import Log
 from .places import PLACES
 
-#: Counts of a node's status that go up from 0 in each process.
+#: Counts of a node's status that begin at 0 in each process.
 COUNTS = ("rounds", "keys_repaired", "bytes_repaired", "delivered")
 
 #: Seconds between two looks at the nodes' counts, and the longest wait for one.
@@ -20,7 +20,7 @@ LOOK_S, PATIENCE_S = 0.5, 1.0
 
 
 class Request(NamedTuple):
-    """A client's request: when it began, how long it took, and the status, 0 if it wasn't answered."""
+    """A client's request: its start, its duration, and its status, which is 0 without a response."""
 
     begin: float
     took: float
@@ -32,7 +32,7 @@ class Request(NamedTuple):
 
 
 class Counts:
-    """Sums the counts of all nodes over their restarts, and logs them. What a node counted last may be missed."""
+    """Sums the counts of all nodes over their restarts, and logs them. A node's last counts may be missed."""
 
     def __init__(self, base: int, log: Log) -> None:
         self._sums: Dict[str, int] = dict.fromkeys(COUNTS, 0)

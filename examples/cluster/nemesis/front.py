@@ -14,13 +14,13 @@ from .places import PLACES
 HOST = "127.0.0.1"
 TOMBSTONE = "tombstone "
 
-#: Seconds after which a client gives up. A call between nodes has half a second, and a put may be handed on.
+#: Seconds after which a client gives up. A call between nodes has half a second, and a put may be forwarded.
 PATIENCE_S = 2.5
 
 
 @dataclass(frozen=True)
 class Answer:
-    """A node's answer. The status 0 stands for none."""
+    """A node's response. The status is 0 if there was none."""
 
     status: int
     headers: Mapping[str, str]
@@ -39,7 +39,7 @@ NO_ANSWER = Answer(0, {}, b"")
 
 @dataclass(frozen=True)
 class Found:
-    """What a get found: the marks of the versions with their clocks, and the context that covers them."""
+    """The result of a get: the marks of the versions with their clocks, and the context that covers them."""
 
     answer: Answer
     marks: Sequence[str]
@@ -48,7 +48,7 @@ class Found:
 
 
 class Front:
-    """Requests to the nodes, over one connection for each port. For one thread."""
+    """Requests to the nodes, over one connection per port. For a single thread."""
 
     def __init__(self, base: int, patience_s: float = PATIENCE_S) -> None:
         self._base, self._patience_s = base, patience_s
@@ -57,7 +57,7 @@ class Front:
     def ask(
         self, place: int, method: str, path: str, body: Optional[bytes] = None, headers: Mapping[str, str] = {}
     ) -> Answer:
-        """Sends a request of a client, and returns its answer."""
+        """Sends a request of a client, and returns the response."""
         return self._ask(client_port(self._base, place), method, path, body, headers)
 
     def _ask(
@@ -92,11 +92,11 @@ class Front:
         return Found(answer, marks, clocks, answer.headers.get("x-context"))
 
     def status(self, place: int) -> Optional[dict]:
-        """Returns a node's counts: None if it doesn't answer."""
+        """Returns a node's counts, or None if it doesn't respond."""
         return self._json(place, "GET", "/status")
 
     def dump(self, place: int) -> Optional[dict]:
-        """Returns all that a node holds: None if it doesn't answer."""
+        """Returns a node's dump, or None if it doesn't respond."""
         return self._json(place, "GET", "/dump")
 
     def repair(self, place: int) -> bool:
@@ -109,7 +109,7 @@ class Front:
         self._open.clear()
 
     def _json(self, place: int, method: str, path: str, body: Optional[dict] = None) -> Any:
-        """Sends a request that may be repeated: the node may have been started anew since the connection was made."""
+        """Sends a request that may be repeated: the node may have restarted since the connection was made."""
         for _ in range(2):
             text = None if body is None else json.dumps(body).encode()
             answer = self._ask(admin_port(self._base, place), method, path, text)
@@ -137,7 +137,7 @@ def _context(context: Optional[str]) -> Mapping[str, str]:
 
 
 def _versions(answer: Answer) -> Tuple[List[str], List[str]]:
-    """Returns the marks and the clocks of the versions that an answer shows."""
+    """Returns the marks and the clocks of the versions in a response."""
     if answer.status == 300:
         siblings = answer.json()["siblings"]
         return [_mark(it) for it in siblings], [it["clock"] for it in siblings]
@@ -154,5 +154,5 @@ def _mark(sibling: dict) -> str:
 
 
 def _text(value: bytes) -> str:
-    """Returns a value as text. One that a client didn't put may have any bytes."""
+    """Returns a value as text. A value that no client put may have any bytes."""
     return value.decode(errors="backslashreplace")

@@ -14,18 +14,18 @@ from typing import Any, Dict, Iterator, List, Mapping, NamedTuple, Optional, Tup
 
 TOMBSTONE = "tombstone "
 
-#: Statuses with which a node refuses what it can't do.
+#: Statuses of definite refusals.
 REFUSED = (400, 409)
 
-#: Statuses of a get that was answered.
+#: Statuses of a get with a result.
 FOUND = (200, 300, 404)
 
-#: The mode of a run: all faults and all repair, or only rounds, or only hints.
+#: The mode of a run: all faults and all repair, only rounds, or only hints.
 ALL, BY_ROUNDS, BY_HINTS = "all", "repair", "handoff"
 
 
 class BadLog(Exception):
-    """A log that isn't as the run writes it."""
+    """A log that a run doesn't write in this form."""
 
 
 @dataclass(frozen=True)
@@ -42,7 +42,7 @@ class Line:
 
 @dataclass(frozen=True)
 class Version:
-    """A version of a key that an answer or a dump shows."""
+    """A version of a key in a response or a dump."""
 
     mark: str
     clock: str
@@ -50,11 +50,11 @@ class Version:
 
 @dataclass(frozen=True)
 class Write:
-    """A put or a delete, and its answer."""
+    """A put or a delete, and its response."""
 
     line: Line
     key: str
-    #: None for a delete whose clock isn't known
+    #: None for a delete with an unknown clock
     mark: Optional[str]
     #: The marks that its client had read
     read: Tuple[str, ...]
@@ -63,7 +63,7 @@ class Write:
     status: int
     clock: str
     on: Tuple[int, ...]
-    #: True if it was refused, and not as `perhaps`: then it happened nowhere
+    #: True if it was refused without `perhaps`, so that it happened nowhere
     is_refused: bool
 
     @property
@@ -81,7 +81,7 @@ class Write:
 
 @dataclass(frozen=True)
 class Get:
-    """A get that was answered."""
+    """A get with a result."""
 
     line: Line
     key: str
@@ -93,7 +93,7 @@ class Get:
 
 
 class Request(NamedTuple):
-    """A request of a client, whatever it was and whether it was answered."""
+    """A request of a client, with or without a response."""
 
     line: Line
     is_get: bool
@@ -108,19 +108,19 @@ class Request(NamedTuple):
 
 @dataclass(frozen=True)
 class Event:
-    """A deed of the nemesis, or what a node said."""
+    """A deed of the nemesis, or a line that a node printed."""
 
     line: Line
     at: float
     op: str
     place: int
     life: int
-    #: How a process ended: a signal is negative
+    #: The exit status of a process: a signal is negative
     status: int
-    #: What was expected, and whether it held
+    #: The expectation, and its outcome
     what: str
     met: bool
-    #: All that its line has
+    #: All members of its line
     members: Mapping[str, Any]
 
 
@@ -136,7 +136,7 @@ class Replica:
 
 @dataclass(frozen=True)
 class Dump:
-    """What a node held in the end."""
+    """The rows and hints of a node in the end."""
 
     line: Line
     place: int
@@ -150,7 +150,7 @@ class Held:
     """The rows of a node that started cut off from all others, after it was killed or its power was cut."""
 
     dump: Dump
-    #: When it was still running, and when it was dumped
+    #: The last time at which it was running, and the time of its dump
     since: float
     at: float
 
@@ -201,7 +201,7 @@ def read(folder: Path) -> History:
 
 @functools.lru_cache(maxsize=None)
 def clock_pairs(clock: str) -> Tuple[Tuple[int, int], ...]:
-    """Returns the lives and counters of a clock's text, `67:3,34:1`."""
+    """Returns the lives and counters of a clock as text, `67:3,34:1`."""
     pairs = (pair.split(":") for pair in clock.split(",") if pair)
     return tuple(sorted((int(life), int(counter)) for life, counter in pairs))
 
@@ -277,7 +277,7 @@ def _text(encoded: str) -> str:
 
 
 def _clock(text: str) -> str:
-    """Returns a clock's text with its lives in order."""
+    """Returns a clock as text with its lives in order."""
     return ",".join(f"{life}:{counter}" for life, counter in clock_pairs(text))
 
 

@@ -1,9 +1,9 @@
-"""Judges a run by its logs alone: the responses to clients, the deeds of the nemesis, and the rows of nodes in the end.
+"""Judges a run only by its logs: the responses to clients, the deeds of the nemesis, and the rows of nodes in the end.
 
     python3 -m nemesis.judge LOGS
 
 A version may only be gone if a put overwrote it whose client had read it, or had read one that overwrote it. Clocks
-aren't asked for that: a counter that was used twice hides a loss from clocks. The last line is `N passed, M failed`.
+aren't used for that: a counter that was used twice hides a loss from clocks. The last line is `N passed, M failed`.
 """
 
 from __future__ import annotations
@@ -17,7 +17,7 @@ from .availability import requests_are_served
 from .case import Breach, Case, Rule
 from .history import BadLog, History, read
 
-#: Breaches of a rule that are shown at most.
+#: Maximum number of breaches of a rule that are shown.
 MOST_SHOWN = 5
 
 RULES: Tuple[Rule, ...] = (
@@ -59,7 +59,7 @@ def judge(history: History) -> Verdict:
 
 
 def report(verdict: Verdict) -> int:
-    """Prints a verdict, and returns the number of rules that were broken."""
+    """Prints a verdict, and returns the number of broken rules."""
     for note in verdict.notes:
         print(note)
     for rule, breaches in verdict.items():

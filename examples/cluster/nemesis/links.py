@@ -1,8 +1,8 @@
 """Faults of the messages between nodes: some are dropped, some are late and overtake each other, some are repeated.
 
-They are in a file that each node reads, in the module that the nemesis puts in the place of the product's
-(`erlang/cluster_link.erl`). So they are in force for all nodes soon after the file is written, and for nodes that start
-later. The module also notes which calls of background work were made without a slot.
+They are in a file that each node reads, in the module that the nemesis loads in place of the product's
+(`erlang/cluster_link.erl`). They are therefore in force for all nodes soon after the file is written, and for nodes
+that start later. The module also notes the calls of background work that were made without a slot.
 """
 
 from __future__ import annotations
@@ -17,20 +17,20 @@ from typing import Dict, Iterable, List, Sequence, Set, Tuple
 from .log import Log
 from .places import PLACES
 
-#: A link of messages, from a place to another.
+#: A link for messages, from a place to another.
 Link = Tuple[int, int]
 
 SOURCE = Path(__file__).with_name("erlang") / "cluster_link.erl"
 
-#: Threads for files in each node: a slow disk takes some, and a message needs one for the file of its faults.
+#: Number of threads for files in each node: a slow disk takes some, and a message needs one for the file of its faults.
 THREADS = 16
 
-#: Seconds after which all nodes have seen that the file has changed.
+#: Seconds until all nodes have seen a change of the file.
 SEEN_S = 0.01
 
 
 class Links:
-    """The faults of all messages. The log has all of them each time that one changes."""
+    """The faults of all messages. Each change logs all of them."""
 
     def __init__(self, folder: Path, log: Log) -> None:
         self._folder, self._file, self._log = folder, folder / "links", log
@@ -42,7 +42,7 @@ class Links:
         self._write()
 
     def environment(self) -> Dict[str, str]:
-        """Compiles the module, and returns what a node's environment has for it."""
+        """Compiles the module, and returns the additions to a node's environment."""
         subprocess.run(["erlc", "-Wall", "-Werror", "-o", str(self._folder), str(SOURCE)], check=True)
         return {
             "NEMESIS_LINKS": str(self._file),
@@ -51,9 +51,9 @@ class Links:
         }
 
     def partition(self, drops: Iterable[Link], is_instant: bool = False) -> None:
-        """Drops messages of these links, and of those that are dropped already.
+        """Drops messages of these links, in addition to the dropped ones.
 
-        A call waits for its limit then, or fails at once.
+        A call then waits for its limit, or fails at once.
         """
         self._drops.update(drops)
         self._is_instant = is_instant
@@ -65,12 +65,12 @@ class Links:
         self._change()
 
     def late(self, links: Iterable[Link], least_ms: int, most_ms: int) -> None:
-        """Delays each message of these links by a time of its own, mostly near the least."""
+        """Delays each message of these links by a random time, mostly near the least."""
         self._late.update((link, (least_ms, most_ms)) for link in links)
         self._change()
 
     def repeat(self, per_mille: int) -> None:
-        """Serves some of 1,000 calls twice, the second time up to a second later."""
+        """Serves this many of 1,000 calls twice, the second time up to a second later."""
         self._repeat = per_mille
         self._change()
 
@@ -84,7 +84,7 @@ class Links:
             self._change()
 
     def unslotted(self) -> Dict[Tuple[int, str], int]:
-        """Returns the calls that were made without a slot: the numbers of them by place and function."""
+        """Returns the numbers of calls that were made without a slot, by place and function."""
         counts: Dict[Tuple[int, str], int] = {}
         for place in PLACES:
             noted = self._folder / f"unslotted-{place}"
@@ -124,12 +124,12 @@ def halves(side: Sequence[int]) -> List[Link]:
 
 
 def one_way(side: Sequence[int]) -> List[Link]:
-    """Returns the links over which the other places hear a side. If they are dropped, it still hears them."""
+    """Returns the links over which the other places hear a side. Without them, the side still hears the others."""
     return [(a, b) for a in side for b in PLACES if b not in side]
 
 
 def bridge(side: Sequence[int], middle: int) -> List[Link]:
-    """Returns the links between two sides that reach each other over one place alone, if these are dropped."""
+    """Returns the links to drop so that two sides reach each other only over one place."""
     return between(side, [place for place in PLACES if place not in side and place != middle])
 
 

@@ -10,7 +10,7 @@ from typing import Any, Optional
 
 
 class Watch:
-    """The time since a run began, in seconds, for all its logs, also those of other processes."""
+    """The time since a run began, in seconds, for all its logs, including those of other processes."""
 
     def __init__(self, began: Optional[float] = None) -> None:
         self.began = time.monotonic() if began is None else began
@@ -20,7 +20,7 @@ class Watch:
 
 
 class Log:
-    """A file that a line is appended to for each deed or answer."""
+    """A file with a line for each deed or response."""
 
     def __init__(self, path: Path, watch: Watch) -> None:
         self._file = path.open("w", encoding="utf-8", buffering=1)
@@ -32,7 +32,7 @@ class Log:
         return self._watch.now()
 
     def write(self, **members: Any) -> None:
-        """Appends a line, with the time if it has none."""
+        """Appends a line, and adds the time if the line doesn't have it."""
         with self._lock:
             line = members if "t" in members else {"t": self.now(), **members}
             if not self._file.closed:

@@ -1,11 +1,11 @@
-"""Measures a cluster with clients at full speed: without faults, while two of five places are silent, and after that.
+"""Measures a cluster with clients at full speed: without faults, while two of five places are silent, and afterwards.
 
     python3 -m nemesis.measure --library FOLDER [--seconds S] [--clients N] [--no-admission]
 
-Prints the requests a second and the latencies at the three places that aren't silent: without faults; while the two
-others are cut off, and while they are stopped, with the first second of each apart; and while clients go on during the
-repairs of these, and of a lost disk. Clients put alone, or get alone: of the keys that one of the three places alone
-holds, gets are refused during the silence. Then prints the time that repairs take with clients at rest.
+Prints the requests per second and the latencies at the three places that aren't silent: without faults; while the two
+others are cut off, and while they are stopped, with a separate first second for each; and while clients continue during
+the repairs of these, and of a lost disk. Clients either only put or only get. Gets are refused during the silence if
+only one of the three places holds the key. Then prints the time that repairs take with clients at rest.
 """
 
 from __future__ import annotations
@@ -29,17 +29,17 @@ from .rest import settle
 SILENT, CALLED = (1, 2), (3, 4, 5)
 MOST_S = 120.0
 
-#: Seconds in which the other places learn that some are silent.
+#: Seconds in which the other places notice that some are silent.
 FIRST_S = 1.0
 
-#: Keys that are put before, so that a lost disk is worth a repair, and threads that put them.
+#: Number of keys that are put before, so that a lost disk is worth a repair, and of threads that put them.
 FILLED, FILLERS = 4000, 8
 
 Phase = Tuple[str, str, float, float]
 
 
 class Measure:
-    """A cluster and its clients, and the phases that were measured."""
+    """A cluster and its clients, and the measured phases."""
 
     def __init__(self, nodes: Nodes, clients: Clients, log: Log, counts: figures.Counts) -> None:
         self._nodes, self._clients, self._log, self._counts = nodes, clients, log, counts
@@ -47,7 +47,7 @@ class Measure:
         self.phases: List[Phase] = []
 
     def run(self, seconds: float, silence_s: float) -> None:
-        """Goes through all phases."""
+        """Runs all phases."""
         self._fill()
         self._clients.work()
         self._puts("no faults", seconds)
@@ -121,7 +121,7 @@ class Measure:
         self.phases.append((name, kind, begin, self._log.now()))
 
     def _repair(self, name: str) -> None:
-        """Prints how long the cluster takes to come to rest, and what it does meanwhile."""
+        """Prints the time until the cluster is at rest, and its work meanwhile."""
         before = dict(self._counts.look())
         took = settle(self._nodes.base, MOST_S)
         done = {name: count - before[name] for name, count in self._counts.look().items()}
@@ -136,7 +136,7 @@ PLAIN = argparse.RawDescriptionHelpFormatter
 
 
 def words() -> argparse.Namespace:
-    """Reads the command's words."""
+    """Parses the command's arguments."""
     parser = argparse.ArgumentParser(prog="python3 -m nemesis.measure", description=__doc__, formatter_class=PLAIN)
     parser.add_argument("--library", type=Path, required=True, help="folder of the C library, made by ./build-c")
     parser.add_argument("--seconds", type=float, default=20, help="time of a phase")

@@ -8,7 +8,7 @@ from typing import Mapping
 
 @dataclass(frozen=True)
 class Mode:
-    """The settings of the nodes, the faults that a run has, and what its end waits for."""
+    """The settings of the nodes, the faults of a run, and the conditions for its end."""
 
     name: str
     settings: Mapping[str, str] = field(default_factory=dict)
@@ -16,7 +16,7 @@ class Mode:
     has_losses: bool = True
     needs_equal_roots: bool = True
     needs_no_hints: bool = True
-    #: Seconds for which the nodes must be at rest: a copy that no place took becomes a hint some time after its put.
+    #: Seconds that the nodes must be at rest: a copy that no place took becomes a hint some time after its put.
     steady_s: float = 0.0
 
 
@@ -27,7 +27,7 @@ REPAIR = Mode(
     "repair", {"handoff": "off", "read_repair": "off"}, has_losses=False, needs_no_hints=False
 )
 
-#: Only hints do. A copy that is under way is lost with its coordinator, so no node is killed.
+#: Only hints do. A copy in progress is lost with its coordinator, so no node is killed.
 HANDOFF = Mode(
     "handoff",
     {"repair": "off", "read_repair": "off"},

@@ -1,4 +1,4 @@
-"""The process of one node, and what it says."""
+"""The process of one node, and the lines that it prints."""
 
 from __future__ import annotations
 
@@ -9,12 +9,12 @@ from typing import Mapping, Optional, Sequence
 
 from .log import Log
 
-#: Seconds that a process may take to end once it was killed.
+#: Seconds that a process may take to end after it was killed.
 END_S = 5.0
 
 
 class Node:
-    """A process, which says `life N` once it has its number, and `ready` once it serves; both again in a new life."""
+    """A process. It prints `life N` once it has its number, and `ready` once it serves; both again in a new life."""
 
     def __init__(
         self, place: int, words: Sequence[str], environment: Mapping[str, str], errors: Path, log: Log
@@ -37,7 +37,7 @@ class Node:
         self._listener.start()
 
     def await_ready(self, most_s: float) -> bool:
-        """Waits until the node serves, and returns false if it ended, or took too long."""
+        """Waits until the node serves. Returns false if it ended, or took too long."""
         with self._changed:
             self._changed.wait_for(lambda: self.is_ready or self.has_ended, most_s)
             return self.is_ready and not self.has_ended
@@ -62,7 +62,7 @@ class Node:
         self._listener.join(END_S)
 
     def _listen(self) -> None:
-        """Notes what the node says, until its end."""
+        """Notes the node's lines, until its end."""
         with self.process.stdout:
             for line in self.process.stdout:
                 word, _, rest = line.strip().partition(" ")

@@ -22,8 +22,8 @@ from .power import Power
 
 EXAMPLE = Path(__file__).resolve().parents[1]
 
-#: A cluster listens on a few ports in a row: two of HTTP for each place, and that of epmd is the last. It claims them
-#: by a socket that is bound to the first.
+#: A cluster listens on consecutive ports: two of HTTP for each place, and then one of epmd. It claims them by a socket
+#: that is bound to the first.
 PORTS = range(20000, 30000)
 PORTS_EACH = 2 * len(PLACES) + 2
 
@@ -37,7 +37,7 @@ SYS_CONFIG = """[{{cluster, [
 ]}}].
 """
 
-#: Seconds that a process may take to start, on a machine that is busy, and that epmd may take to end.
+#: Seconds that a process may take to start, on a busy machine, and that epmd may take to end.
 START_S, END_S = 120.0, 5.0
 
 #: Seconds that all nodes may take to serve again.
@@ -48,7 +48,7 @@ LOOK_S = 0.05
 
 
 class NoStart(Exception):
-    """A build or a process that didn't start."""
+    """A build that failed, or a process that didn't start."""
 
 
 def build(library: Path, out: Path) -> None:
@@ -60,7 +60,7 @@ def build(library: Path, out: Path) -> None:
 
 
 class Nodes:
-    """The processes of a cluster with their disks, each known by its id.
+    """The processes of a cluster with their disks. Each process is known by its id.
 
     `links` has the faults of messages. If faults of disks are wanted and there is a C compiler, each node runs under
     their library, and `powers` has them.
@@ -118,7 +118,7 @@ class Nodes:
         self.await_ready(PLACES)
 
     def end(self) -> None:
-        """Ends all that it started."""
+        """Ends all processes that it started."""
         before = signal.signal(signal.SIGINT, signal.SIG_IGN)
         try:
             for node in self._nodes.values():
@@ -133,7 +133,7 @@ class Nodes:
             signal.signal(signal.SIGINT, before)
 
     def start(self, places: Sequence[int]) -> None:
-        """Starts nodes. One with a new disk serves once all others have answered it."""
+        """Starts nodes. A node with a new disk serves once all others have responded to it."""
         for place in places:
             self._disks[place].mkdir(parents=True, exist_ok=True)
             self._log.write(op="start", place=place)
@@ -156,7 +156,7 @@ class Nodes:
                 raise NoStart(f"the node of place {place} {how}: see node-{place}.err")
 
     def bring_up(self) -> bool:
-        """Starts all nodes that are down, and those that end by themselves again, until all serve.
+        """Starts all nodes that are down, and restarts those that end by themselves, until all serve.
 
         Returns false if they don't all serve in time.
         """
@@ -188,7 +188,7 @@ class Nodes:
         return [it for it, node in sorted(self._nodes.items()) if _serves(node) and it not in self._paused]
 
     def running(self) -> List[int]:
-        """Returns the places with a process, whether it serves or not."""
+        """Returns the places with a process, ready or not."""
         return [place for place, node in sorted(self._nodes.items()) if not node.has_ended]
 
     def down(self) -> List[int]:
@@ -196,20 +196,20 @@ class Nodes:
         return [place for place in PLACES if place not in self.running()]
 
     def kill(self, places: Sequence[int]) -> None:
-        """Kills nodes, all at once. What they wrote stays."""
+        """Kills nodes, all at once. Their writes stay."""
         for place in places:
             self._log.write(op="kill", place=place)
         self._kill(places)
 
     def cut(self, places: Sequence[int], chance: random.Random) -> None:
-        """Cuts the power of nodes, all at once: what they didn't sync is gone, or a part of it."""
+        """Cuts the power of nodes, all at once: all unsynced changes are gone, or a part of them."""
         self._kill(places)
         for place in places:
             taken = self.powers[place].cut(chance if chance.random() < 0.5 else None)
             self._log.write(op="cut", place=place, **vars(taken))
 
     def damage(self, place: int, op: str, deed: Callable[[Path], Optional[str]]) -> bool:
-        """Does something to the disk of a node that isn't running. Returns false if there was nothing to do it to."""
+        """Damages the disk of a node that isn't running. Returns false if there was nothing to damage."""
         what = deed(self._disks[place])
         if place in self.powers:
             self.powers[place].keep()
@@ -218,13 +218,13 @@ class Nodes:
         return what is not None
 
     def pause(self, place: int) -> None:
-        """Stops a node, which then neither answers nor is down."""
+        """Stops a node: it doesn't respond, but isn't down."""
         self._log.write(op="pause", place=place)
         self._nodes[place].send(signal.SIGSTOP)
         self._paused.add(place)
 
     def resume(self, place: int) -> None:
-        """Lets a paused node go on."""
+        """Resumes a paused node."""
         self._log.write(op="resume", place=place)
         self._nodes[place].send(signal.SIGCONT)
         self._paused.discard(place)
@@ -234,7 +234,7 @@ class Nodes:
         return sorted(self._paused)
 
     def have_printed(self, pattern: Pattern[bytes]) -> bool:
-        """Returns true if a node has printed something to its errors."""
+        """Returns true if a node has printed this to its standard error."""
         return any(pattern.search(path.read_bytes()) for path in self._logs.glob("node-*.err"))
 
     def _kill(self, places: Sequence[int]) -> None:
@@ -262,7 +262,7 @@ def _serves(node: Node) -> bool:
 
 
 def _claim(first: Optional[int]) -> Tuple[socket.socket, int]:
-    """Claims ports that are free, from this one on or from one that depends on the process. Returns the first."""
+    """Claims free ports, from this one on or from one that depends on the process. Returns the first."""
     if first is None:
         slots = len(PORTS) // PORTS_EACH
         wanted = [PORTS.start + (os.getpid() + step) % slots * PORTS_EACH for step in range(slots)]

@@ -1,4 +1,4 @@
-"""Which versions of a key overwrote which, by what clients had read."""
+"""The versions of a key that each version overwrote, according to the reads of clients."""
 
 from __future__ import annotations
 
@@ -8,11 +8,11 @@ from .history import TOMBSTONE, Get, Write
 
 
 class Overwrites:
-    """The marks of one key, and for each one those that it overwrote.
+    """The marks of one key, and for each mark the ones that it overwrote.
 
-    A put overwrote what its client had read, and all that this overwrote. Clocks play no part. A tombstone
-    whose clock no client knows is from a delete that began before the tombstone was first read. It isn't known which:
-    so it counts for all of these, or for none if only certain overwrites are wanted.
+    A put overwrote the versions that its client had read, and all that these overwrote. Clocks play no part. If no
+    client knows the clock of a tombstone, it is from a delete that began before the tombstone was first read. It is
+    unknown which, so it counts for all of these, or for none if only certain overwrites are wanted.
 
     A set of marks is a number with one bit for each.
     """
@@ -20,7 +20,7 @@ class Overwrites:
     def __init__(self, writes: Iterable[Write], gets: Iterable[Get], is_certain: bool = False) -> None:
         self._bits: Dict[str, int] = {}
         self._overwritten: Dict[str, int] = {}
-        #: The deletes whose tombstones may be any that no client knows
+        #: The deletes that may have made the tombstones that no client knows
         self._deletes: List[Write] = []
         first: Dict[str, float] = {}
         read: Dict[str, set] = {}

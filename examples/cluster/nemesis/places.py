@@ -2,7 +2,7 @@
 
 PLACES = (1, 2, 3, 4, 5)
 
-#: A life's number is its place and so many times its incarnation, which counts from 1.
+#: A life's number is its place plus this multiple of its incarnation, which counts from 1.
 INCARNATION = 32
 MOST_INCARNATIONS = 2047
 
@@ -13,5 +13,5 @@ def place_of(life: int) -> int:
 
 
 def incarnation_of(life: int) -> int:
-    """Returns which of its place's lives a number is."""
+    """Returns the incarnation of a life's number, which counts the lives of its place."""
     return life // INCARNATION

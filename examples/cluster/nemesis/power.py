@@ -1,4 +1,4 @@
-"""The disk of one program: what a power cut takes back, and the other faults that a disk may have.
+"""The disk of one program: the changes that a power cut undoes, and the other faults that a disk may have.
 
 The program runs under a library for LD_PRELOAD, `disk_faults.c`, which `build` compiles:
 
@@ -7,11 +7,11 @@ The program runs under a library for LD_PRELOAD, `disk_faults.c`, which `build` 
     program = Popen(.., env=power.environment())
     ..
     program.kill(); program.wait()
-    power.cut()                                         # nothing that wasn't synced is left
-    power.cut(random.Random(7))                         # or some of it is, and one write of each file is torn
+    power.cut()                                         # no unsynced change is left
+    power.cut(random.Random(7))                         # or some are, and one write of each file is torn
 
-A kill alone takes nothing back, and what wasn't synced by then may still be lost at a later cut. Whoever changes the
-folder without the library says so by `keep`, after the program has ended.
+A kill itself undoes nothing, and changes that weren't synced by then may still be lost at a later cut. After a change
+of the folder without the library, call `keep`, once the program has ended.
 """
 
 from __future__ import annotations
@@ -28,15 +28,15 @@ from typing import Dict, Iterator, List, Mapping, NamedTuple, Optional, Sequence
 SOURCE = Path(__file__).with_name("disk_faults.c")
 FLAGS = ("-shared", "-fPIC", "-std=c11", "-O2", "-Wall", "-Wextra", "-Werror")
 
-#: Kinds of records, and the numbers of their heads, as `disk_faults.c` has them.
+#: Kinds of records, and the numbers of their heads, as in `disk_faults.c`.
 WRITTEN, RESIZED, SYNCED, CREATED, MADE, REMOVED, REMOVED_FOLDER, RENAMED = range(1, 9)
 HEAD = struct.Struct("=5q")
 
-#: The file `control`: the room, the syncs that fail and their delay; and the counts of syncs, failed ones and refusals.
+#: The file `control`: the space, the syncs that fail and their delay; the counts of syncs, failed ones and refusals.
 CONTROL = struct.Struct("=6q")
 NO_FAULTS = (-1, 0, 0)
 
-#: Bytes that a disk writes at once.
+#: Number of bytes that a disk writes at once.
 SECTOR = 512
 
 
@@ -53,7 +53,7 @@ class Record(NamedTuple):
 
 @dataclass
 class Cut:
-    """What a power cut took back."""
+    """The changes that a power cut undid."""
 
     names: int = 0
     writes: int = 0
@@ -61,7 +61,7 @@ class Cut:
 
 
 class Counts(NamedTuple):
-    """What the library counted since the last `heal`."""
+    """The library's counts since the last `heal`."""
 
     synced: int
     failed: int
@@ -69,7 +69,7 @@ class Counts(NamedTuple):
 
 
 def build(folder: Path) -> Optional[Path]:
-    """Compiles the library into a folder, and returns it: None if there is no C compiler."""
+    """Compiles the library into a folder, and returns its path, or None without a C compiler."""
     if shutil.which("cc") is None:
         return None
     library = folder / "disk_faults.so"
@@ -78,7 +78,7 @@ def build(folder: Path) -> Optional[Path]:
 
 
 class Power:
-    """The disk of one program: a folder, and its shadow, which is beside it on the same file system."""
+    """The disk of one program: a folder, and its shadow, an adjacent folder on the same file system."""
 
     def __init__(self, library: Path, folder: Path, shadow: Optional[Path] = None) -> None:
         folder.mkdir(parents=True, exist_ok=True)
@@ -90,7 +90,7 @@ class Power:
         self._control.write_bytes(CONTROL.pack(*NO_FAULTS, 0, 0, 0))
 
     def environment(self, base: Optional[Mapping[str, str]] = None) -> Dict[str, str]:
-        """Returns the environment of the program: this process's, or another one, and the library."""
+        """Returns the environment of the program: this process's or a given one, with the library."""
         return {
             **(os.environ if base is None else base),
             "LD_PRELOAD": str(self._library),
@@ -101,15 +101,15 @@ class Power:
     # ---- faults, each in force at once
 
     def fill(self, room: int = 0) -> None:
-        """Fills the disk: files may grow by this many bytes, and then neither they nor the names have room."""
+        """Fills the disk: files may grow by this many bytes. After that there is no space for data or names."""
         self._set(0, room)
 
     def free(self) -> None:
-        """Ends a full disk."""
+        """Ends the full disk."""
         self._set(0, -1)
 
     def fail_syncs(self, count: int = -1) -> None:
-        """Lets the next syncs fail by EIO: all of them, until `heal`, without a count."""
+        """Makes the next syncs fail with EIO: without a count all of them, until `heal`."""
         self._set(1, count)
 
     def slow_syncs(self, delay_ms: int) -> None:
@@ -117,7 +117,7 @@ class Power:
         self._set(2, delay_ms)
 
     def heal(self) -> None:
-        """Ends all faults, and begins to count anew."""
+        """Ends all faults, and resets the counts to 0."""
         for index, value in enumerate((*NO_FAULTS, 0, 0, 0)):
             self._set(index, value)
 
@@ -133,9 +133,9 @@ class Power:
     # ---- power cuts, after the program has ended
 
     def cut(self, chance: Optional[random.Random] = None) -> Cut:
-        """Takes back what wasn't synced: all of it, or by chance the end of it, with one write of each file in part.
+        """Undoes unsynced changes: all of them, or a random number of the last ones, with one torn write in each file.
 
-        What is left is on the disk for good.
+        The rest is on the disk for good.
         """
         cut = Cut()
         self._take_back_names(chance, cut)
@@ -145,13 +145,13 @@ class Power:
         return cut
 
     def keep(self) -> None:
-        """Takes all that the folder has as synced: for a folder that was changed without the library."""
+        """Counts the whole folder as synced, after a change of it without the library."""
         for path in self._shadow.iterdir():
             if path != self._control:
                 path.unlink()
 
     def _take_back_writes(self, path: Path, chance: Optional[random.Random], cut: Cut) -> None:
-        """Takes back what was written to a file since its last sync."""
+        """Undoes the writes to a file since its last sync."""
         records = list(_records(self._shadow / f"undo-{path.stat().st_ino}"))
         synced = max((it.at for it in records if it.kind == SYNCED), default=0)
         lost = [it for it in records if it.kind != SYNCED and it.position >= synced]
@@ -165,7 +165,7 @@ class Power:
         cut.writes += len(lost) - kept
 
     def _take_back_names(self, chance: Optional[random.Random], cut: Cut) -> None:
-        """Takes back the names that were changed since the last syncs of their folders, the last one first."""
+        """Undoes the changes of names since the last syncs of their folders, the last one first."""
         records = list(_records(self._shadow / "names"))
         lost = _lost_names(records)
         kept = chance.randint(0, len(lost)) if chance else 0
@@ -175,7 +175,7 @@ class Power:
         cut.names += len(lost) - kept
 
     def _take_back_name(self, record: Record, renamed: "_Renamed") -> None:
-        """Takes back one change of a name, if it was made before the program ended."""
+        """Undoes one change of a name, if it was made before the program ended."""
         paths = [renamed.now(record.position, path) for path in _paths(record)]
         gone = self._shadow / f"gone-{record.at}"
         last = paths[-1]
@@ -203,7 +203,7 @@ class _Renamed:
         self._left = [it for it in records if it.kind == RENAMED and it.position not in undone]
 
     def now(self, position: int, path: Path) -> Path:
-        """Returns where a file is that had this path when a record was written."""
+        """Returns the current path of a file that had this path when a record was written."""
         for record in self._left:
             if record.position > position:
                 old, new = _paths(record)
@@ -213,9 +213,9 @@ class _Renamed:
 
 
 def _lost_names(records: Sequence[Record]) -> List[Record]:
-    """Returns the changes of names that a power cut may take back: those since the last sync of their folders.
+    """Returns the changes of names that a power cut may undo: those since the last sync of their folders.
 
-    A rename between two folders is on the disk with the sync of either, and what it needs is on the disk with it.
+    A rename between two folders is on the disk with the sync of either, and so are the changes that it needs.
     """
     synced: Dict[Path, int] = {}
     for record in records:
@@ -237,7 +237,7 @@ def _paths(record: Record) -> Tuple[Path, ...]:
 
 
 def _records(path: Path) -> Iterator[Record]:
-    """Returns the whole records of a file. A kill may have cut off the last one, whose change wasn't made then."""
+    """Returns the whole records of a file. A kill may have cut off the last record, before its change was made."""
     held = path.read_bytes() if path.exists() else b""
     position = 0
     while position + HEAD.size <= len(held):
@@ -254,14 +254,14 @@ def _files(folder: Path) -> List[Path]:
 
 
 def _take_back(file: int, record: Record) -> None:
-    """Takes back one change of a file."""
+    """Undoes one change of a file."""
     if record.data:
         os.pwrite(file, record.data, record.at)
     os.ftruncate(file, record.size)
 
 
 def _tear(file: int, record: Record, chance: Optional[random.Random], cut: Cut) -> None:
-    """Takes back one change of a file, or by chance its end alone. The new size may be there without it.
+    """Undoes one change of a file, or randomly only its end. The new size may be there without it.
 
     A sector that was there before is written whole or not at all.
     """

@@ -1,4 +1,4 @@
-"""Cuts the power of nodes again and again while writers put, until so many puts were acknowledged, and judges the run.
+"""Cuts the power of nodes again and again while writers put, until enough puts were acknowledged, and judges the run.
 
     python3 -m nemesis.power_loop --library FOLDER [--puts 10000] [--seed N]
 
@@ -24,18 +24,18 @@ from .modes import ALL
 from .nodes import Nodes, build
 from .places import PLACES
 
-#: Keys of each writer, which nobody else puts.
+#: Number of keys of each writer, which nobody else puts.
 KEYS_EACH = 40
 
-#: Seconds that the cluster may take to come to rest in the end.
+#: Seconds that the cluster may take to be at rest in the end.
 REST_S = 60.0
 
-#: Few entries of a log, so that a run has checkpoints.
+#: Few entries per log, so that a run has checkpoints.
 SETTINGS = {"limit": "4000", "checkpoint_entries": "200", "round_ms": "400"}
 
 
 class Count:
-    """The puts that were acknowledged, of all writers."""
+    """The number of acknowledged puts of all writers."""
 
     def __init__(self, wanted: int) -> None:
         self._lock, self._wanted = threading.Lock(), wanted
@@ -46,16 +46,16 @@ class Count:
             self.acknowledged += 1
 
     def is_done(self) -> bool:
-        """Returns true once there are as many as wanted."""
+        """Returns true once there are enough puts."""
         return self.acknowledged >= self._wanted
 
     def end(self) -> None:
-        """Lets the writers end."""
+        """Ends the writers."""
         self._wanted = 0
 
 
 class Writer(threading.Thread):
-    """A client that puts its keys one over the other, and reads what was acknowledged at another place."""
+    """A client that puts its keys repeatedly, and reads acknowledged puts at another place."""
 
     def __init__(self, number: int, seed: int, caller: Caller, count: Count) -> None:
         super().__init__(name=f"writer {number}", daemon=True)
@@ -103,7 +103,7 @@ def cut_until_done(nodes: Nodes, chance: random.Random, count: Count, log: Log) 
 
 
 def words() -> argparse.Namespace:
-    """Reads the command's words."""
+    """Parses the command's arguments."""
     form = argparse.RawDescriptionHelpFormatter
     parser = argparse.ArgumentParser(prog="python3 -m nemesis.power_loop", description=__doc__, formatter_class=form)
     parser.add_argument("--puts", type=int, default=10_000, help="puts that must be acknowledged")

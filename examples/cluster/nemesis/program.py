@@ -1,4 +1,4 @@
-"""What the programs share: some words of their commands, a temporary folder, and an end in order."""
+"""Common parts of the programs: arguments, a temporary folder, and an orderly end."""
 
 from __future__ import annotations
 
@@ -16,7 +16,7 @@ from .nodes import NoStart
 
 
 def parse(parser: argparse.ArgumentParser) -> argparse.Namespace:
-    """Reads a command's words, with those that all programs have."""
+    """Parses a command's arguments, including the common ones."""
     parser.add_argument("--library", type=Path, help="folder of the C library, made by ./build-c")
     parser.add_argument("--out", type=Path, help="folder of a cluster that is built already")
     parser.add_argument("--keep", type=Path, metavar="LOGS", help="folder for the logs")

@@ -1,4 +1,4 @@
-"""A cluster at rest: all replicas have equal roots, and no hint is pending, or one of both."""
+"""A cluster at rest: all replicas have equal roots and no hint is pending, or only one of the two."""
 
 from __future__ import annotations
 
@@ -24,7 +24,7 @@ DUMP_S = 20.0
 
 
 def settle(base: int, most_s: float, mode: Mode = ALL) -> Optional[float]:
-    """Waits until the cluster is at rest, and returns the seconds that it took: None if it took too long."""
+    """Waits until the cluster is at rest, and returns the seconds that it took, or None if it took too long."""
     front, began = Front(base), time.monotonic()
     since: Optional[float] = None
     try:
@@ -41,7 +41,7 @@ def settle(base: int, most_s: float, mode: Mode = ALL) -> Optional[float]:
 
 
 def is_at_rest(front: Front, mode: Mode = ALL) -> bool:
-    """Returns true if all nodes are up, and replicas are equal and no hint is pending, as far as a mode needs it."""
+    """Returns true if all nodes are up, replicas are equal, and no hint is pending, as far as a mode requires."""
     roots: Dict[int, list] = {}
     for place in PLACES:
         status = front.status(place)
@@ -54,7 +54,7 @@ def is_at_rest(front: Front, mode: Mode = ALL) -> bool:
 
 
 def dump(base: int, logs: Path) -> None:
-    """Writes what each node holds to the logs."""
+    """Writes each node's dump to the logs."""
     front = Front(base, DUMP_S)
     for place in PLACES:
         dump_one(front, place, logs / f"dump-{place}.log")
@@ -62,7 +62,7 @@ def dump(base: int, logs: Path) -> None:
 
 
 def dump_one(front: Front, place: int, file: Path) -> Optional[dict]:
-    """Writes what a node holds to a file, and returns it: None if it doesn't answer."""
+    """Writes a node's dump to a file, and returns it, or None if it doesn't respond."""
     held = front.dump(place)
     if held is not None:
         file.write_text(json.dumps(held) + "\n")
@@ -70,7 +70,7 @@ def dump_one(front: Front, place: int, file: Path) -> Optional[dict]:
 
 
 def end(nodes: Nodes, log: Log, most_s: float, mode: Mode = ALL) -> Optional[float]:
-    """Waits until the cluster is at rest, logs whether it came to it, and returns the seconds that it took."""
+    """Waits until the cluster is at rest, logs the outcome, and returns the seconds that it took."""
     took = settle(nodes.base, most_s, mode)
     for (place, what), times in nodes.links.unslotted().items():
         log.write(op="unslotted", place=place, what=what, times=times)

@@ -1,4 +1,4 @@
-"""Rules of lives: when they begin and end, and that a lost one puts nothing."""
+"""Rules of lives: their begin and end, and that a lost life puts nothing."""
 
 from __future__ import annotations
 
@@ -10,7 +10,7 @@ from .places import INCARNATION, MOST_INCARNATIONS
 
 
 def lives_are_used_once(case: Case) -> Iterator[Breach]:
-    """A life's number is its place's, and is begun once: a start goes on under it, or has a greater one.
+    """A life's number belongs to its place, and is begun once: a start continues it, or has a greater one.
 
     An empty disk has a new life. In the end each node has the last life of its place, and no clock has another one.
     """
@@ -53,10 +53,10 @@ def lives_end_with_a_loss(case: Case) -> Iterator[Breach]:
 
 
 def lost_lives_put_nothing(case: Case) -> Iterator[Breach]:
-    """A life that ended since its disk was lost, damaged or old put nothing after that.
+    """A life that ended because its disk was lost, damaged or old puts nothing after that.
 
-    Such a put began then, and has a counter of this life above all that the key had before. A tombstone of an
-    unknown delete may be from before.
+    Such a put began later, and has a counter of this life above all that the key had before. A tombstone of an unknown
+    delete may be from before.
     """
     for loss in case.losses:
         if not _has_ended(case, loss):
@@ -72,7 +72,7 @@ def lost_lives_put_nothing(case: Case) -> Iterator[Breach]:
 
 
 def _begins(event: Event, last: int, may_go_on: bool) -> Iterator[Breach]:
-    """Returns what is wrong with the life that a node has begun, or goes on with."""
+    """Returns the faults of the life that a node has begun or continued."""
     incarnation, place = divmod(event.life, INCARNATION)
     if place != event.place or not 1 <= incarnation <= MOST_INCARNATIONS:
         yield Breach(f"the life {event.life} isn't one of place {event.place}", [event.line])
@@ -83,7 +83,7 @@ def _begins(event: Event, last: int, may_go_on: bool) -> Iterator[Breach]:
 
 
 def _has_ended(case: Case, loss: Event) -> bool:
-    """Returns true if the next lives of a place, until its next loss, show that it gave up the life that it had."""
+    """Returns true if the next lives of a place, until its next loss, show that it gave up its life."""
     later = [it for it in case.history.events if it.place == loss.place and it.at > loss.at]
     until = next((it.at for it in later if it.op in LOSSES), float("inf"))
     return any(it.op == "life" and it.life != loss.life for it in later if it.at < until)

@@ -1,4 +1,4 @@
-"""Rules of nodes: what they do in a run, and how they are in the end."""
+"""Rules of nodes: their work in a run, and their state in the end."""
 
 from __future__ import annotations
 
@@ -8,14 +8,14 @@ from typing import Iterator, Set
 from .case import COPIES, Breach, Case, short, shown
 from .history import BY_HINTS, BY_ROUNDS, Replica
 
-#: Keys that a breach shows at most.
+#: Maximum number of keys that a breach shows.
 MOST_SHOWN = 5
 
 
 def run_came_to_rest(case: Case) -> Iterator[Breach]:
     """In the end each place was dumped, no hint was pending, and each range was at its three places.
 
-    Hints stay pending in a run by rounds alone.
+    Hints stay pending in a run by rounds.
     """
     places = sorted({event.place for event in case.history.events if event.op == "start"})
     ends = [event for event in case.history.events if event.op in ("quiet", "settled", "unsettled")]
@@ -40,7 +40,7 @@ def run_came_to_rest(case: Case) -> Iterator[Breach]:
 def replicas_are_equal(case: Case) -> Iterator[Breach]:
     """The replicas of a range have equal roots and equal rows.
 
-    Hints are of acknowledged puts alone, so a run by hints alone isn't judged: other puts may be at one replica.
+    Hints are only of acknowledged puts, so a run by hints isn't judged: other puts may be at one replica.
     """
     if case.history.mode == BY_HINTS:
         return
@@ -55,7 +55,7 @@ def replicas_are_equal(case: Case) -> Iterator[Breach]:
 
 
 def nodes_end_when_they_are_ended(case: Case) -> Iterator[Breach]:
-    """A node ends when it's killed, or when a sync of its disk fails."""
+    """A node ends only if it is killed, or a sync of its disk fails."""
     failing: Set[int] = set()
     for event in case.history.events:
         if event.op == "start":
@@ -67,14 +67,14 @@ def nodes_end_when_they_are_ended(case: Case) -> Iterator[Breach]:
 
 
 def what_was_expected_held(case: Case) -> Iterator[Breach]:
-    """What the nemesis expected of a node after a fault of its disk held in time."""
+    """The nemesis' expectations of nodes, after faults of their disks, were met in time."""
     for event in case.history.events:
         if event.op == "expect" and not event.met:
             yield Breach(f"it isn't so that {event.what}", [event.line])
 
 
 def background_work_has_slots(case: Case) -> Iterator[Breach]:
-    """No node asks another one for an offer, or hands hints on to it, without a slot."""
+    """No node asks another one for an offer, or delivers hints to it, without a slot."""
     for event in case.history.events:
         if event.op == "unslotted":
             yield Breach(f"place {event.place} asked for {event.what} without a slot", [event.line])

@@ -1,4 +1,4 @@
-"""Rules of requests: what an acknowledged put promises, and what a get must show."""
+"""Rules of requests: the promises of an acknowledged put, and the versions that a get must show."""
 
 from __future__ import annotations
 
@@ -9,14 +9,14 @@ from .history import Get, Write
 
 
 def puts_are_on_two_nodes(case: Case) -> Iterator[Breach]:
-    """An acknowledged put names the different nodes on whose disks it is, at least W."""
+    """An acknowledged put names the different nodes that have it on their disks, at least W."""
     for write in case.history.writes:
         if write.acknowledged and len(set(write.on)) < WRITES:
             yield Breach(f"{write.mark} of {write.key} was acknowledged on {list(write.on)}", [write.line])
 
 
 def reads_see_what_was_acknowledged(case: Case) -> Iterator[Breach]:
-    """A get that began after a put was acknowledged on two of three replicas shows it, or what overwrote it."""
+    """A get that began after a put was acknowledged on two of three replicas shows it, or a put that overwrote it."""
     for key, gets in case.gets.items():
         required = _Required(case, key)
         overwrites = case.overwrites[key]
@@ -28,7 +28,7 @@ def reads_see_what_was_acknowledged(case: Case) -> Iterator[Breach]:
 
 
 class _Required:
-    """The puts of a key that a get must show, as time goes on: asked for gets in the order of their beginnings.
+    """The puts of a key that a get must show, over time. Gets must be in the order of their beginnings.
 
     A put is dropped once a later one, on all disks that have it, overwrote it.
     """
@@ -57,6 +57,6 @@ class _Required:
         self._current.append(write)
 
     def _disks(self, write: Write, until: float) -> Set[int]:
-        """Returns the replicas that have a put, less those whose disks lost something since it began."""
+        """Returns the replicas that have a put, except those whose disks lost something since it began."""
         lost = {event.place for event in self._losses if write.begin <= event.at <= until}
         return self._replicas.intersection(write.on) - lost

@@ -1,4 +1,4 @@
-"""Rules of versions: which may be seen, under which clocks, and which must be gone."""
+"""Rules of versions: those that may be seen, their clocks, and those that must be gone."""
 
 from __future__ import annotations
 
@@ -25,10 +25,10 @@ def acknowledged_puts_are_held(case: Case) -> Iterator[Breach]:
 
 
 def named_places_hold_puts(case: Case) -> Iterator[Breach]:
-    """A node that was killed, and is started alone, holds each put that named its place, or what overwrote it.
+    """A node that was killed and started alone holds each put that named its place, or a version that overwrote it.
 
-    The put was acknowledged before the node was killed. It may be gone if the place lost something of its disk, or
-    began another life, since the put began.
+    The put was acknowledged before the node was killed. It may be gone if the place lost a part of its disk, or began
+    another life, since the put began.
     """
     for held in case.history.held:
         place = held.dump.place
@@ -46,7 +46,7 @@ def named_places_hold_puts(case: Case) -> Iterator[Breach]:
 def held_values_were_put(case: Case) -> Iterator[Breach]:
     """Each version that a node held or showed was put by a client.
 
-    A key has no more tombstones with unknown deletes than deletes that may have made them.
+    A key has at most as many tombstones of unknown deletes as there are deletes that may have made them.
     """
     for key, versions in case.versions.items():
         writes = case.writes.get(key, ())
@@ -61,7 +61,7 @@ def held_values_were_put(case: Case) -> Iterator[Breach]:
 
 
 def refusals_are_definite(case: Case) -> Iterator[Breach]:
-    """A put that was refused, and not as `perhaps`, happened nowhere, whatever the status."""
+    """A put that was refused without `perhaps` happened nowhere, whatever the status."""
     for key, writes in case.writes.items():
         versions = case.versions.get(key, {})
         for write in writes:
@@ -87,7 +87,8 @@ def clocks_differ(case: Case) -> Iterator[Breach]:
 def versions_have_one_clock(case: Case) -> Iterator[Breach]:
     """A value has one clock wherever it was seen: its put was done once.
 
-    A tombstone has its clock in its mark. One that was done twice is one that nobody put.
+    A tombstone has its clock in its mark. A delete that was done twice is therefore seen as a tombstone that nobody
+    put.
     """
     for key, versions in case.versions.items():
         for mark, clocks in versions.items():
@@ -97,7 +98,7 @@ def versions_have_one_clock(case: Case) -> Iterator[Breach]:
 
 
 def clocks_cover_what_was_read(case: Case) -> Iterator[Breach]:
-    """The clock of a put covers a clock of each version that its client had read, under which it was seen by anyone."""
+    """The clock of a put covers, for each version that its client had read, a clock under which anyone saw it."""
     for write in case.history.writes:
         versions = case.versions.get(write.key, {})
         for clock, line in versions.get(write.mark or "", {}).items():
@@ -109,9 +110,9 @@ def clocks_cover_what_was_read(case: Case) -> Iterator[Breach]:
 
 
 def overwritten_versions_are_gone(case: Case) -> Iterator[Breach]:
-    """No get and no node shows a version beside one that overwrote it: whose client had read it, or what overwrote it.
+    """No get and no node shows both a version and one that overwrote it, directly or through others.
 
-    Whatever the faults were: the clock of the later one covers that of the other, and a row has the greatest alone.
+    This holds whatever the faults were: the clock of the later one covers the other's, and a row has only the greatest.
     A tombstone overwrote something only if a client knows its clock.
     """
     shown: Set[Tuple[str, str, str]] = set()
@@ -131,10 +132,10 @@ def overwritten_versions_are_gone(case: Case) -> Iterator[Breach]:
 
 
 def nothing_comes_back(case: Case) -> Iterator[Breach]:
-    """A place that has shown a version shows it again, or what overwrote it: so no deleted value is back there.
+    """A place that has shown a version shows it again, or a version that overwrote it: no deleted value is back there.
 
-    A coordinator shows only what is on its disk. It may be gone if the place lost something of its disk, or began
-    another life. A coordinator with a full disk shows what others hold, and need not show it again.
+    A coordinator shows only versions on its disk. They may be gone if the place lost a part of its disk, or began
+    another life. A coordinator with a full disk shows versions that others hold, and need not show them again.
     """
     for key in case.keys:
         overwrites = case.overwrites[key]
@@ -160,12 +161,12 @@ def _must_be_held(case: Case, write: Write, held: Held) -> bool:
 
 
 def _is_kept(case: Case, row: Row) -> bool:
-    """Returns true if the coordinator of a get has on its disk what it showed, until the disk loses something."""
+    """Returns true if the coordinator of a get has the shown versions on its disk, until the disk loses something."""
     return not case.has_lost(row.place, row.begin, row.end) and not case.was_full(row.place, row.begin, row.end)
 
 
 def _add(case: Case, had: Dict[int, Tuple[int, int]], row: Row) -> None:
-    """Adds what a get showed to what its place has shown since its last loss: the number of losses, and these marks."""
+    """Adds a get's versions to those that its place has shown since its last loss: the number of losses, and marks."""
     losses = case.losses_before(row.place, row.end)
     before, marks = had.get(row.place, (losses, 0))
     if before != losses:

@@ -19,14 +19,14 @@ from .nodes import Nodes
 from .places import PLACES
 from .probes import Probes
 
-#: Milliseconds by which the slowest disk delays each sync: a call between nodes may take 500.
+#: Delay of each sync on the slowest disk, in milliseconds: a call between nodes may take 500.
 SLOWEST_DISK_MS = 400
 
-#: Puts of a key, one over the other, while others read it; and milliseconds by which the disk delays each sync then. A
-#: place isn't asked any more that takes 500 for an answer, or even less on a busy machine.
+#: Number of puts of a key, one over the other, while others read it, and the delay of each sync meanwhile in
+#: milliseconds. A place that takes 500 for an answer, or even less on a busy machine, isn't asked any more.
 SPREAD, SPREAD_DISK_MS = 3, 250
 
-#: Bytes of room that a disk has at most before it's full.
+#: Maximum number of bytes that a disk takes before it's full.
 MOST_ROOM = 20_000
 
 
@@ -34,10 +34,10 @@ Episode = Callable[[], None]
 
 
 class Nemesis(Deeds):
-    """Breaks a cluster while its clients work, one episode after another.
+    """Breaks a cluster while its clients work, in one episode after another.
 
-    An episode leaves its faults behind, which are healed before the next one. Power cuts take nothing that was synced,
-    so they may hit all nodes at once.
+    The faults of an episode last until they are healed before the next one. Power cuts undo no synced change, so they
+    may hit all nodes at once.
     """
 
     def __init__(
@@ -48,7 +48,7 @@ class Nemesis(Deeds):
         self._held_alone = 0
 
     def run(self, seconds: float) -> None:
-        """Runs episodes for this time, and then heals all."""
+        """Runs episodes for this time, and then ends all faults."""
         self.set_end(seconds)
         self.clients.work()
         self._calm()
@@ -64,7 +64,7 @@ class Nemesis(Deeds):
         self.log.write(op="quiet")
 
     def _episodes(self) -> Iterator[Episode]:
-        """Returns episodes without end: of each kind that the mode has, one after the other."""
+        """Returns an endless sequence of episodes: each kind that the mode has, in turn."""
         of_messages: List[Episode] = [self._halves, self._one_way, self._bridge, self._flapping, self._flaky]
         of_messages += [self._slow, self._pause, self._silence, self._skew, self._contention, self._calm]
         of_kills: List[Episode] = [self._kill, self._held]
@@ -84,7 +84,7 @@ class Nemesis(Deeds):
                 yield next(kind)
 
     def _in_rounds(self, episodes: Sequence[Episode]) -> Iterator[Episode]:
-        """Returns episodes without end: all of them in a random order, then all in another."""
+        """Returns an endless sequence of episodes: all of them in a random order, then all in another order."""
         while True:
             yield from self.chance.sample(episodes, len(episodes))
 
@@ -104,7 +104,7 @@ class Nemesis(Deeds):
         self._meanwhile()
 
     def _flapping(self) -> None:
-        """Cuts places off again and again, so that what their return begins, like a hand-off, often fails."""
+        """Cuts places off again and again, so that the work after their return, like a hand-off, often fails."""
         side = links.halves(self.some(self.chance.choice((1, 2))))
         for _ in range(self.chance.randint(3, 6)):
             self.cut_off(side)
@@ -124,7 +124,7 @@ class Nemesis(Deeds):
         self._meanwhile()
 
     def _pause(self) -> None:
-        """Pauses a node, which is late with its answers then."""
+        """Pauses a node, so that its answers are late."""
         (place,) = self.some_up(1)
         self.nodes.pause(place)
         self.wait(1.0, 4.0)
@@ -132,7 +132,7 @@ class Nemesis(Deeds):
         self.wait(0.5, 1.5)
 
     def _silence(self) -> None:
-        """Pauses one node or two for so long that others know that they are down."""
+        """Pauses one node or two for long enough that the others notice."""
         places = self.some_up(self.chance.choice((1, 2)))
         for place in places:
             self.nodes.pause(place)
@@ -142,7 +142,7 @@ class Nemesis(Deeds):
         self.wait(0.5, 1.5)
 
     def _kill(self) -> None:
-        """Kills one node or two, often while a slow disk keeps entries of a few keys waiting."""
+        """Kills one node or two, often while a slow disk makes entries of a few keys wait."""
         places = self.some_up(self.chance.choice((1, 1, 2)))
         self.strain(places)
         self.nodes.kill(places)
@@ -171,11 +171,11 @@ class Nemesis(Deeds):
         self.wait(2.0, 4.0)
 
     def _calm(self) -> None:
-        """Has no fault: what is refused now is refused for no reason."""
+        """Has no fault, so that every refusal would be wrong."""
         self.wait(4.0, 5.0)
 
     def _meanwhile(self) -> None:
-        """Lets a fault last for a while, and sometimes adds a pause or a kill."""
+        """Makes a fault last for a while, and sometimes adds a pause or a kill."""
         self.wait(1.0, 2.5)
         other = self.chance.choice((None, None, self._pause, self._kill if self._mode.has_kills else None))
         if other is not None:
@@ -183,7 +183,7 @@ class Nemesis(Deeds):
         self.wait(0.5, 1.5)
 
     def _held(self) -> None:
-        """Kills a node or cuts its power, starts it cut off from all others, and logs what it holds alone."""
+        """Kills a node or cuts its power, starts it cut off from all others, and logs its rows."""
         place = self.chance.choice(PLACES)
         self.strain([place])
         since = self.log.now()
@@ -200,7 +200,7 @@ class Nemesis(Deeds):
     # ---- power
 
     def _power_cut(self) -> None:
-        """Cuts the power of one node, of two or of all, often while slow syncs keep entries waiting."""
+        """Cuts the power of one node, of two or of all, often while slow syncs make entries wait."""
         places = self.some(self.chance.choice((1, 1, 2, 5)))
         self.strain(places)
         self.nodes.cut(places, self.chance)
@@ -221,7 +221,7 @@ class Nemesis(Deeds):
         self.wait(0.3, 1.0)
 
     def _forget(self) -> None:
-        """Cuts the power of a node whose slow disk keeps puts waiting, just after others have synced with it."""
+        """Cuts the power of a node whose slow disk makes puts wait, just after others have synced with it."""
         place = self.chance.choice(PLACES)
 
         def others_sync(probes: Probes, pool: ThreadPoolExecutor) -> None:
@@ -232,7 +232,7 @@ class Nemesis(Deeds):
         self._forget_after(place, SLOWEST_DISK_MS, others_sync)
 
     def _spread(self) -> None:
-        """Cuts the power of a node whose slow disk keeps puts waiting, while others read these keys from it."""
+        """Cuts the power of a node whose slow disk makes puts wait, while others read these keys from it."""
 
         def others_read(probes: Probes, pool: ThreadPoolExecutor) -> None:
             seconds = self.chance.uniform(0.3, 0.9)
@@ -243,10 +243,10 @@ class Nemesis(Deeds):
         self._forget_after(self.chance.choice(PLACES), SPREAD_DISK_MS, others_read)
 
     def _forget_after(self, place: int, delay_ms: int, others: Callable[[Probes, ThreadPoolExecutor], None]) -> None:
-        """Cuts the power of a node whose slow disk keeps puts waiting, after others have done something.
+        """Cuts the power of a node whose slow disk makes puts wait, after a deed of the others.
 
-        It starts cut off, so nobody tells it what it has lost. If it gave away what wasn't on its disk, it uses a clock
-        for a second value, and all nodes are asked for both.
+        It starts cut off, so no other node reports its loss. If it gave away versions that weren't on its disk, it uses
+        a clock for a second value, and all nodes are asked for both.
         """
         callers = self.clients.directed
         self.clients.rest()
@@ -273,7 +273,7 @@ class Nemesis(Deeds):
         self.wait(1.0, 2.0)
 
     def _carriers(self) -> None:
-        """Leaves puts at one replica and carriers alone; then the carriers restart, and the replica's disk is lost."""
+        """Leaves puts only at one replica and at carriers. Then carriers restart, and the replica's disk is lost."""
         place = self.chance.choice(PLACES[:-1])
         others = [(place + step - 1) % len(PLACES) + 1 for step in (1, 2)]
         carriers = [it for it in PLACES if it != place and it not in others]
@@ -307,7 +307,7 @@ class Nemesis(Deeds):
         self._alone(damage.remove_each)
 
     def _alone(self, deed: Callable[[Path, random.Random, str], Optional[str]]) -> None:
-        """Damages all logs of a node, and starts it cut off: nobody can tell it what it lost, and it's asked to put.
+        """Damages all logs of a node, starts it cut off, so that no other node reports its loss, and asks it to put.
 
         Its last puts are in the logs, and it mustn't use their clocks again.
         """
@@ -326,10 +326,10 @@ class Nemesis(Deeds):
         probes.look()
 
     def _old(self) -> None:
-        """Puts an old disk back, and asks its node at once to put again what it put since then.
+        """Puts an old disk back, and asks its node at once to repeat the puts that it made since.
 
-        Its node may start cut off, and then nobody asks it for anything until it has links again. All is at rest when
-        it ends: what no other disk has yet can't be missed by anyone.
+        Its node may start cut off. Then nobody asks it for anything until it has links again. The cluster is at rest
+        when the node ends, since nobody can miss a version that no other disk has yet.
         """
         if not self.can_lose():
             return
@@ -365,7 +365,7 @@ class Nemesis(Deeds):
     # ---- full and failing disks
 
     def _full(self) -> None:
-        """Fills the disks of some nodes: they go on to be read, start as well, and take puts when there is room."""
+        """Fills the disks of some nodes. They still serve gets, also start, and take puts once there is space."""
         places = self.some(self.chance.choice((1, 1, 2, 3)))
         for place in places:
             room = self.chance.choice((0, self.chance.randrange(MOST_ROOM)))
@@ -385,12 +385,12 @@ class Nemesis(Deeds):
             self.expect(f"place {place} takes puts after there is room", lambda it=place: self._writes(it))
 
     def _writes(self, place: int) -> bool:
-        """Returns true if a node takes a put, or refuses one that is stale."""
+        """Returns true if a node takes a put, or refuses a stale one."""
         status, _ = self.clients.directed[0].put(place, self.chance.choice(KEYS), BLIND)
         return status in (200, 409) and not self.status(place)["full"]
 
     def _failed_sync(self) -> None:
-        """Lets a sync of a node fail, which ends it; sometimes its power is cut then."""
+        """Makes a sync of a node fail, which ends it. Sometimes its power is cut as well."""
         place = self.chance.choice(PLACES)
         self.log.write(op="failing", place=place)
         self.nodes.powers[place].fail_syncs(self.chance.choice((1, -1)))

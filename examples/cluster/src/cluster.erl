@@ -6,9 +6,9 @@
 -export_type([json/0, options/0]).
 
 -type json() :: integer() | boolean() | null | binary() | [json()] | #{atom() | binary() => json()}.
-%% What a JSON text is made of. Binaries are strings, of UTF-8.
+%% Terms that are written as JSON. Binaries are strings, of UTF-8.
 -type options() :: #{r => pos_integer(), w => pos_integer()}.
-%% The numbers of replicas that a get has seen, and of disks that have a put: those of the settings, if it has none.
+%% Numbers of replicas that a get must see, and of disks that must have a put, by default from the settings.
 
 %% @doc Puts a value of a key that the client hasn't read: see {@link put/3}.
 -spec put(Key :: binary(), antientropy:value()) -> {ok, cluster_coordinator:stored()} | cluster_refusal:refused().
@@ -69,7 +69,7 @@ life() ->
 text(String) ->
     unicode:characters_to_binary(String).
 
-%% The counts of what runs as long as there is a life.
+%% Returns the counts of the processes that run while there is a life.
 status_of_store() ->
     try
         #{rounds := Rounds, keys := Keys, bytes := Bytes} = cluster_repair:count(),

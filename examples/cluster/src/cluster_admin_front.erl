@@ -1,4 +1,4 @@
-%% @doc The HTTP front for an administrator, and for tests: what nodes count and hold, and a round of repair now.
+%% @doc The HTTP front for an administrator, and for tests: counts and dumps of nodes, and a round of repair now.
 -module(cluster_admin_front).
 
 -export([do/1]).
@@ -32,7 +32,7 @@ page("/dump") -> {get, fun() -> unless_starting(fun cluster:dump/0, fun(Dump) ->
 page("/repair") -> {put, fun() -> unless_starting(fun cluster_repair:round/0, fun(_) -> #{} end) end};
 page(_) -> none.
 
-%% A node without a life has no store.
+%% Refuses a request if the node has no life, and so no store.
 unless_starting(Call, Members) ->
     try
         cluster_http:json(200, Members(Call()))

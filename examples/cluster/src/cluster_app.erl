@@ -13,7 +13,7 @@ boot() ->
         {error, Reason} -> refuse(["the node can't start: ", cluster_report:text(Reason)])
     end.
 
-%% @doc Ends the node with a line that says why it doesn't start.
+%% @doc Ends the node with a line that has the reason why it doesn't start.
 -spec refuse(Why :: unicode:chardata()) -> no_return().
 refuse(Why) ->
     io:format(standard_error, "~ts~n", [Why]),
@@ -36,12 +36,12 @@ start(_, _) ->
     ok = make_private(cluster_settings:folder()),
     cluster_sup:start_link().
 
-%% The name of this node must be the one by which the others call it.
+%% Checks that this node has the name by which the others call it.
 check_node() ->
     Wanted = cluster_ring:node_of(cluster_ring:here()),
     node() =:= Wanted orelse refuse(io_lib:format("this node is ~ts, and its place is that of ~ts", [node(), Wanted])).
 
-%% Nobody else may read what clients put.
+%% Makes the folder private: nobody else may read the values of clients.
 make_private(Folder) ->
     case filelib:ensure_path(Folder) of
         ok -> cluster_disk:done(Folder, file:change_mode(Folder, 8#700));

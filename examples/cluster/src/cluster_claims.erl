@@ -1,18 +1,18 @@
-%% @doc Claims of puts that this node hands on, so that each put is done at most once.
+%% @doc Claims of puts that this node forwards, so that each put is done at most once.
 %%
 %% The node that has the client is the *origin* of a put. It makes a claim, and gives it to the holders that it asks. A
-%% holder takes the claim before it puts. The origin withdraws it before it gives up. Each is one atomic step on one
-%% entry of the origin's table, and only the first of all steps counts. So of all messages with a claim, also late or
-%% repeated ones, at most one puts, and none after a withdrawal that counted. The origin makes another claim for a put
-%% only after the holder that took the one before has refused it.
+%% holder takes the claim before it puts. The origin withdraws it before it gives up. Each step is atomic, on one entry
+%% of the origin's table, and only the first step counts: of all messages with a claim, including late and repeated
+%% ones, at most one puts, and none after a withdrawal that counted. The origin makes another claim for a put only after
+%% the holder that took the previous one has refused it.
 %%
-%% - *The answer to a take is lost, or its call fails:* the holder doesn't put. The origin can't know that: its
+%% - *The reply to a take is lost, or its call fails:* the holder doesn't put. The origin can't know that: its
 %%   withdrawal doesn't count, and the put may have happened (`perhaps').
-%% - *The answer to the put is lost:* the claim is taken, so no other holder puts (`perhaps').
-%% - *The holder is paused:* if it takes the claim when it goes on, another one has it, or it is withdrawn. If it has
-%%   taken it before, it puts when it goes on, and no other holder does.
+%% - *The reply to the put is lost:* the claim is taken, so no other holder puts (`perhaps').
+%% - *The holder is paused:* if it takes the claim when it resumes, another holder has it, or it is withdrawn. If it
+%%   took the claim before the pause, it puts when it resumes, and no other holder does.
 %% - *The origin is paused, ends, or loses its table:* nobody takes the claim. A claim without an entry counts as taken
-%%   for the origin, and as withdrawn for a holder. A node that starts again makes other references.
+%%   for the origin, and as withdrawn for a holder. A restarted node makes different references.
 -module(cluster_claims).
 -behaviour(gen_server).
 
@@ -25,8 +25,8 @@
 
 -type claim() :: {Origin :: cluster_ring:place(), reference()}.
 
-%% Entries are the steps on a claim, and the times at which it was given to holders, in microseconds:
-%% `{Reference, Steps, Made}' and `{{Reference, Holder}, given, Given}'.
+%% The table counts the steps on a claim, and has the times at which it was made and at which each holder got it, in
+%% microseconds: `{Reference, Steps, Made}' and `{{Reference, Holder}, given, Given}'.
 
 %% @doc Starts the process that owns the table, and removes old claims.
 -spec start_link() -> {ok, pid()} | {error, term()}.
@@ -54,7 +54,7 @@ is_taken({_, Reference}) ->
         _ -> true
     end.
 
-%% @doc Withdraws a claim. Returns true if no holder has taken it: then none will.
+%% @doc Withdraws a claim. Returns true if no holder has taken it, so that none can.
 -spec withdraw(claim()) -> boolean().
 withdraw({_, Reference}) ->
     is_first(Reference).
@@ -64,8 +64,8 @@ withdraw({_, Reference}) ->
 claim({Origin, Reference}) ->
     cluster_wire:call(Origin, ?MODULE, take, [Reference, cluster_ring:here()]) =:= {ok, true}.
 
-%% @doc Takes a claim that this node gave a holder, for a call of that holder. Returns true once for a claim, and never
-%% after its withdrawal. The time since it was given shows how long the holder should be awaited, also if it is late.
+%% @doc Takes a claim for the holder that calls, to which this node gave it. Returns true once for a claim, and never
+%% after its withdrawal. Records the time since the claim was given as the holder's latency, even if the holder is late.
 -spec take(reference(), Holder :: cluster_ring:place()) -> boolean().
 take(Reference, Holder) ->
     case ets:lookup(?MODULE, {Reference, Holder}) of

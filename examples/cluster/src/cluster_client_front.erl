@@ -13,7 +13,7 @@ do(Mod) ->
 
 -spec respond(cluster_http:request()) -> cluster_http:response().
 respond(#{path := "/keys/" ++ Encoded} = Request) ->
-    %% (A slash ends a segment, and isn't one of a key.)
+    %% (A slash ends a segment: it isn't part of a key.)
     case lists:member($/, Encoded) of
         true ->
             refusal(no_such_path);
@@ -41,8 +41,8 @@ respond_to_key(#{method := "DELETE"}, _) ->
 respond_to_key(_, _) ->
     bad_method("GET, HEAD, PUT, DELETE").
 
-%% Returns the bytes of a key in a path. `inets' has removed the segments `.' and `..', which are the same in a path if
-%% they are escaped. Refused: `bad_key' (an escape that isn't one).
+%% Returns the bytes of a key in a path. `inets' has removed the segments `.' and `..', which mean the same in a path if
+%% they are escaped. Refused: `bad_key' (an invalid escape).
 key(Encoded) ->
     try
         {ok, list_to_binary(unescaped(Encoded))}
@@ -78,7 +78,7 @@ context(Key, Request) ->
         _ -> {error, two_contexts}
     end.
 
-%% Returns the number R or W of a request: that of the settings, if it names none.
+%% Returns the number R or W of a request, by default from the settings.
 quorum(Header, Default, Request) ->
     {N, _, _} = cluster_settings:quorums(),
     case [string:to_integer(Text) || Text <- values(Header, Request)] of
@@ -132,6 +132,6 @@ refusal(Name) ->
 bad_method(Allowed) ->
     cluster_http:add_headers([{"allow", Allowed}], refusal(bad_method)).
 
-%% Names the place that coordinated.
+%% Adds the place that coordinated.
 from(Place, Response) ->
     cluster_http:add_headers([{"x-place", integer_to_list(Place)}], Response).

@@ -1,7 +1,7 @@
-%% @doc Clocks as texts: `7:3,9:1' to read, and opaque contexts, which a client hands back.
+%% @doc Clocks as text: `7:3,9:1' for people, and opaque contexts for clients, which send them back.
 %%
-%% A context is signed for its key by what all nodes of the cluster know and nobody else, their cookie. A client that
-%% invents one, or takes that of another key, could otherwise name counters that were never used.
+%% A context is signed for its key with the cookie, which all nodes of the cluster know and nobody else. Otherwise a
+%% client that invents a context, or uses another key's, could name counters that were never used.
 -module(cluster_clock).
 
 -export([text/1, context/2, read_context/2, are_lives/1]).
@@ -9,7 +9,7 @@
 -define(PAIR, Node:16, Counter:64).
 -define(SUM_BYTES, 16).
 
-%% @doc Returns a clock as a text: each number with its counter.
+%% @doc Returns a clock as text: each number with its counter.
 -spec text(antientropy:clock()) -> iodata().
 text(Clock) ->
     lists:join(",", [io_lib:format("~b:~b", [Node, Counter]) || {Node, Counter} <- lists:sort(maps:to_list(Clock))]).
@@ -43,7 +43,7 @@ sum(Key, Pairs) ->
     Secret = atom_to_binary(erlang:get_cookie()),
     crypto:macN(hmac, sha256, Secret, [<<"context", (byte_size(Key)):32>>, Key, Pairs], ?SUM_BYTES).
 
-%% @doc Returns true if all numbers of a clock are those of lives that a place of the ring may have.
+%% @doc Returns true if each number in a clock is a life that a place of the ring may have.
 -spec are_lives(antientropy:clock_like()) -> boolean().
 are_lives(Clock) when is_map(Clock) -> are_lives(maps:to_list(Clock));
 are_lives(Pairs) -> lists:all(fun({Number, _}) -> is_life(Number) end, Pairs).

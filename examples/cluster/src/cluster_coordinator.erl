@@ -1,7 +1,7 @@
-%% @doc Puts and gets of clients (the Dynamo paper of 2007, sections 4.3 to 4.6).
+%% @doc Puts and gets of clients (the Dynamo paper, sections 4.3 to 4.6).
 %%
-%% The coordinator of a key is one of its holders. If this node is one, it is asked first. If it refuses a request, or
-%% isn't one, the others are asked: see {@link cluster_errand}.
+%% The coordinator of a key is one of its holders. This node is asked first if it is a holder. If it isn't, or refuses
+%% the request, the others are asked: see {@link cluster_errand}.
 -module(cluster_coordinator).
 
 -export([put/4, get/2]).
@@ -9,15 +9,15 @@
 
 -export_type([stored/0, found/0]).
 
-%% Puts of clients of this node.
+%% The kind of call under which {@link cluster_patience} has the latency of puts of this node's clients.
 -define(PUT, {?MODULE, put}).
 -define(MOST_PAUSE_MS, 50).
 
 -type stored() :: #{coordinator := cluster_ring:place(), clock := antientropy:clock(), on := [cluster_ring:place()]}.
 -type found() :: #{coordinator := cluster_ring:place(), versions := [antientropy:version()]}.
 
-%% @doc Puts a version of a key, which W disks have before the answer. Refused: `bad_key', `bad_context' (a number that
-%% is no life of a place), what {@link cluster_range:put/4} refuses, `starting', `down' (no holder, or too few nodes,
+%% @doc Puts a version of a key, and returns once W disks have it. Refused: `bad_key', `bad_context' (a number that
+%% isn't a life of a place), what {@link cluster_range:put/4} refuses, `starting', `down' (no holder, or too few nodes,
 %% answered), `hints_full'.
 -spec put(Key :: binary(), antientropy:value(), Context :: antientropy:clock_like(), W :: pos_integer()) ->
     {ok, stored()} | cluster_refusal:refused().
@@ -33,8 +33,9 @@ put(Key, Value, Context, W) ->
             {refused, bad_context}
     end.
 
-%% A client whose put is stale everywhere has lost a race. It waits for about as long as puts take here: then it can
-%% read what has won. At once it would lose again, and hold up the others.
+%% Returns the outcome of a put. If it is stale everywhere, its client has lost a race: the refusal waits for about as
+%% long as puts take here, so that the client can read the winner. A retry at once would lose again, and hold up the
+%% others.
 raced({ok, _} = Stored, Begun) ->
     ok = cluster_patience:note(cluster_ring:here(), ?PUT, erlang:monotonic_time(microsecond) - Begun),
     Stored;
@@ -44,7 +45,7 @@ raced({refused, stale_context} = Refused, _) ->
 raced(Refused, _) ->
     Refused.
 
-%% @doc Returns the versions of a key by R replicas. Refused: `bad_key', what {@link cluster_rows:read/3} refuses,
+%% @doc Returns the versions of a key from R replicas. Refused: `bad_key', what {@link cluster_rows:read/3} refuses,
 %% `starting'.
 -spec get(Key :: binary(), R :: pos_integer()) -> {ok, found()} | cluster_refusal:refused().
 get(Key, R) ->
@@ -53,7 +54,7 @@ get(Key, R) ->
         {error, Name} -> {refused, Name}
     end.
 
-%% Asks this node, if it is a holder, and then the others.
+%% Asks this node if it is a holder, and then the others.
 ask(Range, Here, Request) ->
     Others = cluster_ring:partners(Range),
     case lists:member(cluster_ring:here(), cluster_ring:holders(Range)) andalso Here() of
@@ -65,7 +66,7 @@ ask(Range, Here, Request) ->
 if_none_answers(true) -> down;
 if_none_answers(false) -> starting.
 
-%% Holders that are down have just been asked for their rows.
+%% Returns the holders to ask next. A get that was refused as `down' has just asked those that are down.
 reachable(Others, {get, _}, down) -> lists:filter(fun cluster_wire:is_up/1, Others);
 reachable(Others, _, _) -> Others.
 
@@ -78,7 +79,7 @@ ask_others(Others, Request, Refused) ->
 %% ---- requests at a holder
 
 %% @private
-%% @doc Puts for the node that gave a claim, or returns `unclaimed', and does nothing.
+%% @doc Puts for the node that gave a claim, or returns `unclaimed' and does nothing.
 -spec put_claimed(cluster_claims:claim(), cluster_ring:range(), Key, antientropy:value(), Context, W) ->
     {ok, stored()} | cluster_refusal:refused() | unclaimed when
     Key :: binary(), Context :: antientropy:clock_like(), W :: pos_integer().
@@ -103,13 +104,13 @@ put_here(Range, Key, Value, Context, W) ->
             {refused, starting}
     end.
 
-%% Nothing is acknowledged under a life that was given up meanwhile.
+%% Acknowledges nothing under a life that was given up meanwhile.
 stored({ok, On}, Clock, true) -> {ok, #{coordinator => cluster_ring:here(), clock => Clock, on => On}};
 stored({ok, _}, _, false) -> {perhaps, down};
 stored(Refused, _, _) -> Refused.
 
 %% @private
-%% @doc Returns the versions of a key by this node's range and those of other holders.
+%% @doc Returns the versions of a key from this node's range and from other holders.
 -spec get_here(cluster_ring:range(), Key :: binary(), R :: pos_integer()) ->
     {ok, found()} | cluster_refusal:refused().
 get_here(Range, Key, R) ->

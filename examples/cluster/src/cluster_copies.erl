@@ -1,12 +1,11 @@
-%% @doc The copies of a put: at the other holders of its range, or as hints at carriers (the Dynamo paper of 2007,
-%% section 4.6).
+%% @doc Copies of a put: at the other holders of its range, or as hints at carriers (the Dynamo paper, section 4.6).
 %%
 %% Each copy has a process. A holder that is down gets a hint at once, and is tried only if no carrier that is up keeps
-%% it. A holder that is silent for longer than this node's patience gets a hint as well, by another process: the copy
-%% goes on to its limit.
+%% it. A holder that is silent for longer than this node's patience gets a hint as well, from another process, while the
+%% copy continues to its time limit.
 %%
-%% A carrier can't see that a clock is used for a second value. So a holder that hasn't checked this node's disk since
-%% the start ({@link cluster_range:unchecked/1}) is asked first, for as long as a call may take.
+%% A carrier can't see that a clock is used for a second value. A holder that hasn't checked this node's disk since the
+%% start ({@link cluster_range:unchecked/1}) is therefore asked first, for as long as a call may take.
 -module(cluster_copies).
 
 -export([spread/4]).
@@ -19,12 +18,13 @@
 }).
 
 -type outcome() :: {on, cluster_ring:place()} | {full, Owner :: cluster_ring:place()} | none.
-%% The version is on the disk of a place; no carrier has room for the hint; or it is on no other disk that counts.
+%% The version is on the disk of a place; no carrier has space for the hint; or the version is on no further disk that
+%% counts.
 
 -type processes() :: #{reference() => {HintDueMs :: integer() | infinity, pid(), #copy{}}}.
 
-%% @doc Copies a version to the other holders, all at once, and returns when W disks have it, that of this node among
-%% them. The other copies go on.
+%% @doc Copies a version to the other holders, all at once, and returns once W disks have it, including this node's. The
+%% other copies continue.
 -spec spread(cluster_ring:range(), Key :: binary(), antientropy:version(), W :: pos_integer()) ->
     {ok, On :: [cluster_ring:place()]} | cluster_refusal:refused().
 spread(Range, Key, Version, W) ->
@@ -43,7 +43,7 @@ begin_copy(#copy{range = Range, owner = Owner} = Copy) ->
 places(#copy{owner = Owner} = Copy, true) -> [Owner | cluster_wire:up_first(carriers(Copy))];
 places(#copy{owner = Owner} = Copy, false) -> cluster_wire:up_first([Owner | carriers(Copy)]).
 
-%% The carriers for the owner of a copy: each owner has another one first.
+%% Returns the carriers for the owner of a copy, in an order that begins with a different carrier for each owner.
 carriers(#copy{range = Range, owner = Owner}) ->
     Partners = cluster_ring:partners(Range),
     {Before, _} = lists:splitwith(fun(Partner) -> Partner =/= Owner end, Partners),
@@ -51,7 +51,7 @@ carriers(#copy{range = Range, owner = Owner}) ->
     {First, Last} = lists:split(min(length(Before), length(Carriers)), Carriers),
     Last ++ First.
 
-%% A copy that begins with a hint needs no other one.
+%% Returns the time at which a hint is due. A copy that begins with a hint needs no second one.
 hint_due_ms(Owner, [Owner | _], false) -> now_ms() + patience_ms(Owner);
 hint_due_ms(_, _, _) -> infinity.
 
@@ -60,7 +60,7 @@ patience_ms(Owner) ->
 
 %% ---- the put's process
 
-%% Waits for outcomes until enough disks have the version. `Full' are the owners for whose hints there was no room.
+%% Waits for outcomes until enough disks have the version. `Full' has the owners whose hints found no space.
 -spec await(W :: pos_integer(), processes(), On :: [cluster_ring:place()], Full :: [cluster_ring:place()]) ->
     {ok, [cluster_ring:place()]} | cluster_refusal:refused().
 await(W, Processes, On, Full) ->
@@ -97,7 +97,7 @@ with_hints_that_are_due(Processes) ->
     Due = maps:filter(fun(_, {DueMs, _, _}) -> DueMs =< NowMs end, Processes),
     maps:fold(fun hint_if_silent/3, Processes, Due).
 
-%% Begins a hint for a copy that is late, unless its owner answers other calls.
+%% Begins a hint for a late copy, unless its owner responds to other calls.
 hint_if_silent(Monitor, {_, Process, #copy{owner = Owner} = Copy}, Processes) ->
     PatienceMs = patience_ms(Owner),
     case cluster_patience:is_silent(Owner, PatienceMs) of
@@ -108,7 +108,7 @@ hint_if_silent(Monitor, {_, Process, #copy{owner = Owner} = Copy}, Processes) ->
             Processes#{Monitor := {now_ms() + PatienceMs, Process, Copy}}
     end.
 
-%% Brings a hint to a carrier, and tells the process of the copy once it is kept.
+%% Sends a hint to a carrier, and notifies the process of the copy once it is kept.
 hint(CopyProcess, Copy) ->
     Outcome = bring(Copy, cluster_wire:up_first(carriers(Copy)), none),
     is_on(Outcome) andalso (CopyProcess ! hinted),
@@ -122,14 +122,14 @@ now_ms() ->
 
 %% ---- the process of a copy
 
-%% The last resort for a hint is this node, which has the version already.
+%% Sends a copy to one of some places. The last resort for a hint is this node, which already has the version.
 bring_or_keep(#copy{range = Range, owner = Owner, key = Key, version = Version} = Copy, Places) ->
     Outcome = bring(Copy, Places, none),
     Outcome =:= settled orelse is_on(Outcome) orelse cluster_hints:keep(Owner, Range, Key, Version),
     Outcome.
 
-%% Brings a copy to the first of some places that takes it: its owner, or a carrier as a hint. `settled': nothing more
-%% is to be done for the owner.
+%% Sends a copy to the first of some places that takes it: its owner, or a carrier as a hint. `settled': the owner needs
+%% nothing more.
 -spec bring(#copy{}, [cluster_ring:place()], Failed :: outcome()) -> outcome() | settled.
 bring(_, [], Failed) ->
     Failed;
@@ -165,7 +165,7 @@ copy(#copy{range = Range, owner = Owner, key = Key, version = Version} = Copy) -
         down -> failed
     end.
 
-%% Judges an owner that says that it has a version already, by its row.
+%% Judges by its row an owner that reports that it already has a version.
 known(#copy{range = Range, owner = Owner, key = Key, version = Version}, Row) ->
     {ok, Own, Top, Life} = cluster_range:own(Range, Key),
     case cluster_known:judge(Version, Row, Own, Life, Top) of

@@ -1,10 +1,10 @@
-%% @doc Files that are on the disk, whole or not at all, and what a full and a failing disk do.
+%% @doc Files that are on the disk, whole or not at all, and the handling of a full or failing disk.
 %%
-%% A full disk is a result, `full': nothing has changed then. Every other failure ends the node, since what it couldn't
-%% write must not be answered for.
+%% A full disk is a result, `full', and nothing has changed. Every other failure ends the node, since data that it
+%% couldn't write must not be acknowledged.
 %%
-%% A file of a term is `"cluster", 1', the checksum of the bytes (crc32, 4 bytes, big-endian), and the bytes, which
-%% `term_to_binary' made.
+%% A file of a term is `"cluster", 1', the checksum of the bytes (crc32, 4 bytes, big-endian), and the bytes, from
+%% `term_to_binary'.
 -module(cluster_disk).
 
 -export([make_folder/1, replace/2, write_term/2, read_term/1, remove/1, rename/2, names/1]).
@@ -12,7 +12,7 @@
 
 -define(MAGIC, "cluster", 1).
 
-%% @doc Makes a folder that is on the disk, if it isn't there.
+%% @doc Makes a folder, unless it exists, and brings it to the disk.
 -spec make_folder(file:filename()) -> ok | full.
 make_folder(Folder) ->
     case full_or_done(Folder, filelib:ensure_path(Folder)) of
@@ -20,7 +20,8 @@ make_folder(Folder) ->
         full -> full
     end.
 
-%% @doc Replaces a file by a new one, which `Write' fills. After a crash the old one or the whole new one is there.
+%% @doc Replaces a file with a new one, which `Write' fills. After a crash either the old file or the whole new one is
+%% there.
 -spec replace(file:filename(), Write :: fun((file:io_device()) -> ok | {error, term()})) -> ok | full.
 replace(File, Write) ->
     New = File ++ ".new",
@@ -44,7 +45,7 @@ first_error(Results) ->
         [Failed | _] -> Failed
     end.
 
-%% @doc Replaces a file by one with a term.
+%% @doc Replaces a file with one that has a term.
 -spec write_term(file:filename(), term()) -> ok | full.
 write_term(File, Term) ->
     Bytes = term_to_binary(Term),
@@ -65,7 +66,7 @@ read_term(File) ->
             damaged
     end.
 
-%% @doc Removes a file or a folder with all that it has, if it is there. The folder that it is in isn't synced.
+%% @doc Removes a file or a folder with its contents, if it exists. Doesn't sync the parent folder.
 -spec remove(file:filename()) -> ok.
 remove(File) ->
     case file:del_dir_r(File) of
@@ -73,7 +74,7 @@ remove(File) ->
         Result -> done(File, Result)
     end.
 
-%% @doc Renames a file or a folder within a folder, or into one next to it, and brings both names to the disk.
+%% @doc Renames a file or a folder within its folder, or into an adjacent one, and brings both names to the disk.
 -spec rename(file:filename(), file:filename()) -> ok | full.
 rename(From, To) ->
     case full_or_done(To, file:rename(From, To)) of
@@ -124,7 +125,7 @@ done(File, {error, Reason}) -> failed(File, Reason).
 full_or_done(_, {error, Reason}) when Reason =:= enospc; Reason =:= edquot -> full;
 full_or_done(File, Result) -> done(File, Result).
 
-%% @doc Ends the node at once: what it couldn't write must not be answered for, nor read again from the cache.
+%% @doc Ends the node at once: data that it couldn't write must not be acknowledged, nor read again from the cache.
 -spec failed(file:filename(), Reason :: term()) -> no_return().
 failed(File, Reason) ->
     io:format(standard_error, "the disk failed: ~ts: ~0tp~n", [File, Reason]),

@@ -1,7 +1,7 @@
-%% @doc A request that this node hands on to other holders of its key.
+%% @doc A request that this node forwards to other holders of its key.
 %%
-%% They are asked one after another. If one is silent for longer than this node's patience, the next one is asked as
-%% well, and the first answer counts. All that are asked to put have the same claim, so one of them puts
+%% The holders are asked in turn. If one is silent for longer than this node's patience, the next one is asked as well,
+%% and the first answer counts. All holders that are asked to put have the same claim, so one of them puts
 %% ({@link cluster_claims}). If that one refuses, the others get another claim.
 -module(cluster_errand).
 
@@ -9,7 +9,8 @@
 
 -export_type([request/0, answer/0]).
 
-%% A holder calls this node, another holder, and then a carrier, and their time may be over each time.
+%% Calls that a holder makes in a row, each up to its time limit: to this node, to another holder, and then to a
+%% carrier.
 -define(CALLS_IN_A_ROW, 3).
 
 -type request() :: {put, Arguments :: [term()]} | {get, Arguments :: [term()]}.
@@ -20,9 +21,9 @@
     request :: request(),
     claim = none :: cluster_claims:claim() | none,
     unasked :: [cluster_ring:place()],
-    %% Holders that have not answered, each with the monitor of the process that calls it.
+    %% Holders that haven't answered, each with the monitor of the process that calls it.
     calls = #{} :: #{reference() => cluster_ring:place()},
-    %% The holder that was asked last, when that was, and the time until the next look at it.
+    %% The last holder that was asked, the time when it was asked, and the time until the next look at it.
     last = none :: cluster_ring:place() | none,
     asked_ms = 0 :: integer(),
     wait_ms = infinity :: timeout(),
@@ -30,8 +31,8 @@
     refused :: atom()
 }).
 
-%% @doc Runs a request at the first of some holders that does it, or may have done it. It was refused before by this
-%% name: see {@link cluster_refusal:first/2}.
+%% @doc Runs a request at the first of some holders that does it, or may have done it. `Refused' is the name by which
+%% the request was refused before: see {@link cluster_refusal:first/2}.
 -spec run(request(), [cluster_ring:place()], Refused :: atom()) -> answer().
 run(Request, Holders, Refused) ->
     go_on(with_claim(#errand{request = Request, unasked = Holders, refused = Refused})).
@@ -55,7 +56,7 @@ go_on(#errand{calls = Calls, unasked = Unasked, wait_ms = WaitMs} = Errand) ->
 
 %% ---- asking
 
-%% Asks the next holder that is up, or all at once that are down, as a last resort.
+%% Asks the next holder that is up. As a last resort, asks all holders that are down at once.
 ask_next(#errand{unasked = Unasked} = Errand) ->
     [Holder | Others] = Next = cluster_wire:up_first(Unasked),
     case cluster_wire:is_up(Holder) of
@@ -79,7 +80,7 @@ begin_call(Holder, #errand{request = Request, claim = Claim}) ->
 function({put, Arguments}, Claim) -> {put_claimed, [Claim | Arguments]};
 function({get, Arguments}, none) -> {get_here, Arguments}.
 
-%% When all are asked, those that are up have the time of a call.
+%% Returns the time until the next look. Once all holders are asked, those that are up have the time limit of a call.
 wait_ms(Holders, Others, Asked, Request) ->
     case Others =:= [] andalso lists:any(fun cluster_wire:is_up/1, Asked) of
         true -> cluster_wire:limit_ms();
@@ -104,7 +105,7 @@ answered({ok, {refused, Name}}, #errand{refused = Refused} = Errand) ->
 answered({ok, Answer}, Errand) ->
     ended(Answer, Errand).
 
-%% A holder that refuses a put has taken the claim, which is of no use for the others.
+%% Makes another claim if a holder refuses a put: it has taken the claim, so the others can't.
 without_one(#errand{claim = none} = Errand) ->
     Errand;
 without_one(#errand{calls = Calls, unasked = Unasked} = Errand) ->
@@ -120,7 +121,7 @@ leave(Calls) ->
 
 %% ---- silence
 
-%% Asks the next holder as well, unless the put has begun, or the last one answers other calls.
+%% Asks the next holder as well, unless the put has begun, or the last holder responds to other calls.
 late(#errand{unasked = Unasked, last = Last, asked_ms = AskedMs, wait_ms = WaitMs} = Errand) ->
     IsOver = now_ms() - AskedMs >= cluster_wire:limit_ms(),
     case {is_taken(Errand), Unasked} of
@@ -138,7 +139,7 @@ late(#errand{unasked = Unasked, last = Last, asked_ms = AskedMs, wait_ms = WaitM
 is_taken(#errand{claim = none}) -> false;
 is_taken(#errand{claim = Claim}) -> cluster_claims:is_taken(Claim).
 
-%% Refuses the request, unless a holder has begun with the put: then it waits for the calls, each of which has an end.
+%% Refuses the request, unless a holder has begun the put: then it waits for the calls, which all have a limit.
 give_up(#errand{claim = Claim, calls = Calls, refused = Refused} = Errand) ->
     case Claim =:= none orelse cluster_claims:withdraw(Claim) of
         true -> ended({refused, Refused}, Errand);

@@ -1,4 +1,4 @@
-%% @doc What an operator must know, one line of the log for each: `event down place=3'.
+%% @doc Events that an operator must know, one line of the log for each: `event down place=3'.
 -module(cluster_event).
 
 -export([note/2, line/2]).
@@ -9,7 +9,7 @@
     down | up | new_life | ready | checkpoint | renewal | renewal_refused | hints_refused | sync_failed
     | settings_differ.
 -type fields() :: [{Name :: atom(), Value :: integer() | atom() | string()}].
-%% (No value is one of a client.)
+%% (No field has a value of a client.)
 
 %% @doc Logs an event, and counts it.
 -spec note(name(), fields()) -> ok.

@@ -1,16 +1,16 @@
-%% @doc The folder of a place: whose life its disk is, and what is kept aside.
+%% @doc The folder of a place: the life of its disk, and the files that are kept aside.
 %%
 %%     life       a file of a term ({@link cluster_disk}): the place, the incarnation, and the ranges that it holds
-%%     lives      what this place knows of all lives ({@link cluster_lives})
+%%     lives      all lives that this place knows of ({@link cluster_lives})
 %%     range-N    the log of each range ({@link cluster_log})
 %%     hints      the log of the hints
-%%     begun      a mark: a new life isn't made to its end, and its number was never used
+%%     begun      a mark: a new life is unfinished, and its number was never used
 %%     given-up   a mark with a reason: the life isn't used again
-%%     aside-K    what the disk of a life had that was given up, and a file `why'
-%%     *.new      what a replace that was cut off left
+%%     aside-K    the files of a life that was given up, and a file `why'
+%%     *.new      the file of an interrupted replace
 %%
-%% A new life has its logs, and then `life', before its number is used. A life goes on if all of it is whole. Anything
-%% else is damage.
+%% A new life has its logs, and then `life', before its number is used. A life continues if all of its files are whole.
+%% Anything else is damage.
 -module(cluster_folder).
 
 -export([state/0, logs/1, range/1, hints/0, owner/2]).
@@ -22,8 +22,7 @@
 
 %% ---- its state
 
-%% @doc Returns what the folder is, and changes nothing. It is refused if it is for other ranges than those of the
-%% settings.
+%% @doc Returns the state of the folder, and changes nothing. `refused': its ranges differ from the settings'.
 -spec state() -> state().
 state() ->
     Names = [Name || Name <- contents(), Name =/= "lives"],
@@ -59,7 +58,7 @@ state_of_logs([{Folder, Owner, _} | Logs], Incarnation) ->
         Damaged -> Damaged
     end.
 
-%% @doc Returns the logs of a life: their folders, owners, and the notes with which they begin.
+%% @doc Returns the logs of a life: their folders, their owners, and the notes with which they begin.
 -spec logs(cluster_lives:incarnation()) -> [{file:filename(), cluster_manifest:owner(), Note :: term()}].
 logs(Incarnation) ->
     Life = cluster_lives:number(cluster_ring:here(), Incarnation),
@@ -83,7 +82,7 @@ hints() ->
 
 %% ---- a new life
 
-%% @doc Makes the disk of a new life, in a folder that is empty.
+%% @doc Makes the disk of a new life, in an empty folder.
 -spec make(cluster_lives:incarnation()) -> ok | full.
 make(Incarnation) ->
     Life = #{place => cluster_ring:here(), incarnation => Incarnation, ranges => cluster_ring:held()},
@@ -95,7 +94,7 @@ make(Incarnation) ->
 step(Step, ok) -> Step();
 step(_, full) -> full.
 
-%% Removes what a new life left that was cut off. The mark is last.
+%% Removes the files of a new life that was interrupted, the mark last.
 clean() ->
     Left = [Name || Name <- contents(), Name =/= "lives"],
     [ok = cluster_disk:remove(path(Name)) || Name <- Left, Name =/= "begun"],
@@ -109,7 +108,7 @@ end_mark() ->
 
 %% ---- damage
 
-%% @doc Marks the life as given up. The mark is on the disk at the return, even if that is full.
+%% @doc Marks the life as given up. The mark is on the disk on return, even if the disk is full.
 -spec give_up(Why :: string()) -> ok.
 give_up(Why) ->
     Mark = path("given-up"),
@@ -119,8 +118,8 @@ give_up(Why) ->
         false -> ok = cluster_disk:rename(path("life"), Mark)
     end.
 
-%% @doc Moves what a life had that was given up into a folder, and returns its name. The mark is last, so a move that
-%% was cut off goes on.
+%% @doc Moves the files of a life that was given up into a folder, and returns its name. The mark is moved last, so that
+%% an interrupted move continues.
 -spec move_aside() -> {ok, Aside :: string()} | full.
 move_aside() ->
     Aside = next_aside(),
@@ -137,7 +136,7 @@ move_aside() ->
         full -> full
     end.
 
-%% The last one, if its mark isn't there yet.
+%% Returns the next folder: the last one, if its mark is missing.
 next_aside() ->
     Numbers = [list_to_integer(Number) || "aside-" ++ Number <- cluster_disk:names(cluster_settings:folder())],
     Last = lists:max([0 | Numbers]),
@@ -157,7 +156,7 @@ asides() ->
      || "aside-" ++ _ = Name <- cluster_disk:names(cluster_settings:folder())
     ].
 
-%% The text of a file. A mark may be a file of a life, if the disk was full.
+%% Returns the text of a file. A mark may be a renamed file of the life, if the disk was full.
 reason(File) ->
     case file:read_file(File) of
         {ok, Text} when byte_size(Text) > 0 -> printable(string:trim(Text));
@@ -172,7 +171,7 @@ printable(Text) ->
 
 %% ---- files
 
-%% The names in the folder, without those that are kept aside, and what a replace left that was cut off.
+%% Returns the names in the folder, except for the files kept aside and the file of an interrupted replace.
 contents() ->
     [
         Name

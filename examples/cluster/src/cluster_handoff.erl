@@ -1,4 +1,4 @@
-%% @doc Hands hints to their owners when these are up again (the Dynamo paper of 2007, section 4.6).
+%% @doc Hands hints to their owners when these are up again (the Dynamo paper, section 4.6).
 -module(cluster_handoff).
 -behaviour(gen_server).
 
@@ -8,7 +8,7 @@
 -define(EVERY_MS, 1000).
 -define(MOST_AT_ONCE, 100).
 
-%% The processes that hand hints on, each with the owner and the range of its hints.
+%% Processes that deliver hints, each with the owner and the range of its hints.
 -type state() :: #{reference() => cluster_hints:name()}.
 
 %% @doc Starts the process of the hand-offs.
@@ -16,7 +16,7 @@
 start_link() ->
     gen_server:start_link({local, ?MODULE}, ?MODULE, [], []).
 
-%% @doc Hands the hints of an owner to it now, since it is up again. Otherwise each second is soon enough.
+%% @doc Starts the hand-offs to an owner that is up again. Other owners are tried once a second.
 -spec wake(cluster_ring:place()) -> ok.
 wake(Owner) ->
     gen_server:cast(?MODULE, {wake, Owner}).
@@ -48,7 +48,7 @@ handle_info(Message, State) ->
     ok = cluster_stray:message(?MODULE, Message),
     {noreply, State}.
 
-%% Begins the hand-offs to some owners that aren't in progress. A confirmation needs room on the disk.
+%% Starts the hand-offs to some owners, unless they are in progress. A confirmation needs space on the disk.
 begin_for(Owners, State) ->
     case cluster_settings:is_handoff_on() andalso not cluster_space:is_full() of
         true ->
@@ -58,12 +58,12 @@ begin_for(Owners, State) ->
             State
     end.
 
-%% (The process that hands hints on ends with this one: its numbers are of the hints that this one knows.)
+%% (The process that delivers hints ends with this one: their numbers are valid only while the same process keeps them.)
 begin_one(Name, State) ->
     {_, Monitor} = cluster_task:start_link(fun() -> hand_off(Name, 0) end),
     State#{Monitor => Name}.
 
-%% Hands on the hints of a queue after a number, some at a time, until none is left or the owner is down.
+%% Delivers the hints of a queue after a number, some at a time, until none is left or the owner is down.
 hand_off({Owner, Range} = Name, After) ->
     case cluster_hints:pending(Owner, Range, After, ?MOST_AT_ONCE) of
         [] -> true;
@@ -82,7 +82,7 @@ hand_off_some({Owner, Range} = Name, Hints) ->
             false
     end.
 
-%% Delivers hints, and returns the outcome of each that the owner has on its disk.
+%% Delivers hints, and returns the outcome of each hint that the owner has on its disk.
 deliver({Owner, Range}, Hints) ->
     Copies = [{Key, maps:with([clock, value], Hint)} || #{key := Key} = Hint <- Hints],
     case cluster_wire:call(Owner, cluster_range, copies, [Range, Copies]) of

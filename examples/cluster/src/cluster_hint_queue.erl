@@ -1,7 +1,7 @@
-%% @doc The hints for one owner and one range, in the order in which they were kept.
+%% @doc The hints for one owner and one range, in the order of their arrival.
 %%
-%% A store of the library takes 10,000 pending hints, and a queue as many as have room in its bytes. So it has stores in
-%% a row. The last one takes new hints, and its numbers go on after those of the one before.
+%% A store of the library takes 10,000 pending hints. A queue takes hints up to a limit in bytes, so it has a list of
+%% stores. The last store takes new hints, and its numbers continue after those before.
 -module(cluster_hint_queue).
 
 -export([new/2, keep/4, confirm/2, pending/3, kept/1, renewed/1, counts/1, close/1]).
@@ -11,11 +11,11 @@
 -type outcome() :: {Number :: pos_integer(), new | known}.
 -type kept() :: {Key :: binary(), antientropy:version()}.
 -type counts() :: #{pending := non_neg_integer(), delivered := non_neg_integer(), bytes := non_neg_integer()}.
-%% The bytes are those of the pending hints in a log.
+%% `bytes' is the space that the pending hints take in a log.
 
 -record(queue, {
     owner :: cluster_ring:place(),
-    %% The stores, the last one first, each with the number of its first hint.
+    %% The stores, with the last one first, each with the number of its first hint.
     stores :: [{First :: pos_integer(), antientropy_hints:hints()}],
     next :: pos_integer(),
     counts = #{pending => 0, delivered => 0, bytes => 0} :: counts()
@@ -57,7 +57,7 @@ counted({ok, Number}, #queue{counts = #{pending := Pending, bytes := Bytes} = Co
 counted(Refused, _, _, _) ->
     Refused.
 
-%% @doc Ends the wait of a hint. Refused: `unknown_hint'.
+%% @doc Confirms a hint, which is pending no longer. Refused: `unknown_hint'.
 -spec confirm(queue(), outcome()) -> {ok, queue()} | antientropy:refused().
 confirm(#queue{stores = Stores, counts = Counts} = Queue, {Number, Outcome}) ->
     case [Hints || {First, Hints} <- Stores, First =< Number] of
@@ -101,7 +101,7 @@ kept(#queue{next = Next} = Queue) ->
 key_and_version(#{key := Key, clock := Clock, value := Value}) ->
     {Key, #{clock => Clock, value => Value}}.
 
-%% @doc Returns a queue of the pending hints alone, and frees this one. They have new numbers, above all that were used.
+%% @doc Returns a queue with only the pending hints, and frees this one. They get new numbers, above all used ones.
 -spec renewed(queue()) -> queue().
 renewed(#queue{owner = Owner} = Queue) ->
     {First, Kept} = kept(Queue),

@@ -1,14 +1,15 @@
-%% @doc The hints that this node carries for places that are down (the Dynamo paper of 2007, section 4.6).
+%% @doc The hints that this node carries for places that are down (the Dynamo paper, section 4.6).
 %%
-%% There is a queue for each owner and range ({@link cluster_hint_queue}), which takes as many bytes as the settings
-%% say: one range of a place that is down for long doesn't take the room of others.
+%% There is a queue for each owner and range ({@link cluster_hint_queue}), with a limit in bytes from the settings, so a
+%% range of a place that is down for long doesn't take the space of others.
 %%
-%% Each hint that is kept or confirmed is in a log, which is synced before the answer: all that wait are synced at once.
-%% After as many deliveries as hints are pending, and at least 1,000, a checkpoint gets the pending hints. So the disk
-%% has a small multiple of the pending bytes at most, and neither it nor the memory grows for good.
+%% Each hint that is kept or confirmed is in a log, which is synced before the answer: one sync serves all waiting
+%% calls. A checkpoint gets the pending hints after as many deliveries as there are pending hints, and at least 1,000.
+%% The disk therefore holds at most a small multiple of the pending bytes, and neither it nor the memory grows without
+%% limit.
 %%
-%% Numbers of a queue's hints go on through checkpoints, restarts and lives, so none names two of its hints: those of a
-%% life begin at its incarnation times 2^40.
+%% Numbers of a queue's hints continue through checkpoints, restarts and lives, so none names two of its hints: in each
+%% life they begin at its incarnation times 2^40.
 -module(cluster_hints).
 -behaviour(gen_server).
 
@@ -16,7 +17,7 @@
 -export([init/1, handle_call/3, handle_cast/2, handle_info/2, format_status/1]).
 
 -define(MOST_WAITING, 512).
-%% Deliveries before a checkpoint at least.
+%% Minimum number of deliveries before a checkpoint.
 -define(LEAST_DELIVERED, 1000).
 
 -export_type([name/0]).
@@ -30,16 +31,16 @@
     life :: cluster_lives:life(),
     queues :: queues(),
     log :: cluster_log:log(),
-    %% Records that aren't in the log, and answers that wait for them, both the last first.
+    %% Records that aren't in the log, and the answers waiting for them, both with the last one first.
     records = [] :: [record()],
     waiting = [] :: [{gen_server:from(), request(), Answer :: term()}],
-    %% Queues that refused a hint since they delivered one.
+    %% Queues that have refused a hint since their last delivery.
     full = [] :: [name()],
     %% Hints that were delivered before the last checkpoint.
     delivered = 0 :: non_neg_integer()
 }).
 
-%% @doc Starts the process of the hints, with what is on its disk.
+%% @doc Starts the process of the hints, with those on its disk.
 -spec start_link() -> {ok, pid()} | {error, term()}.
 start_link() ->
     gen_server:start_link({local, ?MODULE}, ?MODULE, [], []).
@@ -51,10 +52,9 @@ start_link() ->
 keep(Owner, Range, Key, Version) ->
     gen_server:call(?MODULE, {keep, {Owner, Range}, {Key, Version}}, infinity).
 
-%% @doc Ends the wait of hints that {@link pending/4} returned, after their owner has them on its disk. Refused:
-%% `disk_full'.
+%% @doc Confirms hints that {@link pending/4} returned, once their owner has them on its disk. Refused: `disk_full'.
 %%
-%% A number from before a checkpoint names no hint: the hint has another one then, and is delivered again.
+%% A number from before a checkpoint names no hint: the hint has a new number, and is delivered again.
 -spec confirm(Owner :: cluster_ring:place(), cluster_ring:range(), [cluster_hint_queue:outcome()]) ->
     ok | {error, disk_full}.
 confirm(Owner, Range, Outcomes) ->
@@ -83,7 +83,7 @@ init([]) ->
         {ok, State} ->
             {ok, State};
         {damaged, Why} ->
-            %% (This process's supervisor waits for it, and maybe the life's process for the supervisor.)
+            %% (The supervisor waits for this process, and the process of the life may wait for the supervisor.)
             _ = spawn(cluster_life, lost, [Life, Why]),
             {stop, {shutdown, lost}}
     end.
@@ -104,8 +104,8 @@ load_checkpoint(File) ->
 load_queue({Owner, _}, {First, Kept}) ->
     lists:foldl(fun keep_again/2, cluster_hint_queue:new(Owner, First), Kept).
 
-%% Repeats what a record says. Numbers of hints are counted up from the queue's first, so they are those of the first
-%% time.
+%% Repeats the change of a record. Hints are numbered from the queue's first number, so they get the same numbers as the
+%% first time.
 apply_again({keep, Name, Kept}, Life, Queues) ->
     Queues#{Name => keep_again(Kept, queue(Name, Life, Queues))};
 apply_again({confirm, Name, Outcome}, _, Queues) ->
@@ -185,7 +185,7 @@ answer(count, #state{delivered = Before} = State) ->
 answer(Request, State) ->
     {cluster_stray:call(?MODULE, Request), State}.
 
-%% A queue that is full is said once, until it has delivered some.
+%% Refuses a hint. A full queue is logged once, until it has delivered a hint.
 refused(hints_full, {Owner, Range} = Name, #state{full = Full} = State) ->
     ok = cluster_metrics:count(hints_refused, []),
     lists:member(Name, Full) orelse cluster_event:note(hints_refused, [{owner, Owner}, {range, Range}]),
@@ -210,7 +210,7 @@ confirmed(Name, Outcome, #state{queues = Queues, full = Full} = State) ->
 pending_in(Queue) ->
     maps:get(pending, cluster_hint_queue:counts(Queue)).
 
-%% The sums over all queues.
+%% Returns the sums over all queues.
 counts(#state{queues = Queues}) ->
     Add = fun(_, Queue, Sum) -> maps:merge_with(fun(_, A, B) -> A + B end, Sum, cluster_hint_queue:counts(Queue)) end,
     maps:fold(Add, #{pending => 0, delivered => 0, bytes => 0}, Queues).
@@ -224,7 +224,7 @@ wait(#state{waiting = Waiting} = State) when length(Waiting) >= ?MOST_WAITING ->
 wait(State) ->
     {noreply, State, 0}.
 
-%% Logs all records, syncs the log once, and answers all.
+%% Logs all records, syncs the log once, and sends all answers.
 commit(#state{log = Log, records = Records} = State) ->
     case cluster_log:write(Log, lists:reverse(Records)) of
         {ok, Written} -> checkpoint_if_due(answer_all(State#state{log = Written, records = []}));
@@ -235,7 +235,7 @@ answer_all(#state{waiting = Waiting} = State) ->
     [gen_server:reply(From, Answer) || {From, _, Answer} <- lists:reverse(Waiting)],
     State#state{waiting = []}.
 
-%% Takes the hints that are on the disk, since it is full, and answers the calls that wait by these.
+%% Reloads the hints from the disk, since it is full, and answers all waiting calls from them.
 refuse_all(#state{waiting = Waiting} = State) ->
     Again = fun({From, Request, _}, Before) -> with_answer(Request, From, true, Before) end,
     answer_all(lists:foldr(Again, reloaded(State), Waiting)).
@@ -261,8 +261,8 @@ checkpoint_if_due(State) ->
         false -> State
     end.
 
-%% Drops the delivered hints. A checkpoint gets the pending ones of each queue, and the number of the first, which is
-%% the one after the last that was used. Without room for it, they keep their numbers.
+%% Drops the delivered hints. A checkpoint gets the pending hints of each queue, and the number of the first one, which
+%% follows the last number that was used. If the disk has no space for it, the hints keep their numbers.
 checkpoint(Delivered, #state{queues = Queues, log = Log, delivered = Before} = State) ->
     Kept = maps:map(fun(_, Queue) -> cluster_hint_queue:kept(Queue) end, Queues),
     case save(cluster_log:begin_file(Log), term_to_binary(Kept)) of

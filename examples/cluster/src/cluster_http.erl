@@ -1,8 +1,8 @@
 %% @doc The HTTP fronts: servers of `inets', each with a module that responds to its requests. One is for clients, and
-%% one for an administrator, on a port of its own.
+%% one for an administrator, on a separate port.
 %%
 %% Bodies, headers and paths that are too long are refused before they are in memory. A front has TLS if the settings
-%% name a certificate, and wants a token if they name its file.
+%% name a certificate, and requires a token if they name its file.
 -module(cluster_http).
 -behaviour(httpd_custom_api).
 
@@ -16,7 +16,7 @@
 
 -define(TRIES, 40).
 -define(AGAIN_MS, 50).
-%% The longest value, the longest path (each byte of a key may be three), and all headers.
+%% Maximum sizes in bytes of a value, a path (each byte of a key may be three), and all headers.
 -define(MOST_BODY, 65536).
 -define(LIMIT, "65537").
 -define(MOST_PATH, 1024).
@@ -27,7 +27,7 @@
 }.
 -type response() :: {Status :: 200..505, Headers :: [{atom() | string(), string()}], Body :: iodata()}.
 
-%% @doc Starts a front. One that was killed takes a moment to leave its port.
+%% @doc Starts a front. A front that was killed takes a moment to release its port.
 -spec start_link(clients | admin) -> {ok, pid()} | {error, term()}.
 start_link(Front) ->
     start_link(options(Front, cluster_settings:front(Front)), ?TRIES).
@@ -63,9 +63,9 @@ options(Front, #{ip := Ip, port := Port, connections := Connections, tls := Tls,
     ].
 
 %% @private
-%% @doc Changes a header of a request: a call of `inets', which would take a chunk of any size into memory, so a body in
-%% chunks is one that it doesn't know. Nor does it take a length of just its limit, if the client expects to be told to
-%% go on: so its limit is one more than that of a value, and no length is that.
+%% @doc Changes a header of a request: a call of `inets'. It would take a chunk of any size into memory, so a body in
+%% chunks gets an unknown encoding. It refuses a length equal to its limit if the client expects `100 Continue', so its
+%% limit is the limit of a value plus one, and a length equal to that is changed to a larger one.
 request_header({"transfer-encoding", _}) -> {true, {"transfer-encoding", "unknown"}};
 request_header({"content-length", ?LIMIT}) -> {true, {"content-length", ?LIMIT ++ "0"}};
 request_header(Header) -> {true, Header}.
@@ -93,8 +93,8 @@ read_token(File) ->
     {ok, Text} = file:read_file(File),
     string:trim(Text).
 
-%% @doc Answers a request by a function, unless it lacks the front's token: a call of a front's module by `inets'. The
-%% answer to HEAD has no body.
+%% @doc Responds to a request by a function, unless the request doesn't have the front's token: a call of a front's
+%% module by `inets'. The response to HEAD has no body.
 -spec do(clients | admin, #mod{}, fun((request()) -> response())) -> {proceed, list()}.
 do(Front, #mod{method = Method, request_uri = Uri, parsed_header = Headers, entity_body = Body}, Respond) ->
     {Path, Query} = split(Uri),
@@ -113,7 +113,7 @@ split(Uri) ->
 body("HEAD", _) -> nobody;
 body(_, Bytes) -> Bytes.
 
-%% The health of a node is no secret.
+%% Checks the token of a request. The health of a node isn't secret.
 with_token(none, Request, Respond) ->
     Respond(Request);
 with_token(_, #{path := "/health"} = Request, Respond) ->
@@ -129,7 +129,7 @@ with_token(Token, #{headers := Headers} = Request, Respond) ->
             unauthorized()
     end.
 
-%% The time of it says nothing of the token.
+%% Compares two tokens, in a time that reveals nothing of them.
 is_equal(Token, Given) ->
     crypto:hash_equals(crypto:hash(sha256, Token), crypto:hash(sha256, Given)).
 
@@ -138,7 +138,7 @@ unauthorized() ->
 
 %% ---- responses
 
-%% @doc Returns the health of this node. It waits for no process and no disk.
+%% @doc Returns the health of this node, without waiting for a process or a disk.
 -spec health() -> response().
 health() ->
     IsReady = cluster_life:is_ready(),

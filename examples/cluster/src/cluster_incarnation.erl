@@ -1,17 +1,17 @@
 %% @doc The choice of a new incarnation of this place, by all places.
 %%
-%% It is one over the greatest that any place knows for this place. All others must answer, or an operator names it. It
-%% is on the disks of all others, or of those that answer to an operator's, before its first use.
+%% It is one more than the greatest that any place knows for this place. All others must answer, or an operator names
+%% it. Before its first use it is on the disks of all others, or of those that answer if an operator named it.
 -module(cluster_incarnation).
 
 -export([take/1]).
 
 -define(AGAIN_MS, 1000).
-%% Places that start at once wait for each other a little before they say so.
+%% Tries before a silent place is logged: places that start at once wait for each other a little.
 -define(QUICK_TRIES, 15).
 -define(QUICK_MS, 200).
 
-%% @doc Takes an incarnation, as soon as it may. The name is that of an operator, or `none'. The node ends if it is
+%% @doc Takes an incarnation as soon as possible. `Named' is an operator's choice, or `none'. The node ends if it is
 %% refused.
 -spec take(Named :: pos_integer() | none) -> cluster_lives:incarnation().
 take(Named) ->
@@ -62,7 +62,7 @@ answer(Place, Monitor) ->
             end
     end.
 
-%% Tries again until all places answer. To an operator's incarnation, those that do are enough.
+%% Tries again until all places answer. If an operator named an incarnation, those that answer are enough.
 until_enough(Gather, Named, Count, Try) ->
     Answers = Gather(),
     case Named =/= none orelse length(Answers) =:= Count of

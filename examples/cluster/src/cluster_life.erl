@@ -1,10 +1,10 @@
-%% @doc The life of this node's disk, and the start and the end of all that needs one.
+%% @doc The life of this node's disk, and the start and end of everything that needs a life.
 %%
-%% Counters of a life must not go back (docs/EMBEDDING_C.md, "Restarts"). So a node that can't show that it has
-%% everything doesn't put under its old number: its files are kept aside, and it takes a new life. At a start the disk
-%% shows it ({@link cluster_folder}), and then the other places do, before the first put: the versions that they have
-%% of this life must not be later than those on the disk. If something that is lost is found later, the processes of
-%% {@link cluster_store} end, and start again with a new life.
+%% Counters of a life must not go back (docs/EMBEDDING_C.md, "Restarts"). A node that can't show that it has everything
+%% therefore doesn't put under its old number: its files are kept aside, and it takes a new life. At a start the disk
+%% shows it ({@link cluster_folder}), and then the other places do, before the first put: their versions of this life
+%% must not be later than those on the disk. If a loss is found later, the processes of {@link cluster_store} end, and
+%% start again with a new life.
 -module(cluster_life).
 -behaviour(gen_server).
 
@@ -14,12 +14,12 @@
 -export_type([phase/0]).
 
 -define(AGAIN_MS, 1000).
-%% Time in which a node that starts waits for others that start.
+%% Time that a starting node waits for other starting nodes.
 -define(PATIENCE_MS, 5000).
 -define(LOOK_MS, 100).
 
 -type phase() :: none | {starting | ready, cluster_lives:life()}.
-%% No life yet; a life whose ranges take what they lack; a life that serves clients.
+%% No life yet; a life whose ranges take missing versions; a life that serves clients.
 
 -record(state, {
     %% The incarnation that an operator named, until a life has begun.
@@ -28,12 +28,12 @@
     store :: reference() | undefined
 }).
 
-%% @doc Starts the process, which begins or goes on with a life.
+%% @doc Starts the process, which begins or continues a life.
 -spec start_link() -> {ok, pid()} | {error, term()}.
 start_link() ->
     gen_server:start_link({local, ?MODULE}, ?MODULE, [], []).
 
-%% @doc Returns how far the start is.
+%% @doc Returns the phase of the start.
 -spec phase() -> phase().
 phase() ->
     persistent_term:get(?MODULE, none).
@@ -54,7 +54,7 @@ is_ready() ->
         _ -> false
     end.
 
-%% @doc Says that the disk of a life has lost something. At the return that life is given up, durably, and the processes
+%% @doc Reports that the disk of a life has lost something. On return that life is given up, durably, and the processes
 %% of the store are about to end: the caller must not answer.
 -spec lost(cluster_lives:life(), Why :: string()) -> ok.
 lost(Life, Why) ->
@@ -160,7 +160,7 @@ new_incarnation(Named) ->
 say(Format, Arguments) ->
     io:format(standard_error, Format ++ "~n", Arguments).
 
-%% A new life needs room.
+%% Repeats a step of a new life while the disk is full.
 again_if_full(Step) ->
     case Step() of
         Full when Full =:= full; Full =:= {error, disk_full} ->
@@ -171,7 +171,7 @@ again_if_full(Step) ->
             Done
     end.
 
-%% Takes what the places that answer have. Those that start now are waited for a little.
+%% Takes the versions of the places that answer. Waits a little for places that are starting.
 take_what_is_lacking(Deadline) ->
     Lacking = cluster_repair:round(),
     IsLate = erlang:monotonic_time(millisecond) > Deadline,
@@ -190,7 +190,7 @@ is_starting(Place) ->
         down -> false
     end.
 
-%% A number isn't used after a later one: then this disk is an old one.
+%% Gives up the life if a later one of this place has begun: this disk is an old one.
 check_for_a_later_life(Life) ->
     Here = cluster_ring:here(),
     Ask = fun(Place) -> cluster_wire:call(Place, cluster_lives, known, [Here]) end,

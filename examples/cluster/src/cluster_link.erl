@@ -3,8 +3,8 @@
 
 -export([call/5]).
 
-%% @doc Calls a function at another place by {@link cluster_wire:serve/5}, with a limit in milliseconds. It raises what
-%% `erpc:call/5' raises.
+%% @doc Calls a function at another place by {@link cluster_wire:serve/5}, with a limit in milliseconds. It raises like
+%% `erpc:call/5'.
 -spec call(cluster_ring:place(), module(), Function :: atom(), Arguments :: [term()], LimitMs :: pos_integer()) ->
     Result :: term().
 call(Place, Module, Function, Arguments, LimitMs) ->

@@ -1,8 +1,8 @@
 %% @doc The lives of all places that this place knows of, in the file `lives': the greatest incarnation of each.
 %%
 %% A life is the number of a disk in clocks: its place, and 32 times its incarnation, from 1 to 2,047. A place learns
-%% incarnations when a new life is told, and from the clocks that it stores. They are on its disk before anything relies
-%% on them.
+%% incarnations when another place announces its new life, and from the clocks that it stores. They are on its disk
+%% before anything relies on them.
 -module(cluster_lives).
 -behaviour(gen_server).
 
@@ -17,7 +17,7 @@
 -define(GREATEST, 2047).
 
 -type incarnation() :: 0..?GREATEST.
-%% 0: none has begun.
+%% 0: no life has begun.
 -type life() :: pos_integer().
 
 %% @doc Returns the number of a life in clocks.
@@ -45,7 +45,7 @@ greatest() ->
 start_link() ->
     gen_server:start_link({local, ?MODULE}, ?MODULE, cluster_settings:folder(), []).
 
-%% @doc Returns what the file is. A place knows nothing before it is whole.
+%% @doc Returns the state of the file. Until it is whole, the place knows nothing.
 -spec state() -> whole | missing | damaged.
 state() ->
     case persistent_term:get(?MODULE) of
@@ -53,7 +53,7 @@ state() ->
         State -> State
     end.
 
-%% @doc Writes a file, unless it is whole: one that was damaged has been kept aside, or there was none.
+%% @doc Writes a new file, unless it is whole: a damaged file has been kept aside, or there was none.
 -spec begin_anew() -> ok | {error, disk_full}.
 begin_anew() ->
     gen_server:call(?MODULE, begin_anew, infinity).
@@ -66,7 +66,7 @@ known(Place) ->
         _ -> {error, starting}
     end.
 
-%% @doc Brings incarnations to the disk that are greater than those known. Refused: `starting', `disk_full'.
+%% @doc Brings incarnations that are greater than the known ones to the disk. Refused: `starting', `disk_full'.
 -spec learn([{cluster_ring:place(), incarnation()}]) -> ok | {error, starting | disk_full}.
 learn(Incarnations) ->
     gen_server:call(?MODULE, {learn, Incarnations}, infinity).

@@ -1,20 +1,19 @@
-%% @doc A log in a folder, with a checkpoint. A start shows whether it has all that was logged.
+%% @doc A log in a folder, with a checkpoint. A start shows whether the log has everything that was logged.
 %%
-%%     manifest      whose the log is, and what must be there: a file of a term ({@link cluster_disk})
-%%     synced        the place up to which the log is synced at least: 8 bytes, and their crc32
+%%     manifest      the owner of the log, and the files that must be there: a file of a term ({@link cluster_disk})
+%%     synced        a place, at most the one up to which the log is synced: 8 bytes, and their crc32
 %%     log.N         records ({@link cluster_records}), with N from `first' to `last' of the manifest
-%%     checkpoint.N  what was logged before log.N began, with N = `first'
+%%     checkpoint.N  everything that was logged before log.N began, with N = `first'
 %%
 %% The manifest is a map: the owner, the numbers `first' and `last', the place of the first record of the first file,
-%% the size and the MD5 of the checkpoint, or `none', and a note, in which the owner keeps what it wants. It is replaced
-%% in one step.
+%% the size and the MD5 of the checkpoint, or `none', and a note for the owner's use. It is replaced in one step.
 %%
-%% A group of terms is one record, which is synced. Then its place is noted in `synced', by a write in place, and then
-%% the group may go out. `synced' is synced itself when a log file begins. So after a crash of the machine it may be
-%% behind, and is never ahead. A crash leaves at most one record that isn't whole: a *torn tail*, in the last file, not
-%% below the synced place, with no whole record of a later place behind it. A start cuts it off, and appends to the last
-%% file, so it needs no room. A crash also leaves files before the first one, an empty log file after the last one, and
-%% checkpoints that no manifest names. All else that differs is damage.
+%% A group of terms is one record. It is synced, then its place is noted in `synced', by a write in place, and then the
+%% group may be acknowledged. `synced' itself is synced only when a log file begins, so it may be behind after a crash
+%% of the machine, but is never ahead. A crash leaves at most one record that isn't whole: a *torn tail*, in the last
+%% file, not below the synced place, with no whole record of a later place behind it. A start cuts it off, and appends
+%% to the last file, which needs no space. A crash also leaves files before the first one, an empty log file after the
+%% last one, and checkpoints that no manifest names. Every other difference is damage.
 -module(cluster_log).
 
 -export([make/3, check/2, open/4, write/2, close/1, note/1, set_note/2]).
@@ -26,13 +25,13 @@
 
 -import(cluster_manifest, [damaged/1, damaged/2, path/2, log_file/2]).
 
-%% Terms of a record. A larger group is synced in several, and goes out after the last.
+%% Maximum number of terms in a record. A larger group takes several records, and is acknowledged after the last one.
 -define(MOST_TERMS, 1000).
 
 -record(log, {
     folder :: file:filename(),
     manifest :: cluster_manifest:manifest(),
-    %% The last file, its length, the place of the next record, and that of the file's first one.
+    %% The last file, its length, the place of the next record, and the place of the file's first record.
     file :: file:io_device(),
     length :: non_neg_integer(),
     place :: cluster_records:place(),
@@ -44,7 +43,7 @@
 
 %% ---- a new log
 
-%% @doc Makes an empty log in a folder that has none. The manifest is last.
+%% @doc Makes an empty log in a folder without one. The manifest is written last.
 -spec make(file:filename(), cluster_manifest:owner(), Note :: term()) -> ok | full.
 make(Folder, Owner, Note) ->
     Zero = cluster_manifest:place_bytes(0),
@@ -94,7 +93,8 @@ open(Folder, Owner, Load, Fun) ->
             Damaged
     end.
 
-%% Cuts off a torn tail. All is synced: after a crash of the process alone the file can have what isn't on the disk.
+%% Cuts off a torn tail, and syncs the file: after a crash of just the process, it can have bytes that aren't on the
+%% disk.
 open_last(File, End) ->
     Device = open_file(File),
     ok = cut(File, Device, End),
@@ -119,7 +119,7 @@ note_if_behind(#log{folder = Folder} = Log, _) ->
         full -> cluster_disk:failed(path(Folder, "synced"), enospc)
     end.
 
-%% Reads a manifest, and all that it says must be there.
+%% Reads a manifest, and all files that it names.
 read(Folder, Owner, Load, Fun) ->
     try
         {ok, read_all(Folder, cluster_manifest:read(Folder, Owner), Load, Fun)}
@@ -135,7 +135,7 @@ read_all(Folder, #{first := First, last := Last, first_place := Place} = Manifes
     Next >= Synced orelse damaged("the end of the log is damaged or missing"),
     {Manifest, Synced, Begun, Read}.
 
-%% Returns the place with which the last file begins, and where the reading ended.
+%% Returns the place at which the last file begins, and the place at which the reading ended.
 read_files(Folder, Last, Last, {_, Begun, _} = Before, Fun) ->
     {Begun, read_file(Folder, Last, [none, torn], Before, Fun)};
 read_files(Folder, Number, Last, Before, Fun) ->
@@ -154,7 +154,7 @@ read_file(Folder, Number, Tails, {_, Place, Acc}, Fun) ->
 
 %% ---- records
 
-%% @doc Logs a group of terms, and returns after they are on the disk. If it is full, none of them is.
+%% @doc Logs a group of terms, and returns once they are on the disk. If the disk is full, none of them is.
 -spec write(log(), [term()]) -> {ok | full, log()}.
 write(#log{length = Length, file = Device} = Log, Terms) ->
     Written = write_all(Log, Terms),
@@ -179,7 +179,7 @@ write_all(#log{file = Device, length = Length, place = Place} = Log, Terms) ->
             full
     end.
 
-%% A full disk has room for it in general, since the bytes are there.
+%% Notes the synced place. A full disk usually has space for it, since the bytes exist.
 note_synced(#log{folder = Folder, synced = Device, place = Place}) ->
     Result = file:pwrite(Device, 0, cluster_manifest:place_bytes(Place)),
     cluster_disk:full_or_done(path(Folder, "synced"), Result).
@@ -202,7 +202,7 @@ set_note(#log{manifest = Manifest} = Log, Note) ->
 
 %% ---- checkpoints
 
-%% @doc Begins a new log file: a checkpoint has what was logged before it.
+%% @doc Begins a new log file. Its checkpoint has everything that was logged before it.
 -spec begin_file(log()) -> {ok | full, log()}.
 begin_file(#log{folder = Folder, manifest = #{last := Last} = Manifest, synced = Synced} = Log) ->
     File = log_file(Folder, Last + 1),
@@ -226,7 +226,7 @@ begin_file(File, {full, Log}) ->
 checkpoint(#log{folder = Folder, manifest = #{last := Last}}) ->
     cluster_manifest:checkpoint_file(Folder, Last).
 
-%% @doc Returns the time at which the checkpoint was saved with which the log begins, in seconds of the system's time.
+%% @doc Returns the time at which the log's checkpoint was saved, in seconds of the system's time.
 -spec saved(log()) -> integer() | none.
 saved(#log{manifest = #{checkpoint := none}}) ->
     none;
@@ -236,7 +236,7 @@ saved(#log{folder = Folder, manifest = #{first := First}}) ->
         {error, _} -> none
     end.
 
-%% @doc Writes a checkpoint, in any process. Its seal says what must be there after {@link adopt/2}.
+%% @doc Writes a checkpoint, in any process. Its seal is for {@link adopt/2}.
 -spec save(file:filename(), Write :: fun((file:io_device()) -> ok | {error, term()})) ->
     {ok, cluster_manifest:seal()} | full.
 save(File, Write) ->
@@ -250,7 +250,7 @@ save(File, Write) ->
             full
     end.
 
-%% @doc Begins the log with the checkpoint of the last log file, and removes what is older.
+%% @doc Makes the log begin with the checkpoint of the last log file, and removes the older files.
 -spec adopt(log(), cluster_manifest:seal()) -> {ok | full, log()}.
 adopt(#log{folder = Folder, manifest = #{last := Last} = Manifest, begun = Begun} = Log, Seal) ->
     case with_manifest(Log, Manifest#{first := Last, first_place := Begun, checkpoint := Seal}) of

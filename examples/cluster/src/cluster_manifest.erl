@@ -1,4 +1,4 @@
-%% @doc The manifest of a log: whose the log is, and which files must be there ({@link cluster_log}).
+%% @doc The manifest of a log: its owner, and the files that must be there ({@link cluster_log}).
 -module(cluster_manifest).
 
 -export([new/2, read/2, write/2, read_synced/1, place_bytes/1, check_later/2, read_checkpoint/2, remove_leftovers/2]).
@@ -22,7 +22,7 @@
 new(Owner, Note) ->
     #{owner => Owner, first => 1, last => 1, first_place => 0, checkpoint => none, note => Note}.
 
-%% @doc Reads the manifest of a folder. Throws `{damaged, Why}' if it isn't the owner's, as the functions below do.
+%% @doc Reads the manifest of a folder. Throws `{damaged, Why}' if it isn't the owner's, like the functions below.
 -spec read(file:filename(), owner()) -> manifest().
 read(Folder, Owner) ->
     case cluster_disk:read_term(path(Folder, "manifest")) of
@@ -55,7 +55,7 @@ read_synced(Folder) ->
 place_bytes(Place) ->
     <<Place:64, (erlang:crc32(<<Place:64>>)):32>>.
 
-%% @doc Checks that no file shows a manifest that is later than this one.
+%% @doc Checks that no file shows that a later manifest was written.
 -spec check_later(file:filename(), manifest()) -> ok.
 check_later(Folder, #{last := Last}) ->
     Later = [Name || {Kind, Number, Name} <- numbered(Folder), Number > Last, is_evidence(Folder, Kind, Name)],
@@ -79,7 +79,7 @@ read_checkpoint(Folder, #{first := First, checkpoint := Seal}) ->
         {error, Reason} -> damaged(filename:basename(File), Reason)
     end.
 
-%% @doc Removes what a crash left: nothing of it is named by the manifest.
+%% @doc Removes the leftovers of a crash, which the manifest doesn't name.
 -spec remove_leftovers(file:filename(), manifest()) -> ok.
 remove_leftovers(Folder, #{first := First, last := Last, checkpoint := Seal}) ->
     Kept = [{"checkpoint", First} || Seal =/= none] ++ [{"log", Number} || Number <- lists:seq(First, Last)],
@@ -111,11 +111,11 @@ seal(Device, Size, Md5) ->
 damaged(Name, enoent) -> damaged(Name ++ " is missing");
 damaged(Name, Reason) -> damaged(Name ++ " can't be read: " ++ atom_to_list(Reason)).
 
-%% @doc Throws what is damaged.
+%% @doc Throws a description of the damage.
 -spec damaged(Why :: string()) -> no_return().
 damaged(Why) -> throw({damaged, Why}).
 
-%% The log files and the checkpoints of a folder, with their numbers.
+%% Returns the log files and the checkpoints of a folder, with their numbers.
 numbered(Folder) ->
     [{Kind, Number, Name} || Name <- cluster_disk:names(Folder), {Kind, Number} <- kind(Name)].
 

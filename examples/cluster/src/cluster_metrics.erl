@@ -7,13 +7,14 @@
 -export_type([name/0, labels/0, histogram/0]).
 
 -define(BOUNDS_MICROS, [500, 1000, 2500, 5000, 10000, 25000, 50000, 100000, 250000, 500000, 1000000, 2500000]).
-%% A row of a histogram is its key, the sum of its samples, and the count of each bound and of what is over the last.
+%% A row of a histogram is its key, the sum of its samples, a count for each bound, and a count for the samples over the
+%% last bound.
 -define(FIRST_BOUND, 3).
 
 -type name() :: atom().
 -type labels() :: [{atom(), atom() | integer() | binary()}].
 -type histogram() :: #{sum_micros := non_neg_integer(), counts := [non_neg_integer()]}.
-%% A count for each bound, of samples up to it and over the one before, and one for the rest.
+%% A count for each bound, of samples up to it and over the previous bound, and a count for the rest.
 
 %% @doc Makes the table, which this process owns.
 -spec begin_table() -> ok.
@@ -21,7 +22,7 @@ begin_table() ->
     ?MODULE = ets:new(?MODULE, [named_table, public, {write_concurrency, true}]),
     ok.
 
-%% @doc Counts one.
+%% @doc Adds one to a counter.
 -spec count(name(), labels()) -> ok.
 count(Name, Labels) ->
     add(Name, Labels, 1).

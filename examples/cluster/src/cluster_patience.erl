@@ -1,8 +1,8 @@
-%% @doc The time for which this node waits for another place alone, before it asks a further one.
+%% @doc The time that this node waits for a place before it asks another one as well.
 %%
-%% It follows the measured latency of that place for that kind of call: the mean, and eight deviations, which are
-%% measured as TCP does. A place that answers other calls meanwhile is busy, and not silent: then a further one would
-%% only be asked for more work. A silent place isn't down yet: see {@link cluster_wire}.
+%% It follows the measured latency of that place for that kind of call: the mean plus eight deviations, which are
+%% measured as TCP does. A place that responds to other calls meanwhile is busy, not silent: another place would only be
+%% asked for more work. A silent place isn't down yet: see {@link cluster_wire}.
 -module(cluster_patience).
 
 -export([begin_table/0, ms/2, is_silent/2, note/3]).
@@ -11,7 +11,7 @@
 
 -define(LEAST_MS, 20).
 -define(DEVIATIONS, 8).
-%% Before the first call.
+%% The time before the first call.
 -define(UNKNOWN_MS, 100).
 
 -type kind() :: {module(), Function :: atom()}.
@@ -33,7 +33,7 @@ ms(Place, Kind) ->
             ?UNKNOWN_MS
     end.
 
-%% @doc Returns true if nothing was heard of a place for a time in milliseconds.
+%% @doc Returns true if nothing was heard from a place for a time in milliseconds.
 -spec is_silent(cluster_ring:place(), Ms :: pos_integer()) -> boolean().
 is_silent(Place, Ms) ->
     case ets:lookup(?MODULE, Place) of
@@ -41,7 +41,7 @@ is_silent(Place, Ms) ->
         [] -> true
     end.
 
-%% @doc Takes the latency of a call that was answered now, in microseconds. (Of two at one moment, one may be lost.)
+%% @doc Records the latency of a call that was answered now, in microseconds. (Of two at one moment, one may be lost.)
 -spec note(cluster_ring:place(), kind(), Micros :: non_neg_integer()) -> ok.
 note(Place, Kind, Micros) ->
     Sample = min(Micros, 1000 * cluster_wire:limit_ms()),

@@ -1,7 +1,7 @@
-%% @doc The metrics of this node as a text for Prometheus.
+%% @doc The metrics of this node as text for Prometheus.
 %%
-%% What processes count is asked of all at once, for half a second at most: one that waits for its disk is left out, and
-%% is late in `cluster_late'.
+%% All processes are asked for their counts at once, for half a second at most. A process that waits for its disk is
+%% left out, and is late in `cluster_late'.
 -module(cluster_prometheus).
 
 -export([text/0]).
@@ -17,7 +17,7 @@ text() ->
     Metrics = counters() ++ gauges() ++ asked(),
     [lists:map(fun metric/1, Metrics), lists:map(fun histogram/1, histograms())].
 
-%% ---- what is in tables
+%% ---- metrics in tables
 
 -spec counters() -> [metric()].
 counters() ->
@@ -58,7 +58,7 @@ gauge(Name, Help, Samples) ->
 number(true) -> 1;
 number(false) -> 0.
 
-%% ---- what processes count
+%% ---- counts of processes
 
 -spec asked() -> [metric()].
 asked() ->
@@ -72,7 +72,7 @@ asked() ->
         lists:append([of_hints(Counts) || {hints, {ok, Counts}} <- Answers]) ++
         lists:append([of_slots(Counts) || {slots, {ok, Counts}} <- Answers]).
 
-%% (A node without a life has none of these processes.)
+%% (A node without a life doesn't have these processes.)
 ask(Name) ->
     try
         {ok, ask_process(Name)}

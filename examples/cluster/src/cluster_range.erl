@@ -1,12 +1,12 @@
 %% @doc A range that this node holds: its replica, its log and its checkpoint.
 %%
-%% Nothing that isn't on the disk leaves this process. A call makes its answer, and if the journal has entries that
+%% Nothing leaves this process before it is on the disk. A call makes its answer, and if the journal has entries that
 %% aren't in the log, the answer waits. When no other call waits in the mailbox, all these entries are logged, the log
-%% is synced once, and all answers that wait go out. This holds for reads and offers as well, and for the entries that a
+%% is synced once, and all waiting answers are sent. This holds for reads and offers as well, and for the entries that a
 %% sync, which another process runs, adds meanwhile.
 %%
-%% If the disk is full, the replica is thrown away, and loaded again from the disk, so nothing is shown that isn't
-%% logged. Then calls that would change it are refused as `disk_full'.
+%% If the disk is full, the replica is thrown away, and loaded again from the disk, so that nothing unlogged is shown.
+%% Calls that would change it are refused as `disk_full'.
 %%
 %% The range of a new life is *joining* until all other holders' versions are in it: until then its row isn't one of the
 %% R that a read has seen. The note in its manifest says so.
@@ -20,9 +20,9 @@
 
 -export_type([counts/0, sizes/0, row/0]).
 
-%% Answers that wait at most for one sync of the log.
+%% Maximum number of answers that wait for one sync of the log.
 -define(MOST_WAITING, 512).
-%% Time after which a renewal that was refused is tried again.
+%% Time after which a refused renewal is tried again.
 -define(RENEW_AGAIN_MS, 1000).
 
 -type counts() :: #{
@@ -44,7 +44,7 @@
     queue := non_neg_integer()
 }.
 -type bytes() :: #{rows := non_neg_integer(), journal := non_neg_integer(), sessions := non_neg_integer()}.
-%% (`entries' are those of the journal, at most `limit'. The bytes are those of {@link antientropy:bytes/1}.)
+%% (`entries' is the length of the journal, at most `limit'. The bytes are from {@link antientropy:bytes/1}.)
 -type row() :: {Key :: binary(), [antientropy:version()]}.
 -type request() :: tuple() | atom().
 
@@ -55,7 +55,7 @@
     log :: cluster_log:log(),
     %% The number of the first entry that isn't in the log. Renewals keep it.
     logged :: non_neg_integer(),
-    %% Entries logged since the last checkpoint, and the process that saves one now.
+    %% Entries logged since the last checkpoint, and the process that now saves one.
     since_checkpoint :: non_neg_integer(),
     saver :: pid() | undefined,
     %% Entries of the journal after the last renewal, and the renewal in progress.
@@ -66,13 +66,13 @@
     offered = #{} :: #{cluster_ring:place() => {Number :: pos_integer(), antientropy_snapshot:snapshot()}},
     %% Monitors of the processes that sync into the replica.
     borrowers = #{} :: #{reference() => pid()},
-    %% Holders whose versions aren't all in the range of a new life, and those of which all weren't taken yet since this
-    %% process began.
+    %% Holders whose versions aren't all in the range of a new life, and holders whose versions this process hasn't all
+    %% taken yet.
     lacking :: [cluster_ring:place()],
     unchecked :: [cluster_ring:place()]
 }).
 
-%% @doc Starts the process of a range, with what is on its disk.
+%% @doc Starts the process of a range, with the versions on its disk.
 -spec start_link(cluster_ring:range()) -> {ok, pid()} | {error, term()}.
 start_link(Range) ->
     gen_server:start_link({local, name(Range)}, ?MODULE, Range, []).
@@ -91,8 +91,8 @@ put(Range, Key, Value, Context) ->
 copies(Range, Copies) ->
     call(Range, {copies, Copies}).
 
-%% @doc Accepts a version that its coordinator put. If it is known, or its clock is that of another value, the versions
-%% of its key are returned: they show the coordinator what it has forgotten.
+%% @doc Accepts a version that its coordinator put. If it is known, or its clock belongs to another value, returns the
+%% versions of its key, which show the coordinator what it has forgotten.
 -spec copy(cluster_ring:range(), Key :: binary(), antientropy:version()) ->
     {ok, new | {known, [antientropy:version()]}} | antientropy:refused().
 copy(Range, Key, Version) ->
@@ -109,20 +109,20 @@ own(Range, Key) ->
 row(Range, Key) ->
     call(Range, {row, Key}).
 
-%% @doc Accepts rows of a key that other holders returned, and returns the versions held then, and their row. A full
-%% disk doesn't take the rows, but they are in the result. Refused: `down' (with this one they are fewer than R).
+%% @doc Accepts rows of a key that other holders returned, and returns the versions now held, and their row. A full disk
+%% doesn't take the rows, but they are in the result. Refused: `down' (with this replica they are fewer than R).
 -spec read(cluster_ring:range(), Key :: binary(), Rows :: [binary()], R :: pos_integer()) ->
     {ok, [antientropy:version()], Row :: binary()} | antientropy:refused().
 read(Range, Key, Rows, R) ->
     call(Range, {read, Key, Rows, R}).
 
-%% @doc Accepts a row of a key that another holder has, and returns the row held then. Refused: `disk_full', what {@link
+%% @doc Accepts a row of a key from another holder, and returns the row now held. Refused: `disk_full', what {@link
 %% antientropy:load_rows/2} refuses.
 -spec take_row(cluster_ring:range(), Key :: binary(), Row :: binary()) -> {ok, Row :: binary()} | {error, term()}.
 take_row(Range, Key, Row) ->
     call(Range, {take_row, Key, Row}).
 
-%% @doc Returns the other holders that may still show that this disk has lost something: not all that they have was
+%% @doc Returns the other holders that may still show that this disk has lost something: not all their versions were
 %% taken since the start.
 -spec unchecked(cluster_ring:range()) -> [cluster_ring:place()].
 unchecked(Range) ->
@@ -133,14 +133,14 @@ unchecked(Range) ->
 is_joined(Range) ->
     persistent_term:get({?MODULE, Range}, false).
 
-%% @doc Returns an offer of the rows now, for a partner. They are kept until its next offer. The caller's process makes
-%% the snapshot.
+%% @doc Returns an offer of the current rows for a partner. They are kept until its next offer. The caller's process
+%% makes the snapshot.
 -spec offer(cluster_ring:range(), Partner :: cluster_ring:place()) -> {ok, Offer :: binary()}.
 offer(Range, Partner) ->
     with_snapshot(Range, fun(Replica, Snapshot) -> {offer, Partner, Replica, Snapshot} end).
 
-%% @doc Returns the answers to the first of a partner's asks for its last offer: as many as a message may have, or one.
-%% There is none if it has another offer now. The caller's process makes them.
+%% @doc Returns the answers to the first of a partner's asks for its last offer: as many as fit in a message, and at
+%% least one. Returns none if the partner has another offer by now. The caller's process makes them.
 -spec serve(cluster_ring:range(), Partner :: cluster_ring:place(), Number :: pos_integer(), Asks :: [binary()]) ->
     [{ok, Answer :: binary()} | antientropy:refused()].
 serve(Range, Partner, Number, Asks) ->
@@ -163,13 +163,13 @@ answer_bytes({ok, Answer}) -> byte_size(Answer);
 answer_bytes({error, _}) -> 0.
 
 %% @doc Returns the replica, into which this process may sync until it gives it back or ends. Refused: `disk_full',
-%% `busy' (a renewal is in progress, or waits for others that borrowed it).
+%% `busy' (a renewal is in progress, or waits for other borrowers).
 -spec borrow(cluster_ring:range()) -> {ok, antientropy:replica()} | {error, busy | disk_full}.
 borrow(Range) ->
     call(Range, borrow).
 
-%% @doc Gives the replica back, and returns after all that was accepted is on the disk. It names the partner if all of
-%% its versions were taken.
+%% @doc Gives the replica back, and returns once everything accepted is on the disk. The last argument names the partner
+%% if all its versions were taken.
 -spec give_back(cluster_ring:range(), antientropy:replica(), {all_of, cluster_ring:place()} | some) -> ok.
 give_back(Range, Replica, Taken) ->
     call(Range, {give_back, Replica, Taken}).
@@ -179,7 +179,7 @@ give_back(Range, Replica, Taken) ->
 counts(Range) ->
     call(Range, counts).
 
-%% @doc Returns what the range counts without a look at its tree, and the number of calls that wait for it.
+%% @doc Returns the counts of the range that don't need its tree, and the number of calls that wait for it.
 -spec sizes(cluster_ring:range()) -> sizes().
 sizes(Range) ->
     call(Range, sizes).
@@ -189,8 +189,8 @@ sizes(Range) ->
 dump(Range) ->
     call(Range, dump).
 
-%% Makes a snapshot while others put, and then a request with it. The answer waits until all that the snapshot has is in
-%% the log. If the range has another replica then, does both again: entries of the one before may be lost.
+%% Makes a snapshot during puts, and then a request with it. The answer waits until everything in the snapshot is in the
+%% log. If the range has another replica by then, both are repeated, since entries of the previous one may be lost.
 with_snapshot(Range, Request) ->
     Replica = call(Range, replica),
     {ok, Snapshot} = antientropy:snapshot(Replica),
@@ -202,7 +202,7 @@ with_snapshot(Range, Request) ->
             Answer
     end.
 
-%% A disk may be slow, and a range that fails ends the call.
+%% Calls a range, without a time limit: a disk may be slow, and a range that fails ends the call.
 call(Range, Request) ->
     gen_server:call(name(Range), Request, infinity).
 
@@ -215,7 +215,7 @@ init(Range) ->
         {ok, State} ->
             {ok, join_if_complete(renew_if_due(State))};
         {damaged, Why} ->
-            %% (This process's supervisor waits for it, and maybe the life's process for the supervisor.)
+            %% (The supervisor waits for this process, and the process of the life may wait for the supervisor.)
             _ = spawn(cluster_life, lost, [Life, Why]),
             {stop, {shutdown, lost}}
     end.
@@ -239,7 +239,7 @@ load(Range, Life) ->
     end.
 
 %% @private
-%% @doc Serves a call. One for the replica doesn't wait for the log, since a handle shows nothing.
+%% @doc Serves a call. A call for the replica doesn't wait for the log, since a handle shows nothing.
 handle_call(replica, From, #state{replica = Replica} = State) ->
     ok = gen_server:reply(From, Replica),
     wait(State);
@@ -352,7 +352,7 @@ answer(dump, _, #state{replica = Replica} = State) ->
 answer(Request, _, State) ->
     {cluster_stray:call(?MODULE, Request), State}.
 
-%% The replica would take another value under a clock that it holds as a concurrent version.
+%% Accepts a copy. The replica would take another value under a clock that it holds, as a concurrent version.
 copied(Replica, Key, #{clock := Clock, value := Value} = Version) ->
     {ok, Versions} = antientropy:get(Replica, Key),
     case [Held || #{clock := Other, value := Held} <- Versions, Other =:= Clock, Held =/= Value] of
@@ -363,7 +363,8 @@ copied(Replica, Key, #{clock := Clock, value := Value} = Version) ->
 with_versions({ok, known}, Versions) -> {ok, {known, Versions}};
 with_versions(Accepted, _) -> Accepted.
 
-%% The range counts as one of R replicas unless it is joining, maybe since a new life began during the read.
+%% Reads if there are R rows. The range counts as one of them unless it is joining, maybe since a new life began
+%% meanwhile.
 read_enough(Rows, R, #state{lacking = []}, Read) when length(Rows) + 1 >= R -> Read();
 read_enough(Rows, R, _, Read) when length(Rows) >= R -> Read();
 read_enough(_, _, _, _) -> {error, down}.
@@ -389,7 +390,7 @@ close_offered(Partner, Offered) ->
 
 %% ---- the log
 
-%% Answers if everything is in the log. Otherwise the answers wait while calls are in the mailbox.
+%% Sends the answers if everything is in the log. Otherwise they wait while calls are in the mailbox.
 wait(#state{waiting = Waiting} = State) ->
     case is_logged(State) of
         true ->
@@ -403,8 +404,8 @@ wait(#state{waiting = Waiting} = State) ->
 is_logged(#state{replica = Replica, logged = Logged}) ->
     cluster_replica:entries(Replica) =:= Logged.
 
-%% Logs all entries that aren't in the log, syncs it once, and answers all. Entries may show that the disk has lost
-%% something: then none is logged, and nobody gets an answer.
+%% Logs all entries that aren't in the log, syncs it once, and sends all answers. If the entries show that the disk has
+%% lost something, none is logged, and no answer is sent.
 commit(#state{range = Range, replica = Replica, life = Life, logged = Logged} = State) ->
     {ok, Entries} = antientropy:entries(Replica, Logged),
     case cluster_replica:forgotten(Replica, Life, Entries) of
@@ -424,7 +425,7 @@ logged({full, Log}, _, State) ->
     ok = cluster_space:full(),
     refuse_all(State#state{log = Log}).
 
-%% Throws the replica away, and what was made of it, and answers the calls that wait by what is on the disk.
+%% Throws away the replica and everything made from it, and answers all waiting calls from the disk.
 refuse_all(#state{range = Range, life = Life, log = Log, waiting = Waiting, offered = Offered} = State) ->
     ok = cluster_log:close(Log),
     ok = stop_saver(State),
@@ -439,7 +440,7 @@ refuse_all(#state{range = Range, life = Life, log = Log, waiting = Waiting, offe
             lost(Why, State)
     end.
 
-%% A file that the process has begun would be in the way of the next one.
+%% Stops the process that saves a checkpoint. A file that it has begun would be in the way of the next one.
 stop_saver(#state{saver = undefined}) ->
     ok;
 stop_saver(#state{saver = Saver}) ->
@@ -450,13 +451,13 @@ stop_saver(#state{saver = Saver}) ->
         {'DOWN', Monitor, process, _, _} -> ok
     end.
 
-%% Answers nobody, and waits for the end.
+%% Sends no answer, and waits for its end.
 -spec lost(Why :: string(), #state{}) -> no_return().
 lost(Why, #state{life = Life}) ->
     ok = cluster_life:lost(Life, Why),
     timer:sleep(infinity).
 
-%% Sends the answers, when everything in them is in the log.
+%% Sends the answers once everything in them is in the log.
 answer_all(#state{waiting = Waiting} = State) ->
     [gen_server:reply(From, Answer) || {From, _, Answer} <- lists:reverse(Waiting)],
     join_if_complete(renew_if_due(renewed_if_made(checkpoint_if_due(State#state{waiting = []})))).
@@ -471,8 +472,8 @@ checkpoint_if_due(#state{saver = undefined, since_checkpoint = Since} = State) -
 checkpoint_if_due(State) ->
     State.
 
-%% Begins a new file of the log, and saves a snapshot in another process. It has all that the older files have, and
-%% maybe more, which a start finds again in the new file.
+%% Begins a new file of the log, and saves a snapshot in another process. The snapshot has everything in the older
+%% files, and maybe more, which a start finds again in the new file.
 checkpoint(#state{range = Range, log = Log} = State) ->
     case cluster_log:begin_file(Log) of
         {ok, Next} ->
@@ -516,7 +517,7 @@ lend(Borrower, #state{borrowers = Borrowers, replica = Replica} = State) ->
         false -> {{ok, Replica}, State#state{borrowers = Borrowers#{monitor(process, Borrower) => Borrower}}}
     end.
 
-%% A process may give back what it borrowed before this one started: it has no monitor then.
+%% Takes the replica back. A process that borrowed it before this one started has no monitor.
 returned(none, State) ->
     State;
 returned(Monitor, #state{borrowers = Borrowers} = State) ->
@@ -526,7 +527,7 @@ returned(Monitor, #state{borrowers = Borrowers} = State) ->
 monitor_of(Borrower, #state{borrowers = Borrowers}) ->
     hd([Monitor || {Monitor, Process} <- maps:to_list(Borrowers), Process =:= Borrower] ++ [none]).
 
-%% All that a partner had counts if it was taken into this replica.
+%% Notes that all versions of a partner were taken, if they were taken into this replica.
 taken(Replica, {all_of, Partner}, #state{replica = Replica, lacking = Lacking} = State) ->
     checked(Partner, State#state{lacking = lists:delete(Partner, Lacking)});
 taken(_, _, State) ->
@@ -542,7 +543,7 @@ checked(Partner, #state{range = Range, unchecked = Unchecked} = State) ->
             State
     end.
 
-%% All versions of the other holders are in the log.
+%% Joins once all versions of the other holders are in the log.
 join_if_complete(#state{range = Range, log = Log, lacking = []} = State) ->
     case cluster_log:note(Log) =:= joined orelse cluster_space:is_full() orelse cluster_log:set_note(Log, joined) of
         true ->
@@ -566,7 +567,7 @@ renew_if_due(#state{renewal = none, borrowers = Borrowers, replica = Replica} = 
 renew_if_due(State) ->
     State.
 
-%% Puts a renewal that is made in its place when everything is in the log: nobody else changes the replica meanwhile.
+%% Puts a finished renewal in place once everything is in the log: nobody else changes the replica meanwhile.
 renewed_if_made(#state{range = Range, replica = Replica, renewal = {made, _} = Made} = State) ->
     case is_logged(State) andalso cluster_renewal:finish(Made, Replica) of
         false ->
@@ -586,30 +587,31 @@ renewal_received(Message, #state{renewal = Renewal} = State) ->
 with_renewal({refused, Cause}, State) -> renewal_refused(Cause, State);
 with_renewal(Renewal, State) -> State#state{renewal = Renewal}.
 
-%% The range goes on, and tries again later.
+%% Logs a refused renewal. The range continues, and tries again later.
 renewal_refused(Cause, #state{range = Range} = State) ->
     ok = cluster_event:note(renewal_refused, [{range, Range}, {cause, Cause}]),
     _ = erlang:send_after(?RENEW_AGAIN_MS, self(), renew_again),
     State#state{renewal = later}.
 
-%% At nine tenths of the limit, once half of the room that the last renewal left is used.
+%% Returns true from nine tenths of the limit on, once half of the space that the last renewal left is used.
 is_renewal_due(#state{replica = Replica, held = Held}) ->
     {ok, #{entries := Entries, first := First, limit := Limit}} = antientropy:count(Replica),
     Used = Entries - First,
     Used * 10 >= Limit * 9 andalso Used > Held andalso (Used - Held) * 2 >= Limit - Held.
 
-%% From 95 percent on, the rest is for puts and deletes of the keys that are held: renewals make it free again.
+%% Returns true from 95 percent on: the rest is for puts and deletes of held keys, and renewals free it again.
 is_nearly_full(#state{held = Held}) ->
     Held * 20 >= cluster_settings:limit() * 19.
 
-%% If the journal has no room, logs and answers all that waits, and waits for a renewal in progress.
+%% If the journal is full, logs and answers everything that waits, and waits for a renewal in progress.
 with_room(State) ->
     case has_room(State) of
         true -> State;
         false -> with_renewal_awaited(all_logged(State))
     end.
 
-%% The last twentieth of the room isn't used while a renewal is in progress: keys that aren't held would fill it.
+%% Returns true if the journal has space. Keys that aren't held would fill it during a renewal, so its last twentieth
+%% isn't used until the renewal ends.
 has_room(#state{replica = Replica, renewal = Renewal}) ->
     {ok, #{entries := Entries, first := First, limit := Limit}} = antientropy:count(Replica),
     Used = Entries - First,

@@ -1,7 +1,7 @@
 %% @doc The records of a log file. A record is
 %%
-%%     place     8 bytes, the number of all records that were ever logged in the folder before it
-%%     length    4 bytes, that of the bytes
+%%     place     8 bytes, the number of records that were ever logged in the folder before it
+%%     length    4 bytes, the length of `bytes'
 %%     checksum  4 bytes, crc32 over place, length and bytes
 %%     bytes     a list of terms, by `term_to_binary'
 %%
@@ -16,8 +16,8 @@
 
 -type place() :: non_neg_integer().
 -type tail() :: none | torn | damaged.
-%% What follows the last whole record: nothing; a record that a crash may have cut off, since no whole one of a later
-%% place begins at any byte behind it; or anything else.
+%% The rest after the last whole record: nothing; a record that a crash may have cut off, since no whole record of a
+%% later place begins at any byte behind it; or anything else.
 
 %% @doc Returns the bytes of a record.
 -spec encode(place(), [term()]) -> binary().
@@ -47,7 +47,7 @@ fold(File, At, Place, Fun, Acc) ->
         none -> {At, Place, tail(Rest, Place), Acc}
     end.
 
-%% The place and the bytes of the record that begins here, if a whole one does.
+%% Returns the place and the bytes of the record that begins here, if it is whole.
 first(<<Place:64, Length:32, Sum:32, Bytes:Length/binary, _/binary>>) ->
     case sum(Place, Length, Bytes) of
         Sum -> {Place, Bytes};
@@ -64,7 +64,7 @@ tail(<<_, Rest/binary>>, Place) ->
         false -> torn
     end.
 
-%% Returns true if a whole record of a later place begins at some byte. So many bytes have no place over the last one.
+%% Returns true if a whole record of a later place begins at some byte. The bytes are too few for a place over the last.
 has_later(<<Place:64, _/binary>> = Bytes, Bad, Last) when Place > Bad, Place =< Last ->
     case first(Bytes) of
         none -> has_later_after(Bytes, Bad, Last);

@@ -1,6 +1,6 @@
 %% @doc Refusals of requests.
 %%
-%% A refusal is definite: the request wasn't done, and won't be. A put that is refused by `perhaps' may have happened,
+%% A refusal is definite: the request wasn't done, and won't be. A put that is refused with `perhaps' may have happened,
 %% or may happen later.
 -module(cluster_refusal).
 
@@ -10,12 +10,12 @@
 
 -type refused() ::
     {refused, Name :: atom()} | {perhaps, Name :: atom()} | {perhaps, hints_full, Owners :: [cluster_ring:place()]}.
-%% `hints_full': no carrier has room for hints for these owners.
+%% `hints_full': no carrier has space for hints for these owners.
 
-%% What a client can do something about is before what ends by itself.
+%% Refusals that a client can act on precede those that end by themselves.
 -define(ORDER, [stale_context, clock_full, counter_full, crowded, journal_full, disk_full, starting]).
 
-%% @doc Returns true if all holders refuse the request, since its input is bad.
+%% @doc Returns true if all holders would refuse the request, since its input is bad.
 -spec is_final(Name :: atom()) -> boolean().
 is_final(Name) ->
     lists:member(Name, [bad_key, bad_value, bad_clock, bad_context, other_range]).

@@ -1,5 +1,5 @@
-%% @doc The renewal of a range. Another process makes the new journal beside the range's calls. The range puts it in the
-%% place of the old one when all entries are in the log, so the log goes on at its place.
+%% @doc The renewal of a range. Another process makes the new journal while the range serves calls. The range puts it in
+%% place of the old one when all entries are in the log, so the log continues at its place.
 -module(cluster_renewal).
 
 -export([start/1, received/2, awaited/1, finish/2, is_in_progress/1, drop/1]).
@@ -8,13 +8,13 @@
 
 -type renewal() ::
     none | {making, Maker :: pid(), Monitor :: reference()} | made() | {refused, Cause :: atom()} | later.
-%% `later': it was refused, and is tried again later.
+%% `later': the renewal was refused, and is tried again later.
 -type made() :: {made, antientropy_renewal:renewal()}.
 -type message() ::
     {renewal, Maker :: pid(), {ok, antientropy_renewal:renewal()} | antientropy:refused()}
     | {'DOWN', Monitor :: reference(), process, Maker :: pid(), Why :: term()}.
 
-%% @doc Starts a process that makes a renewal, and sends a message when it has.
+%% @doc Starts a process that makes a renewal, and sends a message with it.
 -spec start(antientropy:replica()) -> renewal().
 start(Replica) ->
     Range = self(),
@@ -23,7 +23,8 @@ start(Replica) ->
     {Maker, Monitor} = spawn_monitor(Make),
     {making, Maker, Monitor}.
 
-%% @doc Returns the renewal after a message of a process that made one: maybe of a replica that isn't the range's now.
+%% @doc Returns the renewal after a message from a process that made one, perhaps of a replica that the range no longer
+%% has.
 -spec received(message(), renewal()) -> renewal().
 received({renewal, Maker, Result}, {making, Maker, Monitor}) ->
     true = demonitor(Monitor, [flush]),
@@ -47,7 +48,7 @@ awaited({making, Maker, Monitor} = Renewal) ->
 awaited(Renewal) ->
     Renewal.
 
-%% @doc Puts the new journal in the place of the old one, and frees that in another process. Returns the number of its
+%% @doc Puts the new journal in place of the old one, which is freed in another process. Returns the number of its
 %% entries.
 -spec finish(made(), antientropy:replica()) -> {ok, Held :: non_neg_integer()} | antientropy:refused().
 finish({made, Made} = Renewal, Replica) ->
@@ -58,13 +59,13 @@ finish({made, Made} = Renewal, Replica) ->
         Refused -> Refused
     end.
 
-%% @doc Returns true if a renewal is being made, or is made and isn't in its place.
+%% @doc Returns true if a renewal is being made, or is made but not in place.
 -spec is_in_progress(renewal()) -> boolean().
 is_in_progress({making, _, _}) -> true;
 is_in_progress({made, _}) -> true;
 is_in_progress(_) -> false.
 
-%% @doc Gives up a renewal. What it has is freed in another process, so that no call waits for it.
+%% @doc Gives up a renewal. Its memory is freed in another process, so that no call waits for it.
 -spec drop(renewal()) -> ok.
 drop({making, _, Monitor}) ->
     true = demonitor(Monitor, [flush]),

@@ -1,5 +1,5 @@
-%% @doc Anti-entropy in rounds (the Dynamo paper of 2007, section 4.7): in each, this node takes what it lacks of each
-%% range from each other holder.
+%% @doc Anti-entropy in rounds (the Dynamo paper, section 4.7): in each round, this node takes the versions that each of
+%% its ranges is missing from each other holder.
 -module(cluster_repair).
 -behaviour(gen_server).
 
@@ -8,9 +8,10 @@
 
 -export_type([counts/0]).
 
-%% A reply lacks answers if leaves are larger than estimated: these asks are lost, and sent again.
+%% Maximum number of lost asks. Asks without an answer in a reply are lost, and sent again: leaves were larger than
+%% estimated.
 -define(MOST_LOST, 4096).
-%% Bytes that a reply may have over their estimate, at most: a row alone may have 4 MB.
+%% Maximum number of bytes of a reply over their estimate: a single row may have 4 MB.
 -define(MOST_EXCESS, 8_000_000).
 %% Time between two tries to borrow a replica that is to be renewed.
 -define(BUSY_MS, 5).
@@ -22,18 +23,18 @@
 -type pull() :: {cluster_ring:range(), cluster_ring:place()}.
 -type failed() :: #{pull() => cause()}.
 -type excess() :: #{pull() => pos_integer()}.
-%% Bytes that the replies of a partner that was silent in the last round may have over their estimate: it has more time
-%% from round to round, so that a sync over a slow link comes to its end.
+%% Bytes that the replies of a partner that was silent in the last round may have over their estimate. It has more time
+%% from round to round, so that a sync over a slow link finishes.
 -type pulled() :: {all | cause(), Keys :: non_neg_integer(), Bytes :: non_neg_integer()}.
-%% `all', or the cause for which that wasn't all, and the numbers of versions and of bytes.
+%% `all', or the cause why not all versions were taken, and the numbers of versions and of bytes.
 
 -record(state, {
     counts = #{rounds => 0, keys => 0, bytes => 0} :: counts(),
-    %% What wasn't taken to the end in the last round.
+    %% Pulls that didn't take everything in the last round.
     failed = #{} :: failed(),
     excess = #{} :: excess(),
     timer :: reference() | undefined,
-    %% The round in progress, and those who wait for its end, or for that of the next one.
+    %% The round in progress, and the callers that wait for its end, or for the end of the next one.
     running :: reference() | undefined,
     waiting = [] :: [gen_server:from()],
     next = [] :: [gen_server:from()]
@@ -44,7 +45,7 @@
 start_link() ->
     gen_server:start_link({local, ?MODULE}, ?MODULE, [], []).
 
-%% @doc Runs a round now. Returns at its end the ranges and partners of which not all versions were taken.
+%% @doc Runs a round now. At its end, returns the ranges and partners whose versions weren't all taken.
 -spec round() -> [{cluster_ring:range(), cluster_ring:place()}].
 round() ->
     gen_server:call(?MODULE, round, infinity).
@@ -87,7 +88,7 @@ handle_info(Message, State) ->
     ok = cluster_stray:message(?MODULE, Message),
     {noreply, State}.
 
-%% After a start each range takes what the others have, and joins.
+%% Returns true if a range hasn't taken the others' versions yet, which it does after a start in order to join.
 is_unchecked() ->
     lists:any(fun(Range) -> cluster_range:unchecked(Range) =/= [] end, cluster_ring:held()).
 
@@ -117,7 +118,7 @@ grown(Failed, Excess) ->
     Grow = fun(Pull) -> min(?MOST_EXCESS, max(cluster_wire:message_bytes(), 2 * maps:get(Pull, Excess, 0))) end,
     maps:from_list([{Pull, Grow(Pull)} || {Pull, silent} <- maps:to_list(Failed)]).
 
-%% A sync that fails is said once, until it fails for another cause. (That a place is down has a line of its own.)
+%% Logs a failed sync once, until it fails for another cause. (A place that is down has a line of its own.)
 note_failure({_, Why}) when Why =:= down; Why =:= disk_full ->
     ok;
 note_failure({{Range, Partner}, Why}) ->
@@ -125,12 +126,12 @@ note_failure({{Range, Partner}, Why}) ->
 
 %% ---- a round
 
-%% All ranges, each with its other holders.
+%% Returns all ranges, each with its other holders.
 pulls() ->
     [{Range, Partner} || Range <- cluster_ring:held(), Partner <- cluster_ring:partners(Range)].
 
-%% Pulls each range from each other holder, as many at once as slots are lent. Returns the sums of keys and bytes, and
-%% the causes for which not all was taken.
+%% Pulls each range from each other holder, concurrently on the slots that are lent. Returns the sums of keys and bytes,
+%% and the cause of each pull that didn't take everything.
 -spec pull_all(excess()) -> {pulled, Keys :: non_neg_integer(), Bytes :: non_neg_integer(), failed()}.
 pull_all(Excess) ->
     Begun = [begin_pull(Pull, maps:get(Pull, Excess, 0)) || Pull <- pulls()],
@@ -156,12 +157,12 @@ pulled(Monitor) ->
             end
     end.
 
-%% (The slot is free again at the end of this process.)
+%% (The slot is free again when this process ends.)
 pull_admitted(Pull, Excess) ->
     ok = cluster_slots:lend(),
     pull(Pull, Excess).
 
-%% Takes what a partner has.
+%% Takes the versions of a partner.
 -spec pull(pull(), Excess :: non_neg_integer()) -> pulled().
 pull({Range, Partner} = Pull, Excess) ->
     case cluster_wire:call(Partner, cluster_range, offer, [Range, cluster_ring:here()]) of
@@ -169,7 +170,7 @@ pull({Range, Partner} = Pull, Excess) ->
         down -> {down, 0, 0}
     end.
 
-%% Borrows the replica, as soon as no renewal is in the way: a start must not go on without this pull.
+%% Borrows the replica, once no renewal is in the way: a start must not continue without this pull.
 borrowed(Range) ->
     case cluster_range:borrow(Range) of
         {error, busy} ->
@@ -196,7 +197,7 @@ pull_offered(_, _, _, {error, Name}) ->
 taken({all, _, _}, Partner) -> {all_of, Partner};
 taken(_, _) -> some.
 
-%% Others put meanwhile. If the roots are equal there is no session.
+%% Runs an exchange, during puts. If the roots are equal there is no session.
 sync({ok, Exchange}, Serve) ->
     try
         exchange(Exchange, Serve, 0)
@@ -206,7 +207,7 @@ sync({ok, Exchange}, Serve) ->
 sync({error, Name}, _) ->
     {Name, 0, 0}.
 
-%% Asks until nothing is left to ask, or the partner has no answers.
+%% Asks until there is nothing left to ask, or the partner returns no answers.
 exchange(Exchange, Serve, Bytes) ->
     case {antientropy_exchange:asks(Exchange), antientropy_exchange:progress(Exchange)} of
         {{ok, []}, {ok, #{accepted := Keys} = Progress}} ->
@@ -221,7 +222,7 @@ exchange(Exchange, Serve, Bytes) ->
             {Name, 0, Bytes}
     end.
 
-%% Takes answers, and returns their bytes.
+%% Takes answers, and returns their length in bytes.
 take(Exchange, Asks, Answers) ->
     Taken = [Answer || {ok, Answer} <- Answers],
     lists:foreach(fun(Answer) -> antientropy_exchange:take(Exchange, Answer) end, Taken),

@@ -1,18 +1,19 @@
-%% @doc What a range does with its replica: its start from the disk, puts, reads, and the test for what it has lost.
+%% @doc The replica of a range: its start from the disk, puts, reads, and the test for lost versions.
 -module(cluster_replica).
 
 -export([open/2, entries/1, used/1, sizes/1, root/1]).
 -export([put/5, own/3, read/3, read_apart/4, forgotten/3]).
 
-%% Scans of the journal for single entries: one pass for all costs more, and not more for more of them.
+%% Maximum number of scans of the journal for single entries. A pass for many entries costs more than a scan, but the
+%% same for any number of them.
 -define(MOST_SCANS, 32).
-%% The greatest limit: room for all that a disk may have.
+%% The greatest limit, enough for everything that a disk may have.
 -define(NO_LIMIT, 1000000).
 
 %% ---- the start
 
-%% @doc Opens the log of a range, and makes its replica. Returns the number of terms after the checkpoint, too. The node
-%% ends if the limit of the settings is smaller than what is held.
+%% @doc Opens the log of a range, and makes its replica. Also returns the number of terms after the checkpoint. The node
+%% ends if the limit in the settings is smaller than the number of held versions.
 -spec open(cluster_ring:range(), cluster_lives:life()) ->
     {ok, cluster_log:log(), antientropy:replica(), Terms :: non_neg_integer()} | {damaged, Why :: string()}.
 open(Range, Life) ->
@@ -34,7 +35,7 @@ open(Range, Life, Limit) ->
 allowed({ok, Replica}) -> Replica;
 allowed({error, journal_full}) -> throw(journal_full).
 
-%% Accepts a term of the log. A log has more terms than a journal may have entries, after renewals.
+%% Accepts a term of the log. After renewals, a log has more terms than a journal may have entries.
 accept_again({Key, Clock, Value}, Replica, Limit) ->
     Accept = fun(Into) -> antientropy:accept(Into, Key, #{clock => Clock, value => Value}) end,
     case Accept(Replica) of
@@ -62,19 +63,19 @@ renewed(Replica, Limit) ->
     ok = antientropy:close(Replica),
     Renewed.
 
-%% @doc Returns the number of the next entry: it goes on over renewals.
+%% @doc Returns the number of the next entry, which continues over renewals.
 -spec entries(antientropy:replica()) -> non_neg_integer().
 entries(Replica) ->
     {ok, #{entries := Entries}} = antientropy:about(Replica),
     Entries.
 
-%% @doc Returns the number of entries of the journal: at the limit it is full.
+%% @doc Returns the number of entries of the journal, which is full at the limit.
 -spec used(antientropy:replica()) -> non_neg_integer().
 used(Replica) ->
     {ok, #{entries := Entries, first := First}} = antientropy:count(Replica),
     Entries - First.
 
-%% @doc Returns what a replica counts.
+%% @doc Returns the counts of a replica.
 -spec sizes(antientropy:replica()) -> #{
     entries := non_neg_integer(),
     limit := pos_integer(),
@@ -118,7 +119,7 @@ put_under(Replica, Life, Key, Value, Clock) ->
         Refused -> Refused
     end.
 
-%% @doc Returns the versions of a key, and the greatest counter of a life in what was ever accepted for it.
+%% @doc Returns the versions of a key, and the greatest counter of a life that was ever accepted for it.
 -spec own(antientropy:replica(), cluster_lives:life(), Key :: binary()) ->
     {ok, [antientropy:version()], Top :: non_neg_integer()}.
 own(Replica, Life, Key) ->
@@ -126,7 +127,7 @@ own(Replica, Life, Key) ->
     {ok, Top} = antientropy:top_counter(Replica, Life, Key),
     {ok, Versions, Top}.
 
-%% @doc Accepts rows of a key, and returns the versions and the row held then.
+%% @doc Accepts rows of a key, and returns the versions and the row now held.
 -spec read(antientropy:replica(), Key :: binary(), Rows :: [binary()]) ->
     {ok, [antientropy:version()], Row :: binary()} | antientropy:refused() | {error, term()}.
 read(Replica, Key, Rows) ->
@@ -147,7 +148,7 @@ read(Replica, Key, _, [Other | Others]) ->
             Refused
     end.
 
-%% @doc Returns what {@link read/3} does, and leaves the replica unchanged.
+%% @doc Returns the result of {@link read/3}, and leaves the replica unchanged.
 -spec read_apart(antientropy:replica(), cluster_ring:range(), Key :: binary(), Rows :: [binary()]) ->
     {ok, [antientropy:version()], Row :: binary()} | antientropy:refused() | {error, term()}.
 read_apart(Replica, Range, Key, Rows) ->

@@ -3,10 +3,10 @@
 
 -export([install/0, format/2, text/1]).
 
-%% A report of a crash can have a state and a stack.
+%% Maximum length of a report in characters: the report of a crash can have a state and a stack.
 -define(MOST_CHARS, 4000).
 
-%% @doc Makes the default handler of the logger write its reports so.
+%% @doc Makes the logger's default handler write reports in this form.
 -spec install() -> ok.
 install() ->
     case logger:set_handler_config(default, formatter, {?MODULE, #{}}) of
@@ -32,7 +32,7 @@ message_or_none(Message, Meta) ->
 message({report, #{event := Name, fields := Fields}}, _) ->
     cluster_event:line(Name, Fields);
 message({report, #{alert := _, role := _} = Report}, #{report_cb := Text}) when is_function(Text, 1) ->
-    %% (Of TLS: it has nothing of what was sent.)
+    %% (A report of TLS has no data that was sent.)
     {Format, Arguments} = Text(Report),
     io_lib:format(Format, Arguments);
 message({string, _}, _) ->
@@ -42,14 +42,14 @@ message({report, Report}, _) ->
 message({Format, Arguments}, _) ->
     [head(Format), " ", text(Arguments)].
 
-%% A format has no bytes of a client, and its arguments may.
+%% A format has no bytes of a client, but its arguments may.
 head(Format) when is_atom(Format) -> atom_to_list(Format);
 head(Format) -> io_lib:format("~0tp", [unicode:characters_to_list(Format)]).
 
 char(Char) when Char < 32 -> $\s;
 char(Char) -> Char.
 
-%% @doc Returns a term as a text, with the sizes of binaries and of lists of bytes in place of their bytes.
+%% @doc Returns a term as text, with the sizes of binaries and of lists of bytes in place of their bytes.
 -spec text(term()) -> unicode:chardata().
 text(Bytes) when is_binary(Bytes) -> size_of(byte_size(Bytes));
 text(Bits) when is_bitstring(Bits) -> size_of(byte_size(Bits));

@@ -1,7 +1,7 @@
-%% @doc The ring: which places hold a key, and which carry hints for it (the Dynamo paper of 2007, sections 4.2, 4.3).
+%% @doc The ring: the places that hold a key, and those that carry hints for it (the Dynamo paper, sections 4.2, 4.3).
 %%
-%% The ring is of places, which never change. A place's number in clocks is its life, which does: see {@link
-%% cluster_life}. The preference list of a range is the list of places, rotated left by the range's number.
+%% The ring consists of places, which never change. A place's number in clocks is its life, which does change: see
+%% {@link cluster_life}. The preference list of a range is the list of places, rotated left by the range's number.
 -module(cluster_ring).
 
 -export([here/0, node_of/1, digest/0, replica_options/1, range/1, held/0, holders/1, carriers/1, partners/1, others/0]).
@@ -24,7 +24,7 @@ node_of(Place) ->
     {Place, Host} = lists:keyfind(Place, 1, cluster_settings:hosts()),
     list_to_atom("p" ++ integer_to_list(Place) ++ "@" ++ Host).
 
-%% @doc Returns a digest of the ring's settings. Nodes with different ones refuse each other's calls.
+%% @doc Returns a digest of the ring's settings. Nodes with different digests refuse each other's calls.
 -spec digest() -> binary().
 digest() ->
     Ring = {?FORMAT, cluster_settings:bits(), cluster_settings:hosts(), cluster_settings:quorums()},

@@ -1,8 +1,8 @@
-%% @doc The rows of a key at its holders: reads, and read repair (the Dynamo paper of 2007, section 4.5).
+%% @doc Rows of a key at its holders: reads, and read repair (the Dynamo paper, section 4.5).
 %%
 %% Each row has a process. It waits for the row that the read returned, and if its holder's row differs, both this node
-%% and that holder take what they lack. Equal rows cost no further message. This is done in the background, for a few
-%% rows at once: what is left out, a round of repair does.
+%% and that holder take their missing versions. Equal rows cost no further message. This is done in the background, for
+%% a few rows at once. A round of repair does the rest.
 -module(cluster_rows).
 
 -export([begin_counter/0, read/3]).
@@ -12,7 +12,7 @@
 -record(rows, {
     range :: cluster_ring:range(),
     key :: binary(),
-    %% Answers are sent to it, until enough are there.
+    %% Receives the answers until there are enough.
     alias :: reference(),
     unasked :: [cluster_ring:place()],
     %% Holders that haven't answered.
@@ -26,7 +26,7 @@
 begin_counter() ->
     persistent_term:put(?MODULE, atomics:new(1, [])).
 
-%% @doc Reads the rows of R holders into this node's range, and returns the versions that it holds then. Refused:
+%% @doc Reads the rows of R holders into this node's range, and returns the versions that it then holds. Refused:
 %% `down', what {@link cluster_range:read/4} refuses.
 -spec read(cluster_ring:range(), Key :: binary(), R :: pos_integer()) ->
     {ok, [antientropy:version()]} | cluster_refusal:refused().
@@ -54,7 +54,7 @@ flush(Alias) ->
 
 %% ---- the read's process
 
-%% Asks the holders that are up, and the others too if those are too few.
+%% Asks the holders that are up. If they are too few, asks the others as well.
 ask_enough(Range, Key, R) ->
     {Up, Down} = lists:partition(fun cluster_wire:is_up/1, cluster_ring:partners(Range)),
     Rows = #rows{range = Range, key = Key, alias = alias(), unasked = Down},
@@ -63,7 +63,7 @@ ask_enough(Range, Key, R) ->
         false -> gather(ask(Up ++ Down, Rows#rows{unasked = []}), R)
     end.
 
-%% The range of a new life may not count as one of R yet.
+%% Returns true if R rows can be read. The range of a new life may not count as one of them yet.
 is_enough(Count, Range, R) ->
     Count >= R orelse (Count + 1 >= R andalso cluster_range:is_joined(Range)).
 
@@ -89,7 +89,7 @@ gather(#rows{range = Range, alias = Alias, asked = Asked, found = Found} = Rows,
 gather_others(#rows{unasked = []} = Rows, _) -> Rows;
 gather_others(#rows{unasked = Down} = Rows, R) -> gather(ask(Down, Rows#rows{unasked = []}), R).
 
-%% When all are asked, those that are up have the time of a call.
+%% Returns the time to wait. Once all holders are asked, those that are up have the time limit of a call.
 wait_ms(#rows{unasked = Unasked, asked = Asked}) ->
     case Unasked =:= [] andalso lists:any(fun cluster_wire:is_up/1, Asked) of
         true -> cluster_wire:limit_ms();
@@ -129,7 +129,7 @@ if_few_do(Repair) ->
     atomics:add_get(Counter, 1, 1) =< ?MOST_WRITTEN_BACK andalso Repair(),
     atomics:sub(Counter, 1, 1).
 
-%% The holder may have versions that this node lacks, and may lack others.
+%% Exchanges rows with a holder. Each of the two nodes may have versions that the other one is missing.
 write_back(Range, Key, Holder, Row) ->
     case cluster_range:take_row(Range, Key, Row) of
         {ok, Row} -> ok;

@@ -1,6 +1,6 @@
 %% @doc The settings of this node: the parameters of the application `cluster'.
 %%
-%% All nodes have those of the ring alike ({@link cluster_ring:digest/0}). The others are each node's own.
+%% All nodes have the same settings of the ring ({@link cluster_ring:digest/0}). The others may differ.
 -module(cluster_settings).
 
 -export([check/0]).
@@ -10,7 +10,7 @@
 
 -export_type([front/0]).
 
-%% Numbers in clocks have room for so many places: see {@link cluster_lives}.
+%% Maximum number of places, by the numbers in clocks: see {@link cluster_lives}.
 -define(MOST_PLACES, 31).
 -define(MOST_BITS, 8).
 -define(MOST_LIMIT, 1000000).
@@ -22,12 +22,12 @@
     tls := {CertFile :: file:filename(), KeyFile :: file:filename()} | none,
     token := file:filename() | none
 }.
-%% An HTTP front: where it listens, how many connections it has at most, its certificate, and the file with the token
-%% that a request must have.
+%% An HTTP front: its address, its maximum number of connections, its certificate, and the file with the token that a
+%% request must have.
 
 %% ---- the check
 
-%% @doc Returns why the settings can't be those of a node, if they can't.
+%% @doc Checks the settings. An error says which one is missing or invalid.
 -spec check() -> ok | {error, Why :: string()}.
 check() ->
     try
@@ -104,8 +104,8 @@ places() -> [Place || {Place, _} <- hosts()].
 -spec bits() -> 0..?MOST_BITS.
 bits() -> value(bits).
 
-%% @doc Returns the numbers of places that hold a range, that a read has seen, and that have a put before its answer.
-%% A request may name other numbers R and W.
+%% @doc Returns the numbers of places that hold a range, that a read must see, and that must have a put before its
+%% answer. A request may name other numbers R and W.
 -spec quorums() -> {N :: pos_integer(), R :: pos_integer(), W :: pos_integer()}.
 quorums() -> value(quorums).
 
@@ -133,7 +133,7 @@ front(Host, Port, Token) ->
         token => value(Token)
     }.
 
-%% The address of a host: by IPv6 if it has no other.
+%% Returns the address of a host, by IPv6 if it has no other.
 address(Host) ->
     case inet:getaddr(Host, inet) of
         {ok, Address} ->
@@ -143,7 +143,7 @@ address(Host) ->
             Address
     end.
 
-%% @doc Returns the number of entries that a range's journal may have.
+%% @doc Returns the maximum number of entries of a range's journal.
 -spec limit() -> pos_integer().
 limit() -> value(limit).
 
@@ -151,7 +151,7 @@ limit() -> value(limit).
 -spec checkpoint_entries() -> pos_integer().
 checkpoint_entries() -> value(checkpoint_entries).
 
-%% @doc Returns the bytes of the hints that may be pending for an owner and a range.
+%% @doc Returns the maximum number of bytes of the pending hints for an owner and a range.
 -spec hint_bytes() -> pos_integer().
 hint_bytes() -> value(hint_bytes).
 
@@ -159,20 +159,20 @@ hint_bytes() -> value(hint_bytes).
 -spec round_ms() -> pos_integer().
 round_ms() -> value(round_ms).
 
-%% @doc Returns the least and the greatest number of slots, and the latency of a slow put in microseconds.
+%% @doc Returns the minimum and the maximum number of slots, and the latency of a slow put in microseconds.
 -spec slots() -> {Floor :: pos_integer(), Ceiling :: pos_integer(), ThresholdMicros :: pos_integer()}.
 slots() -> value(slots).
 
-%% @doc Returns true if rounds of repair begin by themselves. Without them a range still takes what others have
+%% @doc Returns true if rounds of repair begin by themselves. Without them a range still takes the others' versions
 %% after a start.
 -spec is_repair_on() -> boolean().
 is_repair_on() -> value(repair) =:= on.
 
-%% @doc Returns true if hints are handed on to their owners.
+%% @doc Returns true if hints are delivered to their owners.
 -spec is_handoff_on() -> boolean().
 is_handoff_on() -> value(handoff) =:= on.
 
-%% @doc Returns true if gets write back to holders what their rows lack.
+%% @doc Returns true if gets write missing versions back to holders.
 -spec is_read_repair_on() -> boolean().
 is_read_repair_on() -> value(read_repair) =:= on.
 

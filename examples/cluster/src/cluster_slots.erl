@@ -13,7 +13,7 @@
     slots :: antientropy_slots:slots(),
     %% The 99th percentile of the latency of puts in the last minute.
     p99_micros = none :: non_neg_integer() | none,
-    %% Monitors of the processes that have a slot, one for each slot, and of those that wait for one, the first first.
+    %% Monitors of the processes that have a slot, one for each slot, and of the waiting processes, in order.
     borrowers = #{} :: monitors(),
     waiting = queue:new() :: queue:queue({reference(), gen_server:from()})
 }).
@@ -33,13 +33,13 @@ lend() ->
 give_back() ->
     gen_server:call(?MODULE, give_back, infinity).
 
-%% @doc Takes the latency of a put, in microseconds.
+%% @doc Records the latency of a put, in microseconds.
 -spec sample(Micros :: non_neg_integer()) -> ok.
 sample(Micros) ->
     gen_server:cast(?MODULE, {sample, Micros}).
 
-%% @doc Returns the target, the counts of slots that are lent and free, that of the processes that wait for one, and the
-%% 99th percentile of the latency of puts.
+%% @doc Returns the target, the numbers of slots that are lent and free and of waiting processes, and the 99th
+%% percentile of the latency of puts.
 -spec count() -> #{
     target := pos_integer(),
     lent := non_neg_integer(),
@@ -66,7 +66,7 @@ handle_call(lend, {Borrower, _} = From, #state{waiting = Waiting} = State) ->
     Monitor = monitor(process, Borrower),
     {noreply, lend_free(State#state{waiting = queue:in({Monitor, From}, Waiting)})};
 handle_call(give_back, {Borrower, _}, #state{borrowers = Borrowers} = State) ->
-    %% (A process may give back what it borrowed before this one started: it has no monitor then.)
+    %% (A process that borrowed a slot before this one started has no monitor.)
     case [Monitor || {Monitor, Process} <- maps:to_list(Borrowers), Process =:= Borrower] of
         [Monitor | _] -> {reply, ok, lend_free(returned(Monitor, State))};
         [] -> {reply, ok, State}
@@ -100,7 +100,7 @@ handle_info(Message, State) ->
     ok = cluster_stray:message(?MODULE, Message),
     {noreply, State}.
 
-%% Lends slots to those that wait, as long as some are free.
+%% Lends slots to the waiting processes while any are free.
 lend_free(#state{slots = Slots, borrowers = Borrowers, waiting = Waiting} = State) ->
     case queue:out(Waiting) of
         {{value, {Monitor, {Borrower, _} = From}}, Others} ->
@@ -123,6 +123,6 @@ returned(Monitor, #state{slots = Slots, borrowers = Borrowers} = State) ->
 without_waiting(Monitor, #state{waiting = Waiting} = State) ->
     State#state{waiting = queue:delete_with(fun({Other, _}) -> Other =:= Monitor end, Waiting)}.
 
-%% The time since the start of the node: Erlang's monotonic time may be negative.
+%% Returns the time since the start of the node: Erlang's monotonic time may be negative.
 now_ms() ->
     erlang:convert_time_unit(erlang:monotonic_time() - erlang:system_info(start_time), native, millisecond).

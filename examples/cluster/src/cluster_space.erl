@@ -1,7 +1,7 @@
-%% @doc Room on the disk of this node. While it is full, the node is read-only.
+%% @doc Free space on the disk of this node. While the disk is full, the node is read-only.
 %%
-%% Whoever finds it full says so. Then a file of 1 MB is written and synced, and removed, again and again, until there
-%% is room for it.
+%% A process that finds it full reports that here. Then a file of 1 MB is written, synced and removed, again and again,
+%% until it fits.
 -module(cluster_space).
 -behaviour(gen_server).
 
@@ -12,7 +12,7 @@
 -define(PROBE, "probe.new").
 -define(PROBE_BYTES, (1 bsl 20)).
 
-%% @doc Starts the process that looks for room.
+%% @doc Starts the process that looks for space.
 -spec start_link() -> {ok, pid()} | {error, term()}.
 start_link() ->
     gen_server:start_link({local, ?MODULE}, ?MODULE, [], []).
@@ -22,13 +22,13 @@ start_link() ->
 is_full() ->
     persistent_term:get(?MODULE, false).
 
-%% @doc Says that a write found the disk full.
+%% @doc Reports that a write found the disk full.
 -spec full() -> ok.
 full() ->
     ok = persistent_term:put(?MODULE, true),
     gen_server:cast(?MODULE, full).
 
-%% The state is `full' after the line that says so.
+%% The state is `full' once that was printed.
 %% @private
 init([]) ->
     {ok, look(room)}.

@@ -1,7 +1,8 @@
-%% @doc The supervisor of all that needs a life. A process that ends abnormally starts again from its disk.
+%% @doc The supervisor of everything that needs a life. A process that ends abnormally starts again from its disk.
 %%
-%% Ranges and hints don't depend on each other, and each kind has its own count of crashes. The background work depends
-%% on both: its hints have numbers of the process that keeps them. So it ends and begins with them.
+%% Ranges and hints don't depend on each other, and each kind has a separate count of crashes. The background work
+%% depends on both: numbers of hints are valid only in the process that keeps them, so it ends and restarts with that
+%% process.
 -module(cluster_store).
 -behaviour(supervisor).
 
@@ -44,7 +45,7 @@ init(ranges) ->
     Ranges = [child({cluster_range, Range}, cluster_range, [Range]) || Range <- cluster_ring:held()],
     {ok, {?INTENSITY#{strategy => one_for_one}, Ranges}};
 init(background) ->
-    %% (What has borrowed a slot ends with the process that lent it.)
+    %% (A process that has borrowed a slot ends with the process that lent it.)
     Children = [child(Module) || Module <- [cluster_slots, cluster_handoff, cluster_repair]],
     {ok, {?INTENSITY#{strategy => rest_for_one}, Children}}.
 

@@ -12,13 +12,13 @@ start_link() ->
 
 %% @private
 init([]) ->
-    %% (This process owns them: they last as long as the node.)
+    %% (This process owns them, so they last as long as the node.)
     ok = cluster_metrics:begin_table(),
     ok = cluster_patience:begin_table(),
     ok = cluster_wire:begin_table(),
     ok = cluster_rows:begin_counter(),
-    %% None of them depends on another one's process: what they share is in tables and terms. What does is below
-    %% {@link cluster_store}.
+    %% None of them depends on the process of another one: their shared state is in tables and terms. Processes that do
+    %% depend on others are below {@link cluster_store}.
     Servers = [child(Module, Module, []) || Module <- [cluster_space, cluster_lives, cluster_claims, cluster_wire]],
     Fronts = [child({cluster_http, Front}, cluster_http, [Front]) || Front <- [clients, admin]],
     Life = child(cluster_life, cluster_life, []),

@@ -1,6 +1,6 @@
-%% @doc Processes that have one task each, and whose results others wait for.
+%% @doc Processes with one task each, whose results others wait for.
 %%
-%% A task that ends in a crash has no result: that is logged here, and whoever waits for it gets `crashed'.
+%% A task that crashes has no result: the crash is logged here, and the waiting process gets `crashed'.
 -module(cluster_task).
 
 -export([start/1, start_link/1, result/2, crashed/2, forget/1]).
@@ -46,13 +46,13 @@ result(_, {?MODULE, Result}) ->
 result(What, Reason) ->
     crashed(What, Reason).
 
-%% @doc Says that a task crashed.
+%% @doc Logs that a task crashed.
 -spec crashed(What :: atom(), Reason :: term()) -> crashed.
 crashed(What, Reason) ->
     ok = logger:error("a task of ~tp crashed: ~tp", [What, Reason]),
     crashed.
 
-%% @doc Lets tasks go on, whose results nobody waits for.
+%% @doc Lets tasks continue, without anyone waiting for their results.
 -spec forget([Monitor :: reference()]) -> ok.
 forget(Monitors) ->
     lists:foreach(fun(Monitor) -> true = demonitor(Monitor, [flush]) end, Monitors).

@@ -1,7 +1,7 @@
 %% @doc All messages between nodes: calls of a function at another place, over Erlang's distribution.
 %%
-%% A call has an answer in 500 milliseconds, or its place counts as down. So does that of a paused node, of which the
-%% distribution says nothing yet. A call of many bytes has more time ({@link limit_ms/1}).
+%% A place counts as down if it doesn't answer a call within 500 milliseconds. That includes a paused node, which the
+%% distribution doesn't report yet. A call of many bytes has more time ({@link limit_ms/1}).
 -module(cluster_wire).
 -behaviour(gen_server).
 
@@ -11,7 +11,7 @@
 -export([init/1, handle_call/3, handle_cast/2, handle_info/2]).
 
 -define(LIMIT_MS, 500).
-%% The pace of a link that counts as up: 100 KB in a second.
+%% Minimum pace of a link that counts as up: 100 KB per second.
 -define(BYTES_PER_MS, 100).
 -define(MESSAGE_BYTES, 1_000_000).
 -define(AGAIN_MS, 1000).
@@ -27,17 +27,17 @@ begin_table() ->
 start_link() ->
     gen_server:start_link({local, ?MODULE}, ?MODULE, [], []).
 
-%% @doc Returns the time that a call has, in milliseconds.
+%% @doc Returns the time limit of a call, in milliseconds.
 -spec limit_ms() -> pos_integer().
 limit_ms() ->
     ?LIMIT_MS.
 
-%% @doc Returns the time of a call that carries some bytes there and back, in milliseconds.
+%% @doc Returns the time limit of a call that carries some bytes there and back, in milliseconds.
 -spec limit_ms(Bytes :: non_neg_integer()) -> pos_integer().
 limit_ms(Bytes) ->
     ?LIMIT_MS + Bytes div ?BYTES_PER_MS.
 
-%% @doc Returns the bytes that the parts of a result may have together. One part alone may have more.
+%% @doc Returns the maximum number of bytes of the parts of a result together. A single part may have more.
 -spec message_bytes() -> pos_integer().
 message_bytes() ->
     ?MESSAGE_BYTES.
@@ -47,8 +47,8 @@ message_bytes() ->
 call(Place, Module, Function, Arguments) ->
     call(Place, Module, Function, Arguments, ?LIMIT_MS).
 
-%% @doc Calls a function at another place, with a limit in milliseconds. It may have been called even if the place
-%% counts as down then.
+%% @doc Calls a function at another place, with a limit in milliseconds. It may have been called even if the place now
+%% counts as down.
 -spec call(cluster_ring:place(), module(), Function :: atom(), Arguments :: [term()], LimitMs :: pos_integer()) ->
     {ok, Result :: term()} | down.
 call(Place, Module, Function, Arguments, LimitMs) ->
@@ -72,13 +72,13 @@ call(Place, Module, Function, Arguments, LimitMs) ->
     Result.
 
 %% @private
-%% @doc Serves a call of another place. It is refused if the settings of that place's ring are others: then each of both
-%% is down for the other one.
+%% @doc Serves a call of another place. Refuses it if the ring's settings differ there: each of the two places is then
+%% down for the other.
 -spec serve(From :: cluster_ring:place(), Digest :: binary(), module(), Function :: atom(), Arguments :: [term()]) ->
     term().
 serve(From, Digest, Module, Function, Arguments) ->
     is_started() orelse exit(starting),
-    %% (What this process logs would be that of the node that calls.)
+    %% (Otherwise lines that this process logs would go to the calling node.)
     true = group_leader(whereis(init), self()),
     Digest =:= cluster_ring:digest() orelse refuse(From),
     apply(Module, Function, Arguments).
@@ -88,14 +88,14 @@ refuse(From) ->
     ok = note_difference(From),
     exit(settings_differ).
 
-%% Says once for a connection that the settings of a place are others.
+%% Logs once for a connection that the settings of a place differ.
 note_difference(Place) ->
     case ets:insert_new(?MODULE, {{differs, Place}}) of
         true -> cluster_event:note(settings_differ, [{place, Place}]);
         false -> ok
     end.
 
-%% A node is reached before its application has started.
+%% Returns true once the application has started: other nodes may call before.
 is_started() ->
     ets:whereis(?MODULE) =/= undefined.
 
@@ -115,7 +115,7 @@ up_first(Places) ->
     {Up, Down} = lists:partition(fun is_up/1, Places),
     Up ++ Down.
 
-%% Notes that a place is down, or up again: then it gets its hints.
+%% Notes that a place is down, or is up again and gets its hints.
 note(Place, Result) ->
     case {Result, ets:member(?MODULE, Place)} of
         {down, false} ->

@@ -1,4 +1,4 @@
-%% @doc Claims: of all steps on one, only the first counts.
+%% @doc Claims: of all steps on a claim, only the first counts.
 -module(claims_tests).
 
 -include_lib("eunit/include/eunit.hrl").
@@ -19,7 +19,7 @@ taken_test_() ->
         ?assertNot(cluster_claims:withdraw(Claim))
     end).
 
-%% A holder that comes after the withdrawal doesn't get the claim. The next one is awaited longer.
+%% A holder that calls after the withdrawal doesn't get the claim. The next wait for it is longer.
 withdrawn_test_() ->
     room:test([], fun(_) ->
         {1, Reference} = Claim = given(?HOLDER),
@@ -30,7 +30,7 @@ withdrawn_test_() ->
         ?assert(cluster_patience:ms(?HOLDER, {cluster_claims, take}) > 130)
     end).
 
-%% Of many that take or withdraw a claim at once, one is first.
+%% Of many processes that take or withdraw a claim at once, one is first.
 race_test_() ->
     room:test([], fun(_) ->
         Race = fun(_) ->
@@ -45,7 +45,7 @@ race_test_() ->
         ?assertEqual(lists:duplicate(500, [true]), lists:map(Race, lists:seq(1, 500)))
     end).
 
-%% Claims are gone with their table: nobody takes one, and the origin can't know that nobody has.
+%% Claims vanish with their table: nobody takes one, and the origin can't know that nobody has.
 lost_table_test_() ->
     room:test([], fun(_) ->
         {1, Reference} = Claim = given(?HOLDER),

@@ -1,16 +1,16 @@
-%% @doc Requests that are handed on, copies, and rows. The other places are functions of the tests.
+%% @doc Forwarded requests, copies, and rows. The other places are functions of the tests.
 -module(coordinator_tests).
 
 -include_lib("eunit/include/eunit.hrl").
 
 %% The range 0 is held by the places 1, 2 and 3.
 -define(RANGE, 0).
-%% What the other places did.
+%% The table with the deeds of the other places.
 -define(DEEDS, ?MODULE).
 
-%% ---- a put that place 4 hands on
+%% ---- a put that place 4 forwards
 
-%% Each way in which a message can be late, repeated or lost, at the holders 1 to 3.
+%% Each way that a message can be late, repeated or lost, at the holders 1 to 3.
 handed_on_test_() ->
     Cases = [
         {"a holder puts", [puts], {ok, 1}, [1]},
@@ -33,7 +33,7 @@ handed_on_test_() ->
      || {Name, Deeds, Outcome, Places} <- Cases
     ].
 
-%% A busy machine may be later than a holder that is late. Then the put is tried again, if its answer is true.
+%% A busy machine may be later than a late holder. The put is then tried again, if its outcome is true.
 handed_on(Deeds, Wanted, Tries) ->
     true = ets:delete_all_objects(cluster_patience),
     Value = integer_to_binary(Tries),
@@ -49,7 +49,7 @@ handed_on(Deeds, Wanted, Tries) ->
             ?assertEqual(Wanted, Other)
     end.
 
-%% Whatever happens to each of many puts at once, none is done twice, and each has a true answer.
+%% Whatever happens to each of many concurrent puts, none is done twice, and each has a true outcome.
 at_most_once_test_() ->
     Deeds = [puts, {late, 50}, {late, 700}, down, repeated, slow, claim_lost, put_lost, {refused, stale_context}],
     as_place(4, fun hold/4, fun() ->
@@ -74,7 +74,7 @@ put_with(Value, Deeds) ->
         Refused -> Refused
     end.
 
-%% The places that put a value.
+%% Returns the places that put a value.
 places(Value) ->
     lists:sort([Place || {{put, Put}, Place} <- ets:tab2list(?DEEDS), Put =:= Value]).
 
@@ -130,7 +130,7 @@ unclaimed_test_() ->
         ?assertEqual({ok, [], 0, 33}, cluster_range:own(?RANGE, room:key(1)))
     end).
 
-%% A put that is stale here is handed on.
+%% A put that is stale here is forwarded.
 stale_test_() ->
     Other = fun
         (_, cluster_range, copy, _) ->
@@ -147,7 +147,7 @@ stale_test_() ->
         ?assertEqual([{asked, 2}, {asked, 3}], lists:sort(ets:tab2list(?DEEDS)))
     end).
 
-%% Copies that are late have hints before their limit, each one. From then on the holders are down.
+%% Each late copy has a hint before its time limit. From then on its holder is down.
 late_copies_test_() ->
     Other = fun
         (_, cluster_range, copy, _) ->
@@ -200,7 +200,7 @@ millis_of_put(Key) ->
     ?assert(lists:member(Carrier, [4, 5])),
     Micros div 1000.
 
-%% Carriers without room are named by the owners whose hints they refuse.
+%% Carriers without space are named by the owners whose hints they refuse.
 no_room_for_hints_test_() ->
     Other = fun
         (_, cluster_hints, keep, _) -> {error, hints_full};
@@ -225,7 +225,7 @@ own_w_test_() ->
         ?assertEqual({perhaps, down}, Put(3, 3))
     end).
 
-%% So it may name its own R.
+%% A request may name its own R.
 own_r_test_() ->
     Other = fun
         (2, cluster_range, row, _) -> {ok, <<>>};
@@ -236,7 +236,7 @@ own_r_test_() ->
         ?assertMatch([{ok, #{versions := []}}, {ok, _}, {refused, down}], lists:map(Get, [1, 2, 3]))
     end).
 
-%% A context with a number that is no life of a place is refused.
+%% A context is refused if it has a number that isn't a life of a place.
 no_life_test_() ->
     as_place(1, fun(_, _, _, _) -> error({erpc, noconnection}) end, fun() ->
         Put = fun(Context) -> cluster_coordinator:put(room:key(1), <<"value">>, Context, 1) end,
@@ -266,7 +266,7 @@ handed_on_get_test_() ->
         ?assertMatch({ok, #{coordinator := 1}}, cluster_coordinator:get(room:key(2), 2))
     end).
 
-%% A holder whose row is behind gets what it lacks. Equal rows are written nowhere.
+%% A holder whose row is behind gets its missing versions. Equal rows are written nowhere.
 read_repair_test_() ->
     Version = #{clock => #{34 => 1}, value => <<"other">>},
     Other = fun
@@ -298,7 +298,7 @@ row(Version, Key) ->
     {ok, Row} = antientropy:row(Replica, Key),
     Row.
 
-%% A holder that is down is asked only if the others are too few, and then a get has its row.
+%% A holder that is down is asked only if the others are too few. A get then has its row.
 last_resort_test_() ->
     Other = fun
         (Place, cluster_range, row, _) ->
@@ -318,7 +318,7 @@ last_resort_test_() ->
         ?assertEqual([{row, 2}], ets:tab2list(?DEEDS))
     end).
 
-%% Runs a test as a place, with other places that do with a call what a function says. Place 1 has its range.
+%% Runs a test as a place. Calls of other places are calls of a function. Place 1 has its range.
 as_place(Place, Other, Test) ->
     room:test([{place, Place}], fun(_) ->
         ?DEEDS = ets:new(?DEEDS, [named_table, public, bag]),

@@ -1,4 +1,4 @@
-%% @doc What an operator sees: a line for each event, once, and metrics that wait for no disk.
+%% @doc Events, a line for each, once, and metrics that wait for no disk.
 -module(event_tests).
 
 -include_lib("eunit/include/eunit.hrl").
@@ -18,7 +18,7 @@ format_test() ->
     Event = #{level => notice, msg => {report, #{event => up, fields => [{place, 2}]}}, meta => #{}},
     ?assertEqual("notice: event up place=2\n", lists:flatten(cluster_report:format(Event, #{}))).
 
-%% A place is down or up once, however many calls say so.
+%% A place is reported down or up once, however many calls show it.
 down_test_() ->
     Other = fun(2, _, _, [IsUp]) -> IsUp orelse error({erpc, noconnection}) end,
     with(Other, fun() ->
@@ -29,7 +29,7 @@ down_test_() ->
         ?assertEqual(#{down => 1, up => 1}, events())
     end).
 
-%% A queue of hints that is full is said once, until it has delivered one.
+%% A full queue of hints is logged once, until it has delivered one.
 hints_test_() ->
     Bytes = erlang:external_size({room:key(1), #{34 => 1}, <<"value">>}),
     room:test([{hint_bytes, Bytes}], fun(_) ->
@@ -67,7 +67,7 @@ range_test_() ->
         ?assertEqual([{[{range, ?RANGE}], Saved}], cluster_metrics:values(snapshot_saved))
     end).
 
-%% A sync that fails is said once, and counted each time.
+%% A sync that fails is logged once, and counted each time.
 sync_test_() ->
     {ok, Empty} = antientropy:new(#{format => 2, bits => 2, range => ?RANGE}),
     Other = fun
@@ -113,7 +113,7 @@ late_test_() ->
 has_line(Line) ->
     lists:member(Line, string:lexemes(unicode:characters_to_list(cluster_prometheus:text()), "\n")).
 
-%% Runs a test, in which other places do with a call what a function says.
+%% Runs a test, in which calls of other places are calls of a function.
 with(Other, Test) ->
     room:test([], fun(_) -> links:with(Other, Test) end).
 

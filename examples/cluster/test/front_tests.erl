@@ -8,7 +8,8 @@
 
 -define(STARTING, {503, "{\"refused\":\"Starting\"}\n"}).
 
-%% Before a life has begun, puts and gets are refused, and the status has none. The health has no wait for anything.
+%% Before a life has begun, puts and gets are refused, and the status shows no life. The health doesn't wait for
+%% anything.
 starting_test_() ->
     test([], fun(_) ->
         ok = cluster_life:enter(none),
@@ -23,7 +24,7 @@ starting_test_() ->
         ?assertMatch({200, "# HELP" ++ _}, request(get, {admin_url("/metrics"), []}))
     end).
 
-%% One that is killed serves again, each time.
+%% A front that is killed serves again, each time.
 killed_test_() ->
     test([], fun(Supervisor) -> [?assertEqual(404, killed(Supervisor)) || _ <- [1, 2, 3]] end).
 
@@ -41,7 +42,8 @@ child(Supervisor) ->
 
 %% ---- odd and malformed requests
 
-%% Each has one answer, and the front serves after it. (No life: what is right is refused as `Starting'.)
+%% Each request has one response, and the front serves after it. (There is no life: a valid request is refused as
+%% `Starting'.)
 odd_test_() ->
     test([], fun(_) ->
         ok = cluster_life:enter(none),
@@ -118,7 +120,7 @@ odd() ->
         {[Get("/keys/cart"), Get("/none")], [503, 404]}
     ].
 
-%% Sends bytes, and returns the statuses of what is received then.
+%% Sends bytes, and returns the statuses of the responses.
 answered(Request) ->
     Socket = connected(),
     ok = gen_tcp:send(Socket, Request),
@@ -137,7 +139,7 @@ statuses(Received) ->
         nomatch -> []
     end.
 
-%% (A connection that is kept says nothing more.)
+%% (A connection that is kept open sends nothing more.)
 received(Socket, Before) ->
     case gen_tcp:recv(Socket, 0, 500) of
         {ok, Bytes} -> received(Socket, <<Before/binary, Bytes/binary>>);
@@ -178,7 +180,7 @@ put_large(Length) ->
 
 %% ---- tokens
 
-%% With a token, only the health is for all.
+%% With a token, only the health is public.
 token_test_() ->
     File = room:folder("token"),
     ok = file:write_file(File, "a secret\n"),

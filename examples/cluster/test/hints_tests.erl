@@ -7,7 +7,7 @@
 -define(FIRST, (1 bsl 40)).
 -define(VERSION, #{clock => #{2 => 1}, value => <<"value">>}).
 
-%% Pending hints are there after a restart, and confirmed ones aren't.
+%% Pending hints are there after a restart, confirmed ones aren't.
 restart_test_() ->
     room:test([], fun(_) ->
         start(),
@@ -19,7 +19,7 @@ restart_test_() ->
         ?assertMatch([_], cluster_hints:pending(3, 0, 0, 10))
     end).
 
-%% Each owner and range has numbers of its own, and what is confirmed of one is of no other.
+%% Each owner and range has separate numbers, and a confirmation is for only one of them.
 queues_test_() ->
     room:test([], fun(_) ->
         start(),
@@ -33,8 +33,8 @@ queues_test_() ->
         ?assertEqual({ok, ?FIRST + 1}, cluster_hints:keep(2, 3, <<"key">>, ?VERSION))
     end).
 
-%% A checkpoint gives hints new numbers, and no old one names another hint: a confirmation by it does nothing. Numbers go
-%% on through checkpoints and restarts. Those of a life begin at its incarnation times 2^40.
+%% A checkpoint gives hints new numbers, and no old number names another hint: a confirmation by it does nothing.
+%% Numbers continue through checkpoints and restarts. In a life they begin at its incarnation times 2^40.
 checkpoint_test_() ->
     room:test([], fun(Folder) ->
         start(),
@@ -75,7 +75,7 @@ changed(File) ->
     ok = file:write_file(File, Bytes),
     State.
 
-%% A full disk refuses hints and confirmations, and still has what it had.
+%% A full disk refuses hints and confirmations, and loses nothing.
 no_room_test_() ->
     room:full_test([], fun(_) ->
         start(),
@@ -101,7 +101,7 @@ many_test_() ->
         ?assertMatch([#{number := ?FIRST + 10001} | _], cluster_hints:pending(2, 0, ?FIRST + 9998, 5))
     end).
 
-%% A queue refuses what is beyond its bytes, and takes it after a delivery. Others have room of their own.
+%% A queue refuses hints beyond its limit in bytes, and takes them after a delivery. Other queues aren't affected.
 full_test_() ->
     Bytes = erlang:external_size({key(1), #{2 => 1}, <<"value">>}),
     room:test([{hint_bytes, 3 * Bytes}], fun(_) ->
@@ -116,7 +116,7 @@ full_test_() ->
         ?assertEqual(4 * Bytes, maps:get(bytes, cluster_hints:count()))
     end).
 
-%% Keeps hints, some hundred at once, and returns the answers.
+%% Keeps hints, some hundred at once, and returns the outcomes.
 keep_all(Count) ->
     Keep = fun(Number) -> cluster_hints:keep(2, 0, key(Number), ?VERSION) end,
     lists:append([

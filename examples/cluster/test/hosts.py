@@ -1,7 +1,7 @@
 """The hosts of a cluster on this machine: network namespaces if they can be made, and loopback addresses otherwise.
 
-The namespaces are one for each host, joined by a bridge, which is in a namespace of the test. That one's processes and
-mounts are its own too, so all of this ends with the test, also if it is killed.
+There is a namespace for each host. They are joined by a bridge, in a namespace of the test, which also has separate
+processes and mounts, so all of this ends with the test, even if it is killed.
 """
 
 from __future__ import annotations
@@ -17,17 +17,17 @@ from typing import Dict, Iterator, List, Optional, Sequence
 
 PLACES = (1, 2, 3)
 
-#: Ends with this process. The shell is the first process of its namespace, and takes leave of those that nobody awaits.
+#: Ends with this process. The shell is the first process of its namespace, and reaps orphans.
 UNSHARED = ["setpriv", "--pdeathsig", "KILL", "unshare", "--net", "--pid", "--fork", "--kill-child", "--mount-proc"]
 UNSHARED += ["sh", "-c", 'mount -t tmpfs none /run && "$@"; exit $?', "sh"]
 INSIDE = "--inside"
 
-#: Makes one of each thing that the hosts need.
+#: Makes one of each device that the hosts need.
 TRIAL = "ip netns add t && ip link add name t type veth peer name eth0 netns t && ip link add name bridge type bridge"
 
 
 class Loopback:
-    """An address for each host. One epmd is for all of them."""
+    """An address for each host, and one epmd for all of them."""
 
     NAME = "loopback addresses"
     ADDRESSES = {place: f"127.0.0.{place + 1}" for place in PLACES}
@@ -82,7 +82,7 @@ class Namespaces:
 
     @contextmanager
     def inside(self, place: int) -> Iterator[None]:
-        """Connects from a host: the sockets that this thread makes meanwhile are there."""
+        """Connects from a host: the sockets that this thread makes in this context are there."""
         with open("/proc/thread-self/ns/net") as ours, open(f"/run/netns/{_name(place)}") as theirs:
             _set_namespace(theirs.fileno())
             try:
@@ -98,7 +98,7 @@ class Namespaces:
         _ip(f"link set {_name(place)} up")
 
     def delay(self, place: int, milliseconds: int) -> bool:
-        """Delays what goes to a host, and what it sends. Returns false if the kernel can't."""
+        """Delays messages to and from a host. Returns false if the kernel can't."""
         for namespace, device in (([], _name(place)), (self.words(place), "eth0")):
             rule = f"tc qdisc add dev {device} root netem delay {milliseconds}ms"
             if subprocess.run([*namespace, *rule.split()], stderr=subprocess.DEVNULL).returncode != 0:
@@ -107,7 +107,7 @@ class Namespaces:
 
 
 def why_not() -> Optional[str]:
-    """Returns why there can't be namespaces: None if there can."""
+    """Returns why there can't be namespaces, or None if there can."""
     if os.geteuid() != 0:
         return "this isn't root"
     for program in ("ip", "tc", "setpriv", "unshare", "mount"):
@@ -118,7 +118,7 @@ def why_not() -> Optional[str]:
 
 
 def run_inside() -> int:
-    """Runs this program in a namespace of its own, and returns its status."""
+    """Runs this program in another namespace, and returns its status."""
     return subprocess.run([*UNSHARED, sys.executable, *sys.argv, INSIDE]).returncode
 
 

@@ -1,9 +1,9 @@
-%% @doc The folder of a place: whole, damaged, empty, kept aside; and what a place knows of lives.
+%% @doc The folder of a place: whole, damaged, empty, kept aside; and the lives that a place knows of.
 -module(life_tests).
 
 -include_lib("eunit/include/eunit.hrl").
 
-%% A disk is whole, or its damage is found, whatever is changed: then all of it is kept aside.
+%% A disk is whole, or its damage is found, whatever is changed, and all of it is kept aside.
 damage_test_() ->
     [room:test([], fun(Folder) -> damage(Change, Folder) end) || Change <- changes()].
 
@@ -48,7 +48,7 @@ fill(_) ->
     {ok, Kept} = cluster_log:write(HintsLog, [{keep, 2, <<"key">>, <<"value">>}]),
     ok = cluster_log:close(Kept).
 
-%% Nothing but what this place knows is an empty disk. So is a new life that was cut off.
+%% A disk with only the file `lives' is empty. A new life that was interrupted is empty, too.
 empty_test_() ->
     room:test([{life, none}], fun(Folder) ->
         ?assertEqual(empty, cluster_folder:state()),
@@ -64,7 +64,7 @@ empty_test_() ->
             ["life.new"]))
     end).
 
-%% A move that was cut off goes on in the same folder. A life that was given up isn't whole.
+%% An interrupted move continues in the same folder. A life that was given up isn't whole.
 cut_off_test_() ->
     room:test([], fun(Folder) ->
         ok = cluster_folder:give_up("lost"),
@@ -81,7 +81,7 @@ cut_off_test_() ->
         ?assertEqual({ok, "aside-2"}, cluster_folder:move_aside())
     end).
 
-%% The disk of another place, or of a life before the last one, is damage. That of other ranges is left alone.
+%% The disk of another place, or of a life before the last one, is damage. A disk with other ranges isn't touched.
 other_test_() ->
     room:test([], fun(_) ->
         ok = application:set_env(cluster, places, room:hosts([2, 3, 1, 4, 5])),
@@ -94,7 +94,7 @@ other_test_() ->
         ?assertMatch({damaged, _}, cluster_folder:state())
     end).
 
-%% A place knows the greatest incarnation of each place, from what is told and from clocks, also after a restart.
+%% A place knows the greatest incarnation of each place, from announcements and from clocks, also after a restart.
 lives_test_() ->
     room:test([], fun(_) ->
         ok = cluster_lives:learn([{2, 5}, {3, 1}]),

@@ -9,8 +9,8 @@
     "call(Place, Module, Function, Arguments, LimitMs) -> links:call(Place, Module, Function, Arguments, LimitMs). "
 ).
 
-%% @doc Runs a test, in which other places do with a call what the function does. It returns or raises. It gets the
-%% limit, too, if it has an argument for it.
+%% @doc Runs a test, in which calls of other places are calls of the function. It returns or raises. It gets the limit,
+%% too, if it has an argument for it.
 with(Call, Test) ->
     ok = persistent_term:put(?MODULE, Call),
     {ok, cluster_link, Code} = compile:forms(forms(?LINK)),

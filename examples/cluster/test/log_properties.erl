@@ -15,8 +15,8 @@ check(Room) ->
     Options = [quiet, {numtests, ?TESTS}, {max_size, 20}, {to_file, standard_error}],
     lists:all(fun(Property) -> proper:quickcheck(Property, Options) end, [after_a_crash(Room), after_a_fault(Room)]).
 
-%% A crash at any moment of a call leaves all acknowledged terms, in order, and besides only those of that call, all or
-%% none. Then the log goes on.
+%% A crash at any moment of a call leaves all acknowledged terms, in order, and besides them all or none of the call's
+%% terms. The log continues after it.
 after_a_crash(Room) ->
     Choices = {boolean(), float(0.0, 1.0), list(boolean()), binary(), boolean()},
     Last = oneof([write(plain()), begin_file, adopt, restart]),
@@ -60,7 +60,7 @@ write(Term) -> {write, non_empty(list(Term))}.
 
 plain() -> oneof([nat(), binary()]).
 
-%% A client's value can look like a record. Behind a torn one it looks like damage, which is on the safe side.
+%% A client's value can look like a record. Behind a torn one it looks like damage, which is the safe side.
 any_term() ->
     Record = proper_types:bind(nat(), fun(Place) -> cluster_records:encode(Place, []) end, false),
     oneof([nat(), binary(), Record]).
@@ -104,7 +104,7 @@ terms(Folder) ->
     ok = cluster_log:close(Log),
     Read.
 
-%% ---- crashes: the files of the moment before a call and of that after it, with any of what wasn't synced between
+%% ---- crashes: the files before a call and after it, with any unsynced change between
 
 crash({write, _}, Before, After, {IsWhole, Part, _, Junk, IsNoted}) ->
     [{Name, Written}] = [{Name, Bytes} || {"log." ++ _ = Name, Bytes} <- maps:to_list(After),

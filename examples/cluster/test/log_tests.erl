@@ -1,4 +1,4 @@
-%% @doc A log: its properties, what a crash leaves, and a full disk.
+%% @doc A log: its properties, the files after a crash, and a full disk.
 -module(log_tests).
 
 -include_lib("eunit/include/eunit.hrl").
@@ -11,7 +11,7 @@ properties_test_() ->
         code:ensure_loaded(proper) =:= {error, nofile} orelse ?assert(log_properties:check(room(Folder)))
     end).
 
-%% A folder in memory, if there is one: thousands of syncs are slow on a disk.
+%% Returns a folder in memory, if there is such a folder: thousands of syncs are slow on a disk.
 room(Folder) ->
     case filelib:is_dir("/dev/shm") of
         true -> "/dev/shm/" ++ filename:basename(Folder) ++ "-" ++ os:getpid();
@@ -34,7 +34,7 @@ cut_test_() ->
         ?assertMatch({_, [first, third]}, open(Folder))
     end).
 
-%% A larger group is in several records, all or none of it.
+%% A larger group takes several records, all or none of it.
 group_test_() ->
     room:test([{life, none}], fun(Folder) ->
         {ok, Log} = cluster_log:write(made(Folder), lists:seq(1, 2500)),
@@ -43,7 +43,7 @@ group_test_() ->
         ?assertEqual(lists:seq(1, 2500), Terms)
     end).
 
-%% A full disk has no part of a group, and takes others when there is room.
+%% A full disk has no part of a group, and takes others once there is space.
 full_test_() ->
     room:full_test([{life, none}], fun(Folder) ->
         {ok, Log} = cluster_log:write(made(Folder), [first]),
@@ -61,7 +61,7 @@ full_test_() ->
         ?assertMatch({_, [first, second]}, open(Folder))
     end).
 
-%% Takes all room.
+%% Fills the disk.
 fill(Folder) ->
     {error, enospc} = file:write_file(filename:join(Folder, "filler"), <<0:(8 * 5000000)>>),
     ok.

@@ -1,10 +1,10 @@
 #!/usr/bin/env python3
-"""Operates a release as its page says: three nodes with TLS between them and for clients, on a folder that make built.
+"""Operates a release by its page: three nodes with TLS between them and for clients, on a folder that make built.
 
-A put, a kill, a partition, a damaged disk, settings that differ, a stranger without a certificate, a slow link, and
-what nodes say of all that. Hosts are network namespaces if there can be some, and loopback addresses otherwise: then
-the partition and the slow link are skipped. Lines that begin with 'note:' say what was used, and what was skipped. All
-that it starts ends with it. The last line is 'N passed, M failed'.
+Tests a put, a kill, a partition, a damaged disk, different settings, a stranger without a certificate, a slow link, and
+the nodes' reports of all that. Hosts are network namespaces if possible, and loopback addresses otherwise, in which
+case the partition and the slow link are skipped. Lines that begin with 'note:' name the kind of hosts, and what was
+skipped. All processes that it starts end with it. The last line is 'N passed, M failed'.
 """
 
 from __future__ import annotations
@@ -39,13 +39,13 @@ HERE = Path(__file__).resolve().parent
 REL = HERE.parent / "rel"
 PLOT = HERE.parent / "plot"
 
-#: Seconds that a step may take on a machine that is busy, and between two looks.
+#: Seconds that a step may take on a busy machine, and seconds between two looks.
 STEP_S, LOOK_S = 180.0, 0.1
 
 #: Seconds after which a connection without ticks is closed: net_ticktime and a quarter.
 TICKS_S = 5.0
 
-#: Seconds after a partition until each host has what was put meanwhile, and keys that a host misses over a slow link.
+#: Seconds after a partition until each host has all puts, and the number of keys that a host misses over a slow link.
 JOINED_S, MISSED, PUTTERS = 10.0, 1000, 8
 DELAY_MS = 50
 
@@ -147,7 +147,7 @@ class Site:
         return self._begin(place, self.program, word, env=environment, **words)
 
     def done(self, place: int, word: str, **given: Path) -> Tuple[int, str]:
-        """Runs a command of the release, and returns its status and what it printed."""
+        """Runs a command of the release, and returns its status and its output."""
         command = self.run(place, word, **given)
         printed, _ = command.communicate(timeout=STEP_S)
         return command.returncode, printed
@@ -186,7 +186,7 @@ class Site:
     def ask(
         self, place: int, method: str, path: str, body: Optional[bytes] = None, is_admin: bool = False, **headers: str
     ) -> Tuple[int, Mapping[str, str], bytes]:
-        """Sends a request by HTTPS, and trusts the cluster's authority alone."""
+        """Sends a request by HTTPS, and trusts only the cluster's authority."""
         named = {name.replace("_", "-"): value for name, value in headers.items()}
         request = urllib.request.Request(self.url(place, is_admin) + path, body, named, method=method)
         try:
@@ -246,7 +246,7 @@ class Site:
         return {name: float(value) for name, value in lines}
 
     def end(self) -> None:
-        """Ends all that it started."""
+        """Ends all processes that it started."""
         for place in PLACES:
             try:
                 os.kill(self.pid(place), signal.SIGKILL)
@@ -275,7 +275,7 @@ def until(condition, what: str) -> None:
 
 
 class Operate(unittest.TestCase):
-    """The steps, in their order: the later ones go on with the cluster of the first."""
+    """The steps, in order: the later ones use the cluster of the first."""
 
     site: Site
 
@@ -314,7 +314,7 @@ class Operate(unittest.TestCase):
         (site.config / ".erlang.cookie").chmod(0o400)
 
     def test_3_kill(self) -> None:
-        """A node that was killed is down for the others, which go on, and it has all again after a start."""
+        """A killed node is down for the others, which continue. After a start it has everything again."""
         site = self.site
         before = len(site.log(1))
         os.kill(site.pid(3), signal.SIGKILL)
@@ -350,7 +350,7 @@ class Operate(unittest.TestCase):
         note(f"both values are at each host {took:.1f} seconds after a partition")
 
     def test_4_damage(self) -> None:
-        """A damaged disk is kept aside, and a new life takes all from the others."""
+        """A damaged disk is kept aside, and a new life takes all versions from the others."""
         site = self.site
         status, printed = site.done(2, "stop")
         self.assertEqual((status, printed), (0, ""))
@@ -372,7 +372,7 @@ class Operate(unittest.TestCase):
         self.assertEqual(site.get(2, "cup"), (200, b"tea"))
 
     def test_5_metrics(self) -> None:
-        """What the steps above did is in the metrics."""
+        """The metrics show the steps above."""
         metrics = self.site.metrics(1)
         self.assertGreaterEqual(metrics['cluster_requests_total{kind="put",outcome="done",cause="none"}'], 2)
         self.assertGreaterEqual(metrics['cluster_request_seconds_count{kind="put"}'], 2)
@@ -460,7 +460,7 @@ class Operate(unittest.TestCase):
         self.assertEqual(site.done(3, "foreground", config=wrong, disk=site.room / "wrong-disk"), (1, said))
 
     def test_9_a_slow_link(self) -> None:
-        """Repair alone brings a host the keys that it missed, over a link with a delay."""
+        """Repair by itself brings a host the keys that it missed, over a link with a delay."""
         site, cable = self.site, self.cable()
         if not cable.delay(3, DELAY_MS):
             self.skipTest("the kernel has no netem")

@@ -1,4 +1,4 @@
-%% @doc Processes: slots and those that wait for them, messages that nobody knows, tasks that crash, supervision.
+%% @doc Processes: slots and processes that wait for them, unknown messages, tasks that crash, supervision.
 -module(process_tests).
 
 -include_lib("eunit/include/eunit.hrl").
@@ -7,7 +7,7 @@
 
 %% ---- slots
 
-%% Those that wait get slots in their order, as soon as one is free: also that of a process that ended.
+%% Waiting processes get slots in order, as soon as one is free, also when its process ends.
 slots_test_() ->
     with_slots({1, 1, 20000}, fun() ->
         [First, Second, Third] = [borrower(Name) || Name <- [first, second, third]],
@@ -23,7 +23,7 @@ slots_test_() ->
         room:until(fun() -> maps:with([lent, waiting], cluster_slots:count()) =:= #{lent => 0, waiting => 0} end)
     end).
 
-%% One that ends while it waits is forgotten.
+%% A process that ends while it waits is forgotten.
 waiting_end_test_() ->
     with_slots({1, 1, 20000}, fun() ->
         [First, Second, _] = [borrower(Name) || Name <- [first, second, third]],
@@ -34,7 +34,7 @@ waiting_end_test_() ->
         ?assertEqual({lent, third}, next())
     end).
 
-%% A process may have two slots. What nobody borrowed here is given back without harm.
+%% A process may have two slots. A slot that nobody borrowed here is given back without harm.
 twice_test_() ->
     with_slots({2, 2, 20000}, fun() ->
         Slots = whereis(cluster_slots),
@@ -46,7 +46,7 @@ twice_test_() ->
         ?assertEqual(Slots, whereis(cluster_slots))
     end).
 
-%% Five processes give back to a server that knows none of them: it goes on.
+%% Five processes give back to a server that knows none of them: it continues.
 restarted_test_() ->
     with_slots({5, 5, 20000}, fun() ->
         Borrowers = [borrower(Number) || Number <- lists:seq(1, 5)],
@@ -66,7 +66,7 @@ with_slots(Slots, Test) ->
         ok = application:set_env(cluster, slots, {1, 4, 20000})
     end).
 
-%% A process that borrows a slot, and gives it back when it is told to.
+%% A process that borrows a slot, and gives it back on a message.
 borrower(Name) ->
     Test = self(),
     Borrower = spawn(fun() ->
@@ -79,7 +79,7 @@ borrower(Name) ->
         Test ! gave_back,
         timer:sleep(infinity)
     end),
-    %% (The order is that of the calls.)
+    %% (The calls are in this order.)
     timer:sleep(10),
     Borrower.
 
@@ -96,9 +96,9 @@ next_after_gave_back() ->
     after 50 -> gave_back
     end.
 
-%% ---- messages that nobody knows
+%% ---- unknown messages
 
-%% No process ends by them: a call that is misspelt is refused, and all else is left.
+%% No process ends by them: an unknown call is refused, and any other message is ignored.
 stray_test_() ->
     room:test([], fun(_) ->
         Started = [
@@ -126,7 +126,7 @@ stray_test_() ->
 
 %% ---- tasks
 
-%% A task has a result, or it crashed: its end is the same for the process that waits.
+%% A task has a result, or it crashed. A waiting process sees its end in the same way.
 task_test() ->
     Result = fun({_, Monitor}) ->
         receive
@@ -137,7 +137,7 @@ task_test() ->
     ?assertEqual([{ok, done}, crashed, crashed, crashed], [Result(cluster_task:start(Task)) || Task <- Tasks]),
     ?assertEqual([{ok, done}, crashed, crashed, crashed], [Result(cluster_task:start_link(Task)) || Task <- Tasks]).
 
-%% One that is linked ends with its process.
+%% A linked task ends with its process.
 linked_test() ->
     Test = self(),
     Owner = spawn(fun() ->
@@ -155,7 +155,7 @@ linked_test() ->
         {'DOWN', Monitor, process, _, killed} -> ok
     end.
 
-%% A start that fails is an error, and not the end of who starts it.
+%% A start that fails is an error, and doesn't end its caller.
 start_error_test_() ->
     room:test([], fun(_) ->
         Same = [{Module, Module:start_link()} || Module <- ?SERVERS],

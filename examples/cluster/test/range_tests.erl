@@ -5,7 +5,7 @@
 
 -define(RANGE, 0).
 
-%% A range that starts again has the same root, and its counters go on.
+%% A range that restarts has the same root, and its counters continue.
 restart_test_() ->
     room:test([], fun(_) ->
         start(),
@@ -45,7 +45,7 @@ checkpoint_test_() ->
 kinds(Folder) ->
     lists:sort([hd(string:split(filename:basename(File), ".")) || File <- filelib:wildcard("range-0/*", Folder)]).
 
-%% A crash may leave a checkpoint that was cut off: it has another name.
+%% A crash may leave an unfinished checkpoint: it has another name.
 unfinished_checkpoint_test_() ->
     room:test([{checkpoint_entries, 20}], fun(Folder) ->
         start(),
@@ -57,8 +57,8 @@ unfinished_checkpoint_test_() ->
         ?assertEqual(Before, dump())
     end).
 
-%% Renewals keep the root, before and after a restart, and numbers of entries go on. A renewed range has room, and isn't
-%% renewed again at once. The log has more records than the journal may have entries.
+%% Renewals keep the root, before and after a restart, and numbers of entries continue. A renewed range has space, and
+%% isn't renewed again at once. The log has more records than the journal may have entries.
 renewal_test_() ->
     room:test([{limit, 40}], fun(_) ->
         start(),
@@ -76,8 +76,8 @@ renewal_test_() ->
         ?assertMatch({ok, [#{clock := #{33 := 7}}]}, versions(key(1)))
     end).
 
-%% Puts, reads and writes of the log go on while a renewal is in progress, and a sync has to wait. So has a put when a
-%% twentieth of the limit is left.
+%% Puts, reads and writes of the log continue during a renewal. A sync has to wait, and so has a put when a twentieth of
+%% the limit is left.
 beside_puts_test_() ->
     with_maker(fun made_when_told/1, [{limit, 100}], fun(_) ->
         start(),
@@ -110,7 +110,7 @@ beside_puts_test_() ->
         Maker ! make
     end).
 
-%% A range goes on if the process that renews crashes, or is refused, and tries again.
+%% A range continues if the process that renews crashes, or is refused, and tries again.
 renewal_refused_test_() ->
     with_maker(fun crashed_then_refused/1, [{limit, 100}], fun(_) ->
         start(),
@@ -125,11 +125,11 @@ renewal_refused_test_() ->
         ?assertEqual(#{33 => 96}, rewrite(key(1), Later, 1))
     end).
 
-%% Runs a test with a function in place of that which makes a renewal.
+%% Runs a test with another function that makes renewals.
 with_maker(Make, Settings, Test) ->
     room:test(Settings, fun(Folder) ->
         true = register(?MODULE, self()),
-        replaced:with({antientropy_moment, renewal, 2}, Make, fun() -> Test(Folder) end),
+        replaced:with({antientropy, renewal, 2}, Make, fun() -> Test(Folder) end),
         true = unregister(?MODULE)
     end).
 
@@ -140,7 +140,7 @@ made_when_told(Arguments) ->
     end.
 
 made([Replica, Limit]) ->
-    antientropy_nif:renewal(Replica, Limit, 64).
+    antientropy_renewal:make(Replica, Limit).
 
 crashed_then_refused(Arguments) ->
     case events(renewal_refused) of
@@ -177,7 +177,7 @@ replica() ->
             replica()
     end.
 
-%% A range that is full of held versions refuses keys that it doesn't hold, and takes puts and deletes of the others.
+%% A range that is full of held versions refuses keys that it doesn't hold, and takes puts and deletes of held ones.
 full_test_() ->
     room:test([{limit, 100}], fun(_) ->
         start(),
@@ -198,7 +198,7 @@ delete(Key) ->
     {ok, [#{clock := Clock}]} = versions(Key),
     {ok, _} = cluster_range:put(?RANGE, Key, tombstone, Clock).
 
-%% After a process has given a replica back, everything that it accepted is on the disk.
+%% Once a process has given a replica back, everything that it accepted is on the disk.
 borrowed_test_() ->
     room:test([], fun(_) ->
         start(),
@@ -209,8 +209,8 @@ borrowed_test_() ->
         ?assertMatch({ok, [#{value := <<"other">>}]}, versions(key(1)))
     end).
 
-%% A range that ended while a process had its replica takes it back, and forgets what wasn't on the disk. It takes no
-%% harm from stray messages.
+%% A range that ended while a process had its replica takes it back, and forgets entries that weren't on the disk. Stray
+%% messages do no harm.
 lent_and_ended_test_() ->
     room:test([], fun(_) ->
         start(),
@@ -260,7 +260,7 @@ sessions_test_() ->
 sync(Replica, Offer) ->
     antientropy:sync(Replica, 2, Offer, fun(_) -> [] end, #{lost => 0}).
 
-%% A reply has answers of 1 MB, or one. Those that it lacks are asked for again.
+%% A reply has answers of 1 MB, or one answer. The missing ones are asked for again.
 replies_test_() ->
     room:test([], fun(_) ->
         start(),
@@ -308,7 +308,7 @@ row_of(Version, Key) ->
     {ok, new} = antientropy:accept(Replica, Key, Version),
     antientropy:row(Replica, Key).
 
-%% A holder that knows a version returns its row, and one that has another value under its clock takes nothing.
+%% A holder that knows a version returns its row. A holder that has another value under its clock takes nothing.
 known_test_() ->
     room:test([], fun(_) ->
         start(),
@@ -359,8 +359,8 @@ forgotten_among_test_() ->
         ?assertEqual([false, true, false, true], [Look(Count, Counter) || Count <- [3, 100], Counter <- [1, 2]])
     end).
 
-%% While the disk is full a range refuses what would change it, and shows nothing that isn't on the disk. Then it goes
-%% on. A start needs no room.
+%% While the disk is full a range refuses changes, and shows nothing that isn't on the disk. Then it continues. A start
+%% needs no space.
 no_room_test_() ->
     room:full_test([], fun(_) ->
         start(),
@@ -386,7 +386,7 @@ no_room_test_() ->
         ok = file:write_file(filename:join(cluster_settings:folder(), "filler"), <<>>)
     end).
 
-%% A limit that is smaller than what is held is refused in one line with both numbers.
+%% A limit that is smaller than the number of held versions is refused in one line with both numbers.
 limit_test_() ->
     room:test([], fun(_) ->
         start(),
@@ -408,7 +408,7 @@ restart() ->
 dump() ->
     cluster_range:dump(?RANGE).
 
-%% Puts the keys from a number to another.
+%% Puts the keys from `From' to `To'.
 fill(From, To) ->
     Put = fun(Number) -> cluster_range:put(?RANGE, key(Number), <<"value">>, #{}) end,
     [{ok, _} = Answer || Answer <- room:all_at_once(Put, lists:seq(From, To))].

@@ -1,4 +1,4 @@
-%% @doc Rounds of repair beside puts without pause. The other holders of the range are replicas of the test.
+%% @doc Rounds of repair during continuous puts. The other holders of the range are replicas of the test.
 -module(repair_tests).
 
 -include_lib("eunit/include/eunit.hrl").
@@ -12,8 +12,8 @@
 -define(OFFERED, ?MODULE).
 
 %% A range whose disk was lost takes all from both partners in each round, and they take all from it, while 64 clients
-%% put here and others put there. Then all three are equal, no session is left, and a restart from its checkpoints has
-%% everything.
+%% put here and others put there. Afterwards all three are equal, no session is left, and a restart from its checkpoints
+%% has everything.
 lost_disk_test_() ->
     room:test([{limit, 100000}, {checkpoint_entries, 500}], fun(_) ->
         Partners = #{2 => partner(2), 3 => partner(3)},
@@ -21,8 +21,8 @@ lost_disk_test_() ->
         with(Other, fun() -> repair(Partners) end)
     end).
 
-%% A link carries 100 KB in a second, which isn't awaited here. The range lacks leaves of 60 KB, of whose size it knows
-%% nothing: the first message has too little time, and the next round has more.
+%% A link carries 100 KB per second, for which this test doesn't wait. The range is missing leaves of 60 KB, whose size
+%% it doesn't know: the first message has too little time, and the next round has more.
 slow_link_test_() ->
     room:test([], fun(_) ->
         {ok, Partner} = antientropy:new(cluster_ring:replica_options(?RANGE)),
@@ -40,7 +40,7 @@ slow_link_test_() ->
         end)
     end).
 
-%% A place is asked plainly if it lies in each patch, or refuses the outlines, as one does that doesn't know them.
+%% A place that falsifies each patch, or refuses the outlines because it doesn't know them, is asked plainly.
 outlines_without_a_text_test_() ->
     Lie = fun(Patch) ->
         Most = byte_size(Patch) - 1,
@@ -79,7 +79,7 @@ outlines_without_a_text(Change) ->
         end
     end).
 
-%% Runs a test with a range, and with other places that do with a call what a function does.
+%% Runs a test with a range. Calls of other places are calls of a function.
 with(Other, Test) ->
     ?OFFERED = ets:new(?OFFERED, [named_table, public]),
     [{ok, _} = Module:start_link() || Module <- [cluster_slots, cluster_repair]],
@@ -137,7 +137,7 @@ keys(Name, Place) ->
     All = [iolist_to_binary(io_lib:format("~s ~b ~b", [Name, Place, Number])) || Number <- lists:seq(1, 1000)],
     [Key || Key <- All, cluster_ring:range(Key) =:= {ok, ?RANGE}].
 
-%% A partner's side of a round here. The round also asks the partners of the range 3, which are down.
+%% Serves a partner's side of a round here. The round also asks the partners of the range 3, which are down.
 serve(offer, Place, [?RANGE, 1], Partners) when is_map_key(Place, Partners) ->
     {ok, Snapshot} = antientropy:snapshot(maps:get(Place, Partners)),
     true = ets:insert(?OFFERED, {Place, Snapshot}),
@@ -164,7 +164,7 @@ put_here(Key) ->
         Clock
     end.
 
-%% A put takes no time there, since it waits for no disk.
+%% A put takes no time there, since it doesn't wait for a disk.
 put_there(Partner, Life, Key) ->
     fun(Context) ->
         timer:sleep(1),
@@ -172,7 +172,7 @@ put_there(Partner, Life, Key) ->
         Context#{Life => Counter}
     end.
 
-%% Puts with the clock of the put before, until it is stopped.
+%% Puts with the clock of the previous put, until it is stopped.
 put_on(Put, Context) ->
     receive
         stop -> ok

@@ -1,10 +1,10 @@
-%% @doc A module in which one function is replaced by a function of a test.
+%% @doc A module with one function replaced by a function of a test.
 -module(replaced).
 
 -export([with/3]).
 -export([call/1]).
 
-%% @doc Runs a test with the function in place of the other one, whose arguments it gets as a list.
+%% @doc Runs a test with another function in place of a module's, whose arguments it gets as a list.
 with({Module, Name, Arity}, Function, Test) ->
     ok = persistent_term:put(?MODULE, Function),
     {module, Module} = code:ensure_loaded(Module),

@@ -89,7 +89,7 @@ begin_life(Life) ->
 stop(Name) ->
     gen_server:stop(Name, shutdown, infinity).
 
-%% @doc Ends a process as a crash does: nothing is closed in order.
+%% @doc Ends a process like a crash: nothing is closed in order.
 kill(Name) ->
     Process = whereis(Name),
     Monitor = monitor(process, Process),
@@ -109,7 +109,7 @@ until(Condition) ->
             until(Condition)
     end.
 
-%% @doc Calls a function for each of some items, in processes of their own, and returns the results in any order.
+%% @doc Calls a function for each item, in separate processes, and returns the results in any order.
 all_at_once(Fun, Items) ->
     Parent = self(),
     [spawn_link(fun() -> Parent ! {result, Fun(Item)} end) || Item <- Items],
@@ -131,8 +131,8 @@ flip(File) ->
     <<Before:Half/binary, Byte, After/binary>> = Bytes,
     ok = file:write_file(File, <<Before/binary, (Byte bxor 4), After/binary>>).
 
-%% @doc Runs an expression at another node with the folder and the settings of this test, and returns what it printed,
-%% and its status.
+%% @doc Runs an expression at another node with the folder and the settings of this test, and returns its output and its
+%% status.
 elsewhere(Settings, Expression) ->
     All = maps:merge(maps:from_list(application:get_all_env(cluster)), maps:from_list(Settings)),
     Words = ["-cluster"] ++ lists:append([[atom_to_list(Name), quoted(Value)] || {Name, Value} <- maps:to_list(All)]),

@@ -23,7 +23,7 @@ small_ring_test_() ->
         ?assertEqual({ok, 0}, cluster_ring:range(<<"key">>))
     end).
 
-%% Nodes have the names that the settings say, and the digest of the ring says whether those are alike.
+%% Nodes have their names from the settings. The digest of the ring depends on the ring's settings, and on no others.
 hosts_test_() ->
     room:test([{places, [{1, "10.0.0.1"}, {7, "store.example"}]}], fun(_) ->
         ?assertEqual(['p1@10.0.0.1', 'p7@store.example'], [cluster_ring:node_of(Place) || Place <- [1, 7]]),
@@ -42,7 +42,7 @@ with_setting({Name, Value}, Fun) ->
     ok = application:set_env(cluster, Name, Before),
     Result.
 
-%% A node with settings that can't be says which one, in a line.
+%% A node with an invalid setting names it, in a line.
 settings_test_() ->
     room:test([], fun(_) ->
         ?assertEqual(ok, cluster_settings:check()),
@@ -79,7 +79,7 @@ settings_test_() ->
         ]
     end).
 
-%% A client hands back what it was given: nothing else is a context, nor that of another key.
+%% A client sends back a context that it got: nothing else is a context, nor is another key's.
 context_test() ->
     Clock = #{33 => 3, 65535 => 1 bsl 64 - 1},
     Context = cluster_clock:context(<<"key">>, Clock),
@@ -104,14 +104,14 @@ flipped(Bytes, Number) ->
     <<Before:Number, Bit:1, After/bits>> = Bytes,
     <<Before:Number, (1 - Bit):1, After/bits>>.
 
-%% A number is one of a life if a place of the ring may have it.
+%% A number is a life if a place of the ring may have it.
 lives_test_() ->
     room:test([], fun(_) ->
         ?assert(cluster_clock:are_lives(#{33 => 1, 5 + 32 * 2047 => 7})),
         [?assertNot(cluster_clock:are_lives([{Number, 1}])) || Number <- [0, 1, 5, 32, 38, 64, 63, 5 + 32 * 2048]]
     end).
 
-%% The text for Prometheus has each line of it right, and histograms add up.
+%% The text for Prometheus has each line in the valid form, and histograms add up.
 metrics_test_() ->
     room:test([], fun(_) ->
         [ok = cluster_metrics:observe(requests, [{kind, put}], Micros) || Micros <- [0, 500, 501, 7000000]],

@@ -1,18 +1,18 @@
-%% @doc All messages between nodes, as a nemesis breaks them: this module is loaded in place of the product's.
+%% @doc All messages between nodes, with the faults of a nemesis: this module is loaded in place of the product's.
 %%
 %% A file, which the environment names, has the faults of all nodes. A fault is in force some milliseconds after the
 %% file was replaced. Its lines are
 %%
 %%     drop FROM TO              messages from a place to another are dropped
-%%     instant                   a dropped message is an error at once, as from a link that is known to be down
+%%     instant                   a dropped message is an error at once, as on a link that is known to be down
 %%     late FROM TO LEAST MOST   a message is late by a random time, in milliseconds, mostly a short one
 %%     repeat MANY               MANY of 1,000 calls are served again in the next second, and that answer is dropped
 %%
-%% Without `instant' a dropped message is silence: its call waits for its limit. Messages that are late overtake each
-%% other, and a call may be served after its caller has given up.
+%% Without `instant' a dropped message is silence: its call waits for its limit. Late messages overtake each other, and
+%% a call may be served after its caller has given up.
 %%
-%% Another file, which the environment names as well, gets a line for each call of background work whose process has no
-%% slot.
+%% Another file, which the environment names as well, gets a line for each call of background work whose process doesn't
+%% have a slot.
 -module(cluster_link).
 
 -export([call/5]).
@@ -64,8 +64,8 @@ pass(Link, Until) ->
     end.
 
 %% @private
-%% @doc Serves a call of another place. It ends without an answer if the message is dropped: then its caller has given
-%% up, or learns it at once.
+%% @doc Serves a call of another place. Ends without an answer if the message is dropped: its caller has then given up,
+%% or learns it at once.
 -spec serve(cluster_ring:place(), cluster_ring:place(), Digest :: binary(), module(), Function, Arguments, ms()) ->
     term() when
     Function :: atom(), Arguments :: [term()].

@@ -43,6 +43,12 @@ class Counts(AvailabilityCase):
         requests = [refused(get(key="l"), "Down")] * 6
         self.assertEqual(Run(put(*MILK), *requests, everywhere=[MILK]).broken(), [])
 
+    def test_a_machine_that_is_late(self):
+        self.assert_served(False, 1, event("late", 1.0, seconds=1.5))
+        self.assert_served(True, 1, event("late", 1.0, seconds=0.5))
+        self.assert_served(False, 1, event("late", 1.0, seconds=0.5), event("late", 5.4, seconds=2.0))
+        self.assert_served(True, 1, event("late", 1.0, seconds=0.5), event("late", 9.0, seconds=2.0))
+
     def test_a_stale_put(self):
         requests = [{**put("eggs", None, status=409, t=5.0), "place": 1, "refused": "StaleContext"}] * 6
         self.assertEqual(Run(put(*MILK), *requests, everywhere=[MILK]).broken(), [])

@@ -1,4 +1,4 @@
-"""Tests that clients in processes of their own follow commands. No node serves them."""
+"""Tests that clients in other processes follow commands. No node serves them."""
 
 from __future__ import annotations
 

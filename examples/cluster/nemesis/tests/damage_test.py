@@ -30,7 +30,7 @@ class DamageCase(unittest.TestCase):
         return {str(it.relative_to(self.disk)): it.read_bytes() for it in self.disk.rglob("*") if it.is_file()}
 
     def changed(self):
-        """Returns the files that differ, and the number of bits in which each one does."""
+        """Returns the files that differ, and the number of differing bits in each file."""
         found = {}
         for name, held in self.held().items():
             bits = sum(bin(one ^ other).count("1") for one, other in zip(held, FILES[name]))

@@ -25,7 +25,7 @@ TWO = "puts are on two nodes"
 READS = "reads see what was acknowledged"
 
 MILK, EGGS, TEA = ("milk", "33:1"), ("eggs", "34:1"), ("tea", "33:1,34:1,35:1")
-#: What a client puts that has read MILK
+#: The put of a client that has read MILK
 MORE = ("more", "33:1,34:1")
 
 
@@ -248,7 +248,7 @@ class Gone(JudgeCase):
 
 
 class Back(JudgeCase):
-    """Place 1 shows what overwrote `milk`, or that it was deleted, and later shows `milk` again."""
+    """Place 1 shows that `milk` was overwritten or deleted, and later shows `milk` again."""
 
     first = put(*MILK), put("more", None, read=["milk"]), get(MORE, t=2.0)
 
@@ -282,7 +282,7 @@ class Back(JudgeCase):
 
 
 class Named(JudgeCase):
-    """Place 1 is killed at the time 4, and is dumped alone."""
+    """Place 1 is killed at the time 4, and is dumped while cut off."""
 
     def test_a_put_that_is_held(self):
         self.assert_broken(Run(put(*MILK), everywhere=[MILK], alone={1: [MILK]}))
@@ -339,7 +339,7 @@ class Equal(JudgeCase):
 
 class Lives(JudgeCase):
     def run_with_lives(self, *events, last=33):
-        """A run in which place 1 has another life in the end."""
+        """A run that ends with another life of place 1."""
         run = Run(events=events)
         run.dumps[1]["life"] = last
         return run
@@ -402,7 +402,7 @@ class Lives(JudgeCase):
 
 
 class Lost(JudgeCase):
-    """Place 1 loses something of its disk at the time 5. Then it goes on with a life."""
+    """Place 1 loses a part of its disk at the time 5, and continues with a life."""
 
     def lost(self, *clients, everywhere, life=65, op="damage"):
         events = event(op, 5.0, place=1, life=33), event("start", 5.2, place=1), event("life", 5.5, place=1, life=life)
@@ -485,7 +485,7 @@ class Two(JudgeCase):
 
 class Reads(JudgeCase):
     def lost(self, at, *clients, everywhere, op="destroy"):
-        """A run in which place 1 loses its disk at a time, and goes on with the life 65."""
+        """A run with a loss of place 1's disk at a time, and its life 65 after it."""
         events = event(op, at, place=1, life=33), event("life", at + 0.1, place=1, life=65)
         run = Run(*clients, everywhere=everywhere, events=events)
         run.dumps[1]["life"] = 65

@@ -1,4 +1,4 @@
-"""Tests what faults of messages do to a call, in a node where all places are."""
+"""Tests the effect of faults of messages on a call, in a node with all places."""
 
 from __future__ import annotations
 
@@ -13,8 +13,8 @@ from nemesis.links import SOURCE
 
 PROBE = sorted(map(str, (Path(__file__).with_name("erlang")).glob("*.erl")))
 
-#: The limit of the probe's calls, and the time that a call may take beside its fault, in milliseconds.
-LIMIT_MS, SPARE_MS = 200, 1_000
+#: The limit of the probe's calls, and the time that a call may take in addition to its fault, in milliseconds.
+LIMIT_MS, SPARE_MS = 600, 1_000
 
 
 class LinkTest(unittest.TestCase):
@@ -39,8 +39,8 @@ class LinkTest(unittest.TestCase):
 
 
 def probe() -> Dict[str, Tuple[str, int, int]]:
-    """Runs the probe, and returns the outcome of the call under each fault, its milliseconds, and how often it was
-    served.
+    """Runs the probe. Returns the outcome of the call under each fault, its milliseconds, and the number of times that
+    it was served.
     """
     with tempfile.TemporaryDirectory() as room:
         subprocess.run(["erlc", "-Wall", "-Werror", "-o", room, *PROBE, str(SOURCE)], check=True)

@@ -1,4 +1,4 @@
-"""The library of disk faults, and what a power cut takes back: small programs that run under it and are killed."""
+"""The library of disk faults, and the effect of power cuts: small programs that run under it and are killed."""
 
 import os
 import random
@@ -13,7 +13,7 @@ from pathlib import Path
 
 from nemesis import power
 
-#: What each program begins with. `folder` is the one whose disk it is.
+#: The beginning of each program. `folder` is the one on the disk.
 BEGIN = """
 import errno, os, signal, sqlite3, sys, threading, time
 folder = sys.argv[1]
@@ -61,7 +61,7 @@ class PowerCase(unittest.TestCase):
         return subprocess.Popen(words, env=self.power.environment(), **pipes)
 
     def end(self, child):
-        """Waits until a program has killed itself, and returns what it said."""
+        """Waits until a program has killed itself, and returns its output."""
         said, complaints = child.communicate(timeout=60)
         self.assertEqual((child.returncode, complaints.decode()), (-signal.SIGKILL, ""))
         return said.decode().split()
@@ -269,7 +269,7 @@ class Names(PowerCase):
 
 
 class Model:
-    """A folder with names and files, each as it is and as it would be after a power cut. A file is a list of both."""
+    """A folder with names and files, each in its current state and in the state after a power cut."""
 
     def __init__(self):
         self.names, self.synced = {}, {}
@@ -301,7 +301,7 @@ class Model:
 
 
 class ByChance(PowerCase):
-    """Changes by chance, and a model of what a power cut leaves of them."""
+    """Random changes, and a model of their state after a power cut."""
 
     PROGRAM = """
 for deed, *words in DEEDS:
@@ -318,7 +318,7 @@ for deed, *words in DEEDS:
 """
 
     def deed(self, chance, names):
-        """Returns a change by chance, for a folder with these names."""
+        """Returns a random change, for a folder with these names."""
         free = [name for name in "abcdefgh" if name not in names]
         if free and (not names or chance.random() < 0.15):
             return "create", chance.choice(free)

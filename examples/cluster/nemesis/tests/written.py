@@ -1,6 +1,6 @@
 """Small logs, written by hand.
 
-They are of five places that begin with the lives 33 to 37. The key `k` is in range 0, at the places 1 to 3.
+They have five places that begin with the lives 33 to 37. The key `k` is in range 0, at the places 1 to 3.
 """
 
 import base64
@@ -17,7 +17,7 @@ HOLDERS = {0: (1, 2, 3), 1: (2, 3, 4), 2: (3, 4, 5), 3: (4, 5, 1)}
 
 
 def put(value, clock, read=(), t=1.0, on=(1, 2), status=200, key="k"):
-    """A put, which took half a second. Without a clock it wasn't answered, unless a status says more."""
+    """A put, which took half a second. Without a clock it got no response, unless there is a status."""
     return _write("put", clock, read, t, on, status, key, value=value)
 
 
@@ -35,7 +35,7 @@ def get(*versions, t=2.0, key="k", by=1):
 
 
 def refused(line, name, place=1, t=5.0, **more):
-    """A request that a place refused by a name."""
+    """A request that a place refused with a name."""
     return {**line, "t": t, "end": t + 0.5, "place": place, "status": 503, "refused": name, **more}
 
 
@@ -50,12 +50,12 @@ def held(*versions):
 
 
 class Run:
-    """A run that is in order, but for what a test changes."""
+    """A valid run, except for the changes of a test."""
 
     def __init__(self, *clients, everywhere=(), at=None, alone=None, events=(), mode="all"):
-        """`everywhere` are the versions that each replica holds of `k`, and `at` those of some places instead.
+        """Makes a run. `everywhere` has the versions that each replica holds of `k`, `at` those of some places instead.
 
-        `alone` are those of places that were killed at the time 4, and then were dumped alone.
+        `alone` has the versions of places that were killed at the time 4, and then were dumped while cut off.
         """
         self.client = list(clients)
         starts = [event("start", 0.0, place=place) for place in PLACES]

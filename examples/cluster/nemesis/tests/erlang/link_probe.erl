@@ -1,11 +1,12 @@
-%% @doc Calls the nemesis' `cluster_link' in one node, and prints what comes of it, and how often it was served.
+%% @doc Calls the nemesis' `cluster_link' in one node, and prints the outcome, and the number of times that it was
+%% served.
 -module(link_probe).
 
 -export([main/0]).
 -export([served/1]).
 
-%% @doc Makes a call under each fault. Prints the fault's name, the outcome, the milliseconds of the call, and how often
-%% it was served in the end.
+%% @doc Makes a call under each fault. Prints the fault's name, the outcome, the milliseconds of the call, and the
+%% number of times that it was served.
 -spec main() -> no_return().
 main() ->
     ?MODULE = ets:new(?MODULE, [named_table, public, duplicate_bag]),
@@ -25,7 +26,7 @@ faults() ->
         {others_dropped, "drop 1 3\ndrop 3 1\n"},
         {refused, "drop 1 2\ninstant\n"},
         {late, "late 1 2 60 60\nlate 2 1 40 40\n"},
-        {too_late, "late 1 2 300 300\n"},
+        {too_late, "late 1 2 900 900\n"},
         {repeated, "repeat 1000\n"}
     ].
 
@@ -36,7 +37,7 @@ call(Name, Faults) ->
 
 outcome(Name) ->
     try
-        cluster_link:call(2, ?MODULE, served, [Name], 200)
+        cluster_link:call(2, ?MODULE, served, [Name], 600)
     catch
         error:{erpc, Reason} -> Reason
     end.
