@@ -1,53 +1,53 @@
 /* antientropy for C: one replica of a range of a Dynamo-style store, over the proved core.
  *
  * A program makes a replica, puts and reads versions, rehashes its tree, and syncs it with another replica by messages,
- * which it carries itself. Hints and slots are apart, and may be left out. The library starts no thread, opens no file
- * or socket, and takes no lock.
+ * which it carries itself. Hints and slots are separate, and optional. The library starts no thread, opens no file or
+ * socket, and takes no lock.
  * docs/EMBEDDING_C.md shows how to use it.
  *
  * RETURN VALUES
  *
- * Each call but those that free returns 0, or the number of the first cause in its list for which it was refused. A
- * refused call changes nothing, with three exceptions: an antientropy_rehash that runs out of memory may have made some
- * nodes clean, an antientropy_take that returns ANTIENTROPY_NOT_CANONICAL has failed its session, and a renewal that is
- * refused when it catches up or finishes may have accepted some entries. Unless a call says otherwise, it writes
- * through its result pointers only if it returns 0. A call of an empty handle (EMPTY) writes nothing, and changes no
- * other handle.
+ * Each call, except those that free, returns 0, or the number of the first cause in its list for which it was refused.
+ * A refused call changes nothing, with three exceptions: an antientropy_rehash that runs out of memory may have made
+ * some nodes clean, an antientropy_take that returns ANTIENTROPY_NOT_CANONICAL has failed its session, and a renewal
+ * that is refused when it catches up or finishes may have accepted some entries. Unless a call says otherwise, it
+ * writes through its result pointers only if it returns 0. A call of an empty handle (EMPTY) writes nothing, and
+ * changes no other handle.
  *
  * RESULTS OF VARIABLE LENGTH
  *
- * A call that returns bytes takes room for out_len bytes at `out`, and writes the number of bytes to `need`. If they
- * don't fit, it copies nothing and returns ANTIENTROPY_SMALL: nothing is lost, so call again with more room. If it is
- * refused for another cause, it leaves `need` unchanged.
+ * A call that returns bytes takes a buffer of out_len bytes at `out`, and writes the number of bytes to `need`. If they
+ * don't fit, it copies nothing and returns ANTIENTROPY_SMALL: nothing is lost, so call again with a larger buffer. If
+ * it is refused for another cause, it leaves `need` unchanged.
  *
  * THE CALLER'S SIDE (nothing checks it)
  *
  * - Each pointer is valid, aligned and not NULL, even if its length is 0; a call that frees accepts NULL. Memory for
- *   out, need and the like is the caller's, and doesn't overlap the call's other arguments. No call gets one handle
- *   twice. The library keeps no pointer that it is passed.
+ *   out, need and the like belongs to the caller, and doesn't overlap the call's other arguments. No call gets one
+ *   handle twice. The library keeps no pointer that it is passed.
  * - A handle (struct antientropy_replica, antientropy_renewal, antientropy_snapshot, antientropy_portion,
- *   antientropy_exchange, antientropy_hints, antientropy_slots) is initialised with `= {0}`, and its fields are left
- *   alone. It may be moved in memory between calls; of copies only one is used. All bytes zero means that it holds
- *   nothing.
- * - READS AT ONCE, CHANGES ALONE. A call that takes a handle as const reads it, and any number of threads may make such
- *   calls of one handle at once. A call that takes it without const has it alone: no other call of that handle, not
- *   even a read, is in progress meanwhile. A reader-writer lock does that. A handle may go to another thread if the
- *   program orders that: by a lock, by a thread's start or join, or by a sequentially consistent atomic. Different
- *   handles may be used at once, even a replica, its renewal, its snapshots and its portions.
+ *   antientropy_exchange, antientropy_hints, antientropy_slots) is initialised with `= {0}`, and the program doesn't
+ *   touch its fields. It may be moved in memory between calls; only one of its copies is used. A handle whose bytes are
+ *   all zero is empty.
+ * - CONCURRENT READS, EXCLUSIVE CHANGES. A call that takes a handle as const reads it, and any number of threads may
+ *   make such calls of one handle at once. A call that takes it without const has exclusive access: no other call of
+ *   that handle, not even a read, is in progress meanwhile. A reader-writer lock does that. A handle may go to another
+ *   thread if the program orders that: by a lock, by a thread's start or join, or by a sequentially consistent atomic.
+ *   Different handles may be used at once, even a replica, its renewal, its snapshots and its portions.
  * - No call from a signal handler, or from the forked child of a process with threads.
- * - malloc, realloc and free are of one allocator, which aligns blocks to 16 bytes.
+ * - malloc, realloc and free belong to one allocator, which aligns blocks to 16 bytes.
  * - A put that follows a read is antientropy_put_read, which replaces only versions that its client has read. Before
  *   antientropy_put, no held version of the key has a greater counter of the node than the context. Otherwise the put
  *   may replace a version that its client never read. See docs/EMBEDDING_C.md, "A replica".
  * - Counters don't go back: a replica that lost entries returns under a node number that was never used (versions that
- *   no partner holds are lost then), or with every version that it ever acknowledged, showed to a reader or handed to a
- *   partner (antientropy_accept takes them in). Otherwise a put can reuse a clock that another replica holds, and is
- *   then lost silently. So responses, copies, hints and offers go out only after the versions in them are on disk. A
- *   clock has at most 32 pairs, and a number that was used stays in it. See docs/EMBEDDING_C.md, "Restarts", and
+ *   no partner holds are lost), or with every version that it ever acknowledged, showed to a reader or sent to a
+ *   partner (antientropy_accept accepts them). Otherwise a put can reuse a clock that another replica holds, and is
+ *   silently lost. Therefore responses, copies, hints and offers are sent only after the versions in them are on disk.
+ *   A clock has at most 32 pairs, and a node number that was used stays in it. See docs/EMBEDDING_C.md, "Restarts", and
  *   examples/restart.c.
- * - A renewal catches up with the replica from which it began, and takes the place of that one: another replica isn't
- *   always refused.
- * - What was made is freed: antientropy_free, antientropy_renewal_free, antientropy_snapshot_free,
+ * - A renewal catches up with the replica that it began with, and replaces that one: another replica isn't always
+ *   refused.
+ * - Everything that was made is freed: antientropy_free, antientropy_renewal_free, antientropy_snapshot_free,
  *   antientropy_portion_free, antientropy_exchange_free, antientropy_hints_free, antientropy_slots_free. A renewal, a
  *   snapshot, a portion or an exchange may outlive its replica.
  */
@@ -62,14 +62,14 @@
 extern "C" {
 #endif
 
-/* The version of this header. A struct that gets a field, or a call that gets another argument, is a new soname. */
+/* The version of this header. A new field of a struct, or a new argument of a call, needs a new soname. */
 #define ANTIENTROPY_VERSION_MAJOR 2
 #define ANTIENTROPY_VERSION_MINOR 0
 #define ANTIENTROPY_VERSION_PATCH 0
 #define ANTIENTROPY_VERSION \
     (10000 * ANTIENTROPY_VERSION_MAJOR + 100 * ANTIENTROPY_VERSION_MINOR + ANTIENTROPY_VERSION_PATCH)
 
-/* Limits, in bytes if nothing else is said. */
+/* Limits, in bytes unless noted otherwise. */
 #define ANTIENTROPY_KEY_MAX 255
 #define ANTIENTROPY_VALUE_MAX_1 4096      /* a value in format 1 */
 #define ANTIENTROPY_VALUE_MAX_2 65536     /* a value in format 2 */
@@ -78,7 +78,7 @@ extern "C" {
 #define ANTIENTROPY_NODE_MAX 65535        /* the greatest node number */
 #define ANTIENTROPY_BITS_MAX 8            /* bits of a range's number */
 #define ANTIENTROPY_ENTRIES_MAX 1000000   /* entries of a journal */
-#define ANTIENTROPY_SESSIONS_MAX 1024     /* sessions of a replica, ever */
+#define ANTIENTROPY_SESSIONS_MAX 1024     /* sessions that a replica keeps */
 #define ANTIENTROPY_OPEN_SESSIONS_MAX 64  /* open sessions of a replica */
 #define ANTIENTROPY_LEAVES_1 256          /* leaves of a tree of format 1 */
 #define ANTIENTROPY_LEAVES_2 4096         /* leaves of a tree of format 2 */
@@ -87,36 +87,36 @@ extern "C" {
 #define ANTIENTROPY_ROOT_LEN 32
 #define ANTIENTROPY_OFFER_LEN 39
 #define ANTIENTROPY_ASK_LEN 8
-#define ANTIENTROPY_ASK_ROOM 4096         /* room for an ask, and for the outline of a leaf of up to 1,361 rows */
+#define ANTIENTROPY_ASK_ROOM 4096         /* buffer for an ask, or for the outline of a leaf of up to 1,361 rows */
 #define ANTIENTROPY_ROW_MAX 4215427       /* the text of a row */
 #define ANTIENTROPY_ENTRY_MAX 66122       /* the text of an entry */
 #define ANTIENTROPY_HINTS_MAX 10000       /* pending hints of a carrier */
 #define ANTIENTROPY_SLOTS_MAX 1024        /* the greatest ceiling of slots */
 #define ANTIENTROPY_NAME_MAX 14           /* a name of a number that a call returns */
 
-/* Causes of refusal. Numbers 1 to 32 are those that scripts print; docs/FORMATS.md says what to do at each. Those that
- * no call here returns are left out. */
+/* Causes of refusal. Numbers 1 to 32 belong to the causes that scripts print; docs/FORMATS.md says how to handle each.
+ * Numbers that no call here returns are left out. */
 enum {
     ANTIENTROPY_OK = 0,
-    ANTIENTROPY_BAD_CLOCK = 1,        /* a node is 0, over 65,535 or there twice, or a counter is 0 */
+    ANTIENTROPY_BAD_CLOCK = 1,        /* a node is 0, over 65,535 or repeated, or a counter is 0 */
     ANTIENTROPY_CLOCK_FULL = 2,       /* the clock would have more than 32 pairs */
     ANTIENTROPY_COUNTER_FULL = 3,     /* the counter to raise is 2^64 - 1 */
-    ANTIENTROPY_BAD_KEY = 4,          /* the key has no byte, or over 255; of key_next, more than the room */
+    ANTIENTROPY_BAD_KEY = 4,          /* the key has no byte, or over 255; in key_next, more than the buffer */
     ANTIENTROPY_BAD_VALUE = 5,        /* too long; a tombstone with a value, or in format 1; or an unknown kind */
-    ANTIENTROPY_STALE_CONTEXT = 6,    /* a held version has seen all of the new clock; of put_read, more of the node */
+    ANTIENTROPY_STALE_CONTEXT = 6,    /* a held version has seen all of the new clock; in put_read, more of the node */
     ANTIENTROPY_CROWDED = 7,          /* the key would have over 64 versions */
-    ANTIENTROPY_JOURNAL_FULL = 8,     /* the journal has no room for the entries; of renew, or no numbers are left */
-    ANTIENTROPY_OTHER_RANGE = 9,      /* a key or an offer is of another range, or the rows are of two leaves */
-    ANTIENTROPY_DIRTY = 10,           /* some node has no digest, or there is no moment */
-    ANTIENTROPY_STALE = 11,           /* the replica isn't the one of the renewal */
+    ANTIENTROPY_JOURNAL_FULL = 8,     /* the entries don't fit into the journal; in renew, or no numbers are left */
+    ANTIENTROPY_OTHER_RANGE = 9,      /* a key or an offer belongs to another range, or the rows to two leaves */
+    ANTIENTROPY_DIRTY = 10,           /* some node has no digest, or the replica has no moment */
+    ANTIENTROPY_STALE = 11,           /* the replica isn't the renewal's */
     ANTIENTROPY_UNKNOWN_SESSION = 12, /* no session has this number */
     ANTIENTROPY_NOT_ASKED = 13,       /* the node isn't outstanding */
     ANTIENTROPY_WRONG_DIGEST = 14,    /* the text's digest isn't the expected one */
-    ANTIENTROPY_NOT_CANONICAL = 15,   /* the digest is right, but the text isn't a node's: the session has failed */
-    ANTIENTROPY_OTHER_FORMAT = 16,    /* the offer or the rows are of another format */
+    ANTIENTROPY_NOT_CANONICAL = 15,   /* the digest matches, but the text isn't a node's: the session has failed */
+    ANTIENTROPY_OTHER_FORMAT = 16,    /* the offer or the rows have another format */
     ANTIENTROPY_SESSIONS_FULL = 17,   /* 64 sessions are open, or 1,024 are kept: drop the ended ones */
     ANTIENTROPY_NO_SLOT = 18,         /* no slot is free, or none is lent */
-    ANTIENTROPY_CLOCK_BACK = 19,      /* the moment is before the greatest accepted one */
+    ANTIENTROPY_CLOCK_BACK = 19,      /* the time is before the latest one accepted */
     ANTIENTROPY_UNKNOWN_HINT = 20,    /* no pending hint has this number, or no hint can have it */
     ANTIENTROPY_HINTS_FULL = 21,      /* 10,000 hints are pending, or the last number was used */
     ANTIENTROPY_GONE = 22,            /* the ask is for another offer */
@@ -124,11 +124,11 @@ enum {
     ANTIENTROPY_ROW_BROKEN = 30,      /* the bytes aren't texts of rows */
     ANTIENTROPY_BAD_MESSAGE = 31,     /* not a message, not the expected kind, or a node that isn't in the tree */
     ANTIENTROPY_NO_MEMORY = 32,       /* malloc or realloc failed */
-    ANTIENTROPY_SMALL = 33,           /* the room is too small */
-    ANTIENTROPY_EMPTY = 34,           /* the handle holds nothing */
-    ANTIENTROPY_HELD = 35,            /* the handle holds something already */
-    ANTIENTROPY_NO_VERSION = 36,      /* there is no such version, entry, hint or leaf, or none that follows */
-    ANTIENTROPY_BAD_POSITION = 37     /* no entry is to be read from this number on: see antientropy_entries */
+    ANTIENTROPY_SMALL = 33,           /* the buffer is too small */
+    ANTIENTROPY_EMPTY = 34,           /* the handle is empty */
+    ANTIENTROPY_HELD = 35,            /* the handle isn't empty */
+    ANTIENTROPY_NO_VERSION = 36,      /* no such version, entry, hint or leaf, or none follows */
+    ANTIENTROPY_BAD_POSITION = 37     /* entries can't be read from this number on: see antientropy_entries */
 };
 
 /* Kinds of versions. */
@@ -138,7 +138,7 @@ enum { ANTIENTROPY_LIVE = 0, ANTIENTROPY_TOMBSTONE = 1 };
 enum {
     ANTIENTROPY_PUT = 0,    /* a put at this replica */
     ANTIENTROPY_COPY = 1,   /* accepted or loaded here, or carried over by a renewal */
-    ANTIENTROPY_HINT = 2,   /* a hint that was delivered: not through this library, which takes it as a copy */
+    ANTIENTROPY_HINT = 2,   /* a delivered hint; this library accepts hints as copies */
     ANTIENTROPY_PARTNER = 3 /* a partner's, in a session */
 };
 
@@ -147,7 +147,7 @@ enum {
     ANTIENTROPY_OPEN = 0,      /* some node is outstanding */
     ANTIENTROPY_FINISHED = 1,  /* each ask was answered */
     ANTIENTROPY_FAILED = 2,    /* an answer had the right digest, but its text can't be a node's */
-    ANTIENTROPY_CANCELLED = 3  /* it was ended before it was finished */
+    ANTIENTROPY_CANCELLED = 3  /* ended before it was finished */
 };
 
 /* Verdicts of an exchange on an answer. */
@@ -155,17 +155,17 @@ enum {
     ANTIENTROPY_VERDICT_TAKEN = 0,   /* the session took it */
     ANTIENTROPY_VERDICT_LEFT = 1,    /* the leaf was left: a key in its text is crowded */
     ANTIENTROPY_VERDICT_BAD = 2,     /* it counts as bad: its cause is BAD_MESSAGE, NOT_ASKED or WRONG_DIGEST */
-    ANTIENTROPY_VERDICT_LATE = 3,    /* it is late, of another offer, or the exchange is over: it counts as nothing */
-    ANTIENTROPY_VERDICT_REFUSED = 4, /* there was no room for it: its cause is JOURNAL_FULL or NO_MEMORY */
-    ANTIENTROPY_VERDICT_FAILED = 5   /* the digest is right, but the text isn't a node's: the session has failed */
+    ANTIENTROPY_VERDICT_LATE = 3,    /* late, for another offer, or after the exchange was over: not counted */
+    ANTIENTROPY_VERDICT_REFUSED = 4, /* it was refused: its cause is JOURNAL_FULL or NO_MEMORY */
+    ANTIENTROPY_VERDICT_FAILED = 5   /* the digest matches, but the text isn't a node's: the session has failed */
 };
 
 /* Reports of an exchange. It sends asks while it is WAITING. */
 enum {
     ANTIENTROPY_REPORT_FINISHED = 0,      /* the replica holds each version of the offer, or one that has seen it */
-    ANTIENTROPY_REPORT_WAITING = 1,       /* some node is to be asked, or its ask is on its way */
+    ANTIENTROPY_REPORT_WAITING = 1,       /* some node is to be asked for, or its ask is in progress */
     ANTIENTROPY_REPORT_LEFT = 2,          /* only leaves that were left are outstanding */
-    ANTIENTROPY_REPORT_STOPPED = 3,       /* there was no room for an answer: go on, or close */
+    ANTIENTROPY_REPORT_STOPPED = 3,       /* an answer was refused: call antientropy_exchange_go_on, or close */
     ANTIENTROPY_REPORT_TOO_MANY_BAD = 4,  /* more answers were bad than the bounds allow */
     ANTIENTROPY_REPORT_TOO_MANY_LOST = 5, /* more asks were lost than the bounds allow */
     ANTIENTROPY_REPORT_FAILED = 6,        /* the session has failed */
@@ -212,7 +212,7 @@ struct antientropy_exchange {
 struct antientropy_hints {
     void *at;
     bool held;
-    uint64_t before; /* the number before the first of the store's */
+    uint64_t before; /* the number before the store's first one */
 };
 
 /* A handle of slots for background work. It may hold nothing. */
@@ -229,8 +229,8 @@ struct antientropy_pair {
 
 /* The result of a put. */
 struct antientropy_receipt {
-    uint64_t number;  /* the entry's number; after a renewal it may be that of a version carried over */
-    uint64_t counter; /* the node's counter in the new version's clock; the other counters are those of the context */
+    uint64_t number;  /* the entry's number; after a renewal it may name a version carried over */
+    uint64_t counter; /* the node's counter in the new version's clock; the context has the other counters */
 };
 
 /* The sizes and the kind of a version. */
@@ -264,10 +264,10 @@ struct antientropy_taken {
 
 /* The bounds of an exchange. `asks`, `bad` and `lost` over 2^32 - 1 count as that number. */
 struct antientropy_bounds {
-    uint64_t asks;  /* maximum of asks on their way; one may always be */
-    uint64_t bytes; /* maximum of bytes of the answers to them, as far as they can be estimated; one may be longer */
-    uint64_t bad;   /* maximum of bad answers: after one more the exchange is over */
-    uint64_t lost;  /* maximum of lost asks: after one more the exchange is over */
+    uint64_t asks;  /* maximum number of asks in progress; one is always allowed */
+    uint64_t bytes; /* maximum size of their answers in bytes, as far as it can be estimated; one may be longer */
+    uint64_t bad;   /* maximum number of bad answers: after one more the exchange is over */
+    uint64_t lost;  /* maximum number of lost asks: after one more the exchange is over */
 };
 
 /* The verdict on an answer. */
@@ -278,13 +278,13 @@ struct antientropy_verdict {
     uint64_t known;    /* number of known versions, if it is TAKEN; otherwise 0 */
 };
 
-/* How far an exchange is. */
+/* The progress of an exchange. */
 struct antientropy_progress {
     uint64_t report;       /* the report */
     uint64_t cause;        /* JOURNAL_FULL or NO_MEMORY if it is STOPPED; otherwise 0 */
-    uint64_t asks;         /* asks that were sent, without outlines that brought no text */
-    uint64_t on_way;       /* asks on their way */
-    uint64_t bytes_on_way; /* bytes of the answers to them, as far as they can be estimated */
+    uint64_t asks;         /* asks that were sent, except outlines that brought no text */
+    uint64_t on_way;       /* asks in progress */
+    uint64_t bytes_on_way; /* size of their answers in bytes, as far as it can be estimated */
     uint64_t bad;          /* bad answers */
     uint64_t lost;         /* lost asks */
     uint64_t accepted;     /* new versions in the answers that were taken */
@@ -302,13 +302,13 @@ struct antientropy_node {
 struct antientropy_loaded {
     uint64_t taken;  /* number of new versions: they are now entries of the journal */
     uint64_t known;  /* number of known versions */
-    uint64_t offset; /* after ROW_BROKEN, which writes it alone: the offset in bytes of the broken field */
+    uint64_t offset; /* after ROW_BROKEN, which writes only this field: the offset in bytes of the broken field */
 };
 
 /* Counts of a replica. */
 struct antientropy_counts {
     uint64_t entries;       /* entries, with those before renewals: the number of the next entry */
-    uint64_t limit;         /* maximum of `entries` less `first`: there the journal is full (JOURNAL_FULL) */
+    uint64_t limit;         /* maximum of `entries` minus `first`: at that number the journal is full (JOURNAL_FULL) */
     uint64_t dirty;         /* nodes of the tree that have no digest */
     uint64_t sessions;      /* sessions that are kept: at 1,024 no other can be opened until ended ones are dropped */
     uint64_t open_sessions; /* open sessions: at 64 no other can be opened until one has ended */
@@ -322,10 +322,10 @@ struct antientropy_bytes {
     uint64_t rows;     /* the rows, as antientropy_rows copies them out */
     uint64_t journal;  /* the keys, values and clocks of the entries since `first`: 10 bytes for each pair of a clock */
     uint64_t sessions; /* the texts that sessions took, and the leaves of their rows that have changed since or have no
-                        * digest now (each counts once, with the last session that has it): at most what they keep */
+                        * digest now (each counts once, with the last session that has it): no more than they keep */
 };
 
-/* The range of a replica or a snapshot, and the position of its journal: what a checkpoint or a log has to name. */
+/* The range of a replica or a snapshot, and the position of its journal. A checkpoint or a log has to name both. */
 struct antientropy_about {
     uint64_t format;  /* 1 or 2 */
     uint64_t bits;    /* bits of the range's number: the ring has 2^bits ranges */
@@ -341,7 +341,7 @@ struct antientropy_hint_counts {
 
 /* Counts of slots. */
 struct antientropy_slot_counts {
-    uint64_t target; /* the most slots that may be lent */
+    uint64_t target; /* maximum number of slots lent */
     uint64_t lent;   /* slots lent */
     uint64_t free;   /* slots that could be lent now */
 };
@@ -352,11 +352,11 @@ struct antientropy_percentile {
     uint64_t micros; /* the percentile in microseconds */
 };
 
-/* ---- shares: what the inline functions below call */
+/* ---- shares: the calls that the inline functions below make */
 
-/* A program in C or C++ calls the inline functions, which have these names without `share_`. A language without a C
- * compiler calls these, with a copy of the handle's struct as `share`. This call alone uses the copy: it writes it, and
- * leaves it unchanged at its end. It doesn't write the handle. */
+/* A program in C or C++ calls the inline functions, whose names are these without `share_`. A program in a language
+ * without a C compiler makes these calls, with a copy of the handle's struct as `share`. Only this call uses the copy:
+ * it writes it, and restores it before it returns. It doesn't write the handle. */
 uint32_t antientropy_share_renew(struct antientropy_replica *share, struct antientropy_replica *into, uint64_t limit);
 uint32_t antientropy_share_renewal_begin(struct antientropy_replica *share, uint64_t limit,
                                          struct antientropy_renewal *renewal);
@@ -448,8 +448,7 @@ static inline const char *antientropy_strerror(uint32_t number)
     return number < sizeof names / sizeof *names ? names[number] : "unknown";
 }
 
-/* Returns the range and the leaf of a key, in a ring of 2^bits ranges (bits 0 to 8) of format 1 or 2. It needs no
- * replica.
+/* Returns the range and the leaf of a key, in a ring of 2^bits ranges (bits 0 to 8) of format 1 or 2. Needs no replica.
  * Refused, in order: BAD_RING (the format or the bits), BAD_KEY. */
 uint32_t antientropy_place(uint64_t format, uint64_t bits, const uint8_t *key, size_t key_len,
                            struct antientropy_spot *spot);
@@ -462,21 +461,21 @@ uint32_t antientropy_place(uint64_t format, uint64_t bits, const uint8_t *key, s
 uint32_t antientropy_new(struct antientropy_replica *replica, uint64_t format, uint64_t bits, uint64_t range,
                          uint64_t limit);
 
-/* Makes a replica as antientropy_new does, which finds keys by a hash with a seed of two words. Random words make it
- * hard for clients to choose keys with equal hashes, which are slow to find. A renewal hands the seed on.
+/* Makes a replica as antientropy_new does, with a seed of two words for the hash that finds keys. Random words make it
+ * hard for clients to choose keys with equal hashes, which are slow to find. A renewal keeps the seed.
  * Refused, in order: HELD, BAD_RING, NO_MEMORY. */
 uint32_t antientropy_new_seeded(struct antientropy_replica *replica, uint64_t format, uint64_t bits, uint64_t range,
                                 uint64_t limit, uint64_t first, uint64_t second);
 
-/* Frees the replica that a handle holds, if it holds one. In C and C++ each call that frees accepts NULL, and does
- * nothing; a pointer to the call, and the call from another language, don't. */
+/* Frees the replica of a handle, if any. In C and C++ each call that frees accepts NULL, and does nothing; a pointer to
+ * the call, and the call from another language, don't. */
 void antientropy_free(struct antientropy_replica *replica);
 
 /* Makes a new replica in the empty handle `into`, which begins with the versions that `from` holds: one entry for each,
- * with the same rows and digests, no sessions, and a journal of at most `limit` entries, 1 to 1,000,000. `from` is left
- * unchanged: free it, and go on with the new one under the same node number. The numbers of entries go on: the last
- * entry of the new replica has the number of the last one of `from`, so both count as many entries, and the next entry
- * gets a number that was never used. The entries from the new `first` to that count are the versions carried over.
+ * with the same rows and digests, no sessions, and a journal of at most `limit` entries, 1 to 1,000,000. `from` is
+ * unchanged: free it, and continue with the new one under the same node number. The numbers of entries continue: the
+ * last entries of both replicas have the same number, so both have the same count of entries, and the next entry gets a
+ * number that was never used. The entries from the new `first` to that count are the versions carried over.
  * Refused, in order: EMPTY (`from`), HELD (`into` holds one already), BAD_RING (the limit), JOURNAL_FULL (more versions
  * are held than the limit, or `entries` + 1,000,000 is over 2^64 - 1), NO_MEMORY. */
 static inline uint32_t antientropy_renew(const struct antientropy_replica *from, struct antientropy_replica *into,
@@ -486,16 +485,17 @@ static inline uint32_t antientropy_renew(const struct antientropy_replica *from,
     return antientropy_share_renew(&share, into, limit);
 }
 
-/* A renewal while puts go on. antientropy_renew takes time in proportion to the rows, and no put is made meanwhile. These
- * calls make the new replica in another thread: antientropy_renewal_begin takes the rows of the moment,
- * antientropy_renewal_build makes the new replica from them, antientropy_renewal_catch_up accepts what the old one
- * accepted since then, and antientropy_renewal_finish puts the new one in its place, without sessions and moment. */
+/* A renewal in parallel with puts. antientropy_renew takes time in proportion to the rows, and no put can be made
+ * meanwhile. These calls make the new replica in another thread: antientropy_renewal_begin takes the rows of the
+ * moment, antientropy_renewal_build makes the new replica from them, antientropy_renewal_catch_up accepts the entries
+ * that the old one accepted since then, and antientropy_renewal_finish replaces the old one with the new one, without
+ * sessions and moment. */
 
-/* Begins a renewal in an empty handle: takes the rows of the replica's moment, which is whole (antientropy_hold,
- * antientropy_hash_moment). Copies no row. The new journal has at most `limit` entries, 1 to 1,000,000: the call that
- * builds tests it.
- * Refused, in order: EMPTY (the replica), HELD (the handle holds a renewal already), DIRTY (there is no moment, or some
- * node of it has no digest), NO_MEMORY. */
+/* Begins a renewal in an empty handle: takes the rows of the replica's moment, which must be whole (antientropy_hold,
+ * antientropy_hash_moment). Copies no row. The new journal has at most `limit` entries, 1 to 1,000,000:
+ * antientropy_renewal_build tests the limit.
+ * Refused, in order: EMPTY (the replica), HELD (the handle holds a renewal already), DIRTY (the replica has no moment,
+ * or some node of it has no digest), NO_MEMORY. */
 static inline uint32_t antientropy_renewal_begin(const struct antientropy_replica *replica, uint64_t limit,
                                                  struct antientropy_renewal *renewal)
 {
@@ -504,18 +504,19 @@ static inline uint32_t antientropy_renewal_begin(const struct antientropy_replic
 }
 
 /* Makes the new replica from the rows of the moment: one entry for each version, as antientropy_renew does. It uses no
- * replica, so any thread makes it while the replica is in other calls. It takes time in proportion to the rows.
+ * replica, so any thread can make the call while the replica is in other calls. It takes time in proportion to the
+ * rows.
  * Refused, in order: EMPTY, HELD (it is made already), BAD_RING (the limit), JOURNAL_FULL (the moment has more versions
  * than the limit), NO_MEMORY. */
 uint32_t antientropy_renewal_build(struct antientropy_renewal *renewal);
 
 /* Accepts the next entries that the replica accepted since the moment, at most `most` of them, and returns the number
- * of those that are left. It reads the replica only. A program that repeats it until few are left finishes in a short
+ * of those that are left. It only reads the replica. A program that repeats it until few are left finishes in a short
  * time; with `most` 0 it accepts none. If an entry is refused, those before it are accepted.
  * Refused, in order: EMPTY (the renewal or the replica; or the new one isn't made, or is in a replica's place), STALE
- * (the replica isn't the one of the renewal: its journal begins at another number, its format, bits or range differs,
- * or it has fewer entries than were accepted); then, for an entry, STALE (it isn't new), CROWDED, JOURNAL_FULL,
- * NO_MEMORY, which may replace the three before it. */
+ * (the replica isn't the renewal's: its journal begins at another number, its format, bits or range differs, or it has
+ * fewer entries than were accepted); then, for an entry, STALE (it isn't new), CROWDED, JOURNAL_FULL, NO_MEMORY, which
+ * may replace the three before it. */
 static inline uint32_t antientropy_renewal_catch_up(struct antientropy_renewal *renewal,
                                                     const struct antientropy_replica *replica, uint64_t most,
                                                     uint64_t *left)
@@ -524,20 +525,20 @@ static inline uint32_t antientropy_renewal_catch_up(struct antientropy_renewal *
     return antientropy_share_renewal_catch_up(renewal, &share, most, left);
 }
 
-/* Accepts all entries that are left, and puts the new replica in the place of the old one, under the same handle. The
- * numbers of entries go on: the entries since the moment keep theirs, the versions carried over have those before, and
- * the next entry gets a number that was never used. The renewal holds the old replica then: free it in a thread for
- * which nobody waits. If the call is refused, the replica is unchanged.
+/* Accepts all entries that are left, and replaces the old replica with the new one, under the same handle. The numbers
+ * of entries continue: the entries since the moment keep their numbers, the versions carried over have those before,
+ * and the next entry gets a number that was never used. Afterwards the renewal holds the old replica: free it in a
+ * thread that nobody waits for. If the call is refused, the replica is unchanged.
  * Refused, in order: EMPTY (the renewal or the replica; or the new one isn't made, or is in a replica's place), STALE
  * (its journal begins at another number), JOURNAL_FULL (`entries` + 1,000,000 is over 2^64 - 1); then as
  * antientropy_renewal_catch_up is: STALE, CROWDED, JOURNAL_FULL, NO_MEMORY. */
 uint32_t antientropy_renewal_finish(struct antientropy_renewal *renewal, struct antientropy_replica *replica);
 
-/* Frees what a renewal holds, if it holds something: the rows, the new replica, or the old one. */
+/* Frees the contents of a renewal, if any: the rows, the new replica, or the old one. */
 void antientropy_renewal_free(struct antientropy_renewal *renewal);
 
 /* Converts a replica of format 1 to format 2. All nodes become dirty, and open sessions are cancelled. A replica of
- * format 2 is left unchanged. Refused, in order: EMPTY, NO_MEMORY. */
+ * format 2 is unchanged. Refused, in order: EMPTY, NO_MEMORY. */
 uint32_t antientropy_migrate(struct antientropy_replica *replica);
 
 /* Returns the counts of a replica. Refused: EMPTY. */
@@ -554,8 +555,8 @@ static inline uint32_t antientropy_about(const struct antientropy_replica *repli
     return antientropy_share_about(&share, about);
 }
 
-/* Returns the size of a replica. It looks at each chunk of 15 rows and at the digests of each session's leaves, so ask
- * for it once in some seconds, not at each put. Refused: EMPTY. */
+/* Returns the size of a replica. It looks at each chunk of 15 rows and at the digests of each session's leaves, so call
+ * it every few seconds, not at each put. Refused: EMPTY. */
 static inline uint32_t antientropy_bytes(const struct antientropy_replica *replica, struct antientropy_bytes *bytes)
 {
     struct antientropy_replica share = *replica;
@@ -564,16 +565,16 @@ static inline uint32_t antientropy_bytes(const struct antientropy_replica *repli
 
 /* ---- versions */
 
-/* Only the puts and accept check the range of a key. The reads find no version of a key of another range, and none of a
- * key that isn't 1 to 255 bytes long (of them only antientropy_get refuses it). Lengths are judged first: no byte is
- * read of a longer key, and none is copied of a value or a clock that is too long. */
+/* Only puts and accept check the range of a key. Reads find no version of a key that belongs to another range, or isn't
+ * 1 to 255 bytes long (only antientropy_get refuses such a length). Lengths are checked first: no byte of a longer key
+ * is read, and no value or clock that is too long is copied. */
 
-/* Puts a value (LIVE) or a tombstone (TOMBSTONE, with no value) for a key at a node, 1 to 65,535, after a read: of the
- * two puts it is the one to use. The context is the clock of all that the client has read, its pairs in any order; the
- * new version's clock is the context with the node's counter raised by one. The new version replaces every held version
- * whose clock is at most its clock, and each of these the client has read: a put is refused as STALE_CONTEXT if a held
- * version has a greater counter of the node than the context. Another client has put at this node in between then: read
- * again.
+/* Puts a value (LIVE) or a tombstone (TOMBSTONE, with no value) for a key at a node, 1 to 65,535, after a read. Prefer
+ * it to antientropy_put. The context is the clock of all that the client has read, its pairs in any order; the new
+ * version's clock is the context with the node's counter raised by one. The new version replaces every held version
+ * whose clock is at most its clock, and the client has read each of these: a put is refused as STALE_CONTEXT if a held
+ * version has a greater counter of the node than the context. In that case another client has put at this node in
+ * between: read again.
  * Refused, in order: EMPTY; BAD_CLOCK (the node is 0 or over 65,535, or the context isn't a clock), CLOCK_FULL (the
  * context has over 32 pairs), BAD_VALUE (unknown kind); BAD_KEY, BAD_VALUE (too long for the format, or a tombstone
  * that has a value or is in format 1), OTHER_RANGE, CLOCK_FULL and COUNTER_FULL (the context can't be raised),
@@ -582,9 +583,9 @@ uint32_t antientropy_put_read(struct antientropy_replica *replica, uint64_t node
                               const struct antientropy_pair *context, size_t context_len, uint8_t kind,
                               const uint8_t *value, size_t value_len, struct antientropy_receipt *receipt);
 
-/* Puts as antientropy_put_read does, without its check, which is the caller's then: the new version replaces even a
- * held version that the client hasn't read, if its clock is at most the new one. It is refused as STALE_CONTEXT only if
- * a held version has seen all of the new version's clock.
+/* Puts a value as antientropy_put_read does, without its check, which the caller must make: the new version replaces
+ * even a held version that the client hasn't read, if its clock is at most the new one. It is refused as STALE_CONTEXT
+ * only if a held version has seen all of the new version's clock.
  * Refused, in order: EMPTY; BAD_CLOCK (the node is 0 or over 65,535, or the context isn't a clock), CLOCK_FULL (the
  * context has over 32 pairs), BAD_VALUE (unknown kind); BAD_KEY, BAD_VALUE (too long for the format, or a tombstone
  * that has a value or is in format 1), OTHER_RANGE, CLOCK_FULL and COUNTER_FULL (the context can't be raised),
@@ -638,8 +639,8 @@ static inline uint32_t antientropy_clock(const struct antientropy_replica *repli
 
 /* Returns one of the versions held for a key, by its index from 0, in one call: its clock in `pairs`, its value in
  * `value`, and in `reading` its kind, the sizes of both, and the number of versions held.
- * Refused, in order: EMPTY, NO_VERSION, SMALL (of the clock and the value at least one doesn't fit: `reading` is
- * written anyway, and so is the one that fits). */
+ * Refused, in order: EMPTY, NO_VERSION, SMALL (the clock or the value doesn't fit: `reading` is written anyway, and so
+ * is the one that fits). */
 static inline uint32_t antientropy_read(const struct antientropy_replica *replica, const uint8_t *key, size_t key_len,
                                         uint64_t index, struct antientropy_reading *reading,
                                         struct antientropy_pair *pairs, size_t pairs_len, uint8_t *value,
@@ -649,9 +650,9 @@ static inline uint32_t antientropy_read(const struct antientropy_replica *replic
     return antientropy_share_read(&share, key, key_len, index, reading, pairs, pairs_len, value, value_len);
 }
 
-/* Returns the least key of a leaf above a key, or the first one for a key of no bytes: so the keys of a replica are
- * listed leaf by leaf. Leaves are counted from 0 to 255, in format 2 to 4,095. Keys that are put meanwhile are listed
- * if they lie ahead. Refused, in order: EMPTY, BAD_MESSAGE (the tree has no such leaf), NO_VERSION (no key follows),
+/* Returns the least key of a leaf above a key, or the first one for a key of no bytes. Use it to list the keys of a
+ * replica leaf by leaf. Leaves are numbered from 0 to 255, in format 2 to 4,095. Keys that are put meanwhile are listed
+ * if they are ahead. Refused, in order: EMPTY, BAD_MESSAGE (the tree has no such leaf), NO_VERSION (no key follows),
  * SMALL. */
 static inline uint32_t antientropy_key_after(const struct antientropy_replica *replica, uint64_t leaf,
                                              const uint8_t *key, size_t key_len, uint8_t *out, size_t out_len,
@@ -661,9 +662,9 @@ static inline uint32_t antientropy_key_after(const struct antientropy_replica *r
     return antientropy_share_key_after(&share, leaf, key, key_len, out, out_len, need);
 }
 
-/* Lists the keys of a leaf with one buffer. The key that was seen is the first `key_len` bytes of `key`: none at first.
- * The least key of the leaf above it takes its place, and `key_len` becomes its length. `key_room` is the room at
- * `key`, and 255 bytes are enough. After a refusal `key` and `key_len` are unchanged.
+/* Lists the keys of a leaf with one buffer. The previous key is the first `key_len` bytes of `key`: none at first. The
+ * least key of the leaf above it replaces it, and `key_len` becomes its length. `key_room` is the size of the buffer;
+ * 255 bytes are enough. After a refusal `key` and `key_len` are unchanged.
  * Refused, in order: EMPTY, BAD_MESSAGE (the tree has no such leaf), BAD_KEY (`key_len` is over `key_room`), NO_VERSION
  * (no key follows), SMALL. */
 static inline uint32_t antientropy_key_next(const struct antientropy_replica *replica, uint64_t leaf, uint8_t *key,
@@ -681,13 +682,13 @@ enum {
     ANTIENTROPY_APART = 3   /* each has seen something the other hasn't: versions under them are concurrent */
 };
 
-/* Compares two clocks. It needs no replica. Refused, in order: BAD_CLOCK and CLOCK_FULL of the first, BAD_CLOCK and
+/* Compares two clocks. Needs no replica. Refused, in order: BAD_CLOCK and CLOCK_FULL of the first, BAD_CLOCK and
  * CLOCK_FULL of the second, NO_MEMORY. */
 uint32_t antientropy_compare(const struct antientropy_pair *first, size_t first_len,
                              const struct antientropy_pair *second, size_t second_len, uint64_t *order);
 
-/* Merges two clocks, for the context of a put that replaces the versions of both: the result has for each node the
- * greater counter. It needs no replica. `out_len` and `need` count pairs; there are at most 32. Refused, in order:
+/* Merges two clocks, for the context of a put that replaces the versions of both: for each node the result has the
+ * greater counter. Needs no replica. `out_len` and `need` count pairs; there are at most 32. Refused, in order:
  * BAD_CLOCK and CLOCK_FULL of the first, BAD_CLOCK and CLOCK_FULL of the second, CLOCK_FULL (over 32 nodes), NO_MEMORY,
  * which may be returned instead of this CLOCK_FULL, SMALL. */
 uint32_t antientropy_merge(const struct antientropy_pair *first, size_t first_len,
@@ -696,20 +697,21 @@ uint32_t antientropy_merge(const struct antientropy_pair *first, size_t first_le
 
 /* ---- the journal */
 
-/* Every accepted version is an entry, numbered from 0 in the order of acceptance. The new entries of a call are those
- * from the count of entries before it to the count after it: what a put, an accept, a load or a take brought. After a
- * renewal the numbers go on. The journal has then one entry for each version that is held, leaf by leaf, each with the
- * source COPY, and numbered from `first` of the counts up to the count at the renewal: the order of acceptance and the
- * sources before it are forgotten, and a number below that count may name another version than before. The entries that
- * follow have numbers that were never used. Entries that a load brings are in the order of its rows, as COPY too. */
+/* Every accepted version is an entry, numbered from 0 in the order of acceptance. The new entries of a put, an accept,
+ * a load or a take are numbered from the count of entries before the call up to the count after it. After a renewal the
+ * numbers continue. The journal then has one entry for each version that is held, leaf by leaf, each with the source
+ * COPY, and numbered from `first` of the counts up to the count at the renewal. The order of acceptance and the sources
+ * before the renewal are lost, and a number below that count may name another version than before. The entries that
+ * follow have numbers that were never used. The entries of a load are in the order of its rows, also with the source
+ * COPY. */
 
-/* Returns entries from number `from` on, as many whole ones as fit, one after the other: each as one byte, its source,
- * and the text of the row of its key with its one version (docs/FORMATS.md). `need` is the number of bytes written, and
- * `next` the number after the last of these entries: go on there. With nothing left, `need` is 0 and `next` is `from`.
- * A log reads from the count of entries that it has, and lacks none after a renewal. At SMALL the first entry needs
+/* Returns whole entries from number `from` on, until the next one doesn't fit. Each is one byte, its source, and the
+ * text of the row of its key with its one version (docs/FORMATS.md). `need` is the number of bytes written, and `next`
+ * the number after the last of these entries: continue there. If no entry is left, `need` is 0 and `next` is `from`. A
+ * log reads from the count of entries that it has, and misses none after a renewal. At SMALL the first entry needs
  * `need` bytes, at most ANTIENTROPY_ENTRY_MAX; `next` is unchanged.
  * Refused, in order: EMPTY; BAD_POSITION (`from` is over the count of entries; or it is below the count at the last
- * renewal, and isn't `first`: read from `first` then, which gives the whole journal); SMALL. */
+ * renewal, and isn't `first`: read from `first` instead, to get the whole journal); SMALL. */
 static inline uint32_t antientropy_entries(const struct antientropy_replica *replica, uint64_t from, uint8_t *out,
                                            size_t out_len, uint64_t *need, uint64_t *next)
 {
@@ -752,9 +754,10 @@ static inline uint32_t antientropy_entry_source(const struct antientropy_replica
     return antientropy_share_entry_source(&share, number, source);
 }
 
-/* Returns the greatest counter of a node in the clocks of the versions of a key that the journal's entries of numbers
- * below `entries` have (all, if there are fewer; none, if `entries` is at most `first`): 0 if there is none. By it a
- * host sees whether a partner holds a version with a counter of the host's node number that the host has lost.
+/* Returns the greatest counter of a node in the clocks of a key's versions, among the journal's entries with numbers
+ * below `entries` (all, if there are fewer; none, if `entries` is at most `first`): 0 if no clock has the node. A host
+ * uses it to find out whether a partner holds a version with a counter of the host's node number that the host has
+ * lost.
  * Refused, in order: EMPTY, BAD_CLOCK (the node is 0 or over 65,535). */
 static inline uint32_t antientropy_top_counter(const struct antientropy_replica *replica, uint64_t node,
                                                const uint8_t *key, size_t key_len, uint64_t entries, uint64_t *counter)
@@ -769,37 +772,39 @@ static inline uint32_t antientropy_top_counter(const struct antientropy_replica 
 uint32_t antientropy_rehash(struct antientropy_replica *replica);
 
 /* Hashes at most `most` of the nodes that have no digest though all their children have one, and returns the number of
- * nodes that have none then. A program that repeats it until that is 0 can make other calls between; with `most` 0 no
- * node is hashed. Refused, in order: EMPTY, NO_MEMORY. */
+ * nodes without a digest afterwards. A program that repeats it until that is 0 can make other calls in between; with
+ * `most` 0 no node is hashed. Refused, in order: EMPTY, NO_MEMORY. */
 uint32_t antientropy_rehash_some(struct antientropy_replica *replica, uint64_t most, uint64_t *left);
 
-/* ---- moments: the rows at a time, which are hashed and offered while the replica goes on */
+/* ---- moments: the rows at a time, which are hashed and offered while the replica changes */
 
-/* A busy replica may never have a digest at each node at once. So it keeps one moment: its rows at the time of
- * antientropy_hold, which no later call changes. A moment is whole when each of its nodes has a digest; then
- * antientropy_moment makes its snapshot, and antientropy_open_at_moment compares it with a partner's offer. */
+/* A busy replica may never have a digest at each node at once. Therefore it keeps one moment: its rows at the time of
+ * antientropy_hold, which no later call changes. A moment is whole when each of its nodes has a digest.
+ * antientropy_moment makes a snapshot of a whole moment, and antientropy_open_at_moment compares it with a partner's
+ * offer. */
 
-/* Keeps the rows now as the replica's moment, in the place of another one. Copies no row, and keeps the digests that
- * nodes have: so only nodes that have changed since they were hashed are to be hashed. While the moment is kept, the
+/* Keeps the current rows as the replica's moment, in place of the previous one. Copies no row, and keeps the digests
+ * that nodes have: only nodes that have changed since they were hashed have to be hashed. While the moment is kept, the
  * first change of each block of some rows copies the block.
  * Refused, in order: EMPTY, NO_MEMORY. */
 uint32_t antientropy_hold(struct antientropy_replica *replica);
 
-/* Lets go of the replica's moment, if there is one. Snapshots of it stay, and so does `front` of the counts.
- * antientropy_migrate does that, too. Refused: EMPTY. */
+/* Releases the replica's moment, if any. Its snapshots are unchanged, and so is `front` of the counts.
+ * antientropy_migrate also releases the moment. Refused: EMPTY. */
 uint32_t antientropy_drop_moment(struct antientropy_replica *replica);
 
 /* Hashes some of the moment's nodes that have no digest though all their children have one: at most `most`, up to the
- * one with which their texts have 262,144 bytes. Returns the number of the moment's nodes that have no digest then: 0 if
- * it is whole, or if there is no moment. A program that repeats it until that is 0 can make other calls between; with
- * `most` 0 no node is hashed. A node that no put has changed since gets its digest in the replica's tree, too.
+ * one with which their texts reach 262,144 bytes. Returns the number of the moment's nodes without a digest afterwards:
+ * 0 if the moment is whole, or if the replica doesn't have one. A program that repeats it until that is 0 can make
+ * other calls in between; with `most` 0 no node is hashed. A node that no put has changed since also gets its digest in
+ * the replica's tree.
  * Refused, in order: EMPTY, NO_MEMORY. */
 uint32_t antientropy_hash_moment(struct antientropy_replica *replica, uint64_t most, uint64_t *left);
 
 /* Takes a portion of the moment's nodes, those that antientropy_hash_moment would hash, so that another thread can hash
- * them by antientropy_hash_portion while the replica is in other calls. If nothing is left to hash, or if there is no
- * moment, the handle holds a portion without nodes. Refused, in order: EMPTY (the replica), HELD (the portion holds one
- * already), NO_MEMORY. */
+ * them by antientropy_hash_portion while the replica is in other calls. If nothing is left to hash, or if the replica
+ * has no moment, the handle holds a portion without nodes. Refused, in order: EMPTY (the replica), HELD (the portion
+ * holds one already), NO_MEMORY. */
 static inline uint32_t antientropy_take_portion(const struct antientropy_replica *replica, uint64_t most,
                                                 struct antientropy_portion *portion)
 {
@@ -807,22 +812,22 @@ static inline uint32_t antientropy_take_portion(const struct antientropy_replica
     return antientropy_share_take_portion(&share, most, portion);
 }
 
-/* Hashes the nodes of a portion. It uses no replica, and takes no memory. Refused: EMPTY. */
+/* Hashes the nodes of a portion. Uses no replica, and takes no memory. Refused: EMPTY. */
 uint32_t antientropy_hash_portion(struct antientropy_portion *portion);
 
-/* Installs the digests of a portion in the moment, as antientropy_hash_moment does, and returns the number of the
- * moment's nodes that have none then: 0 if it is whole, or if there is no moment. The portion's handle is empty then.
- * Nodes that antientropy_hash_portion has not hashed are hashed here. Digests of another moment's nodes are left out if
- * the node's text is another one.
+/* Installs the digests of a portion in the moment, as antientropy_hash_moment does, and empties the portion's handle.
+ * Returns the number of the moment's nodes without a digest afterwards: 0 if the moment is whole, or if the replica
+ * doesn't have one. Nodes that antientropy_hash_portion has not hashed are hashed here. The digest of another moment's
+ * node is left out if the node has another text.
  * Refused: EMPTY (the replica or the portion). */
 uint32_t antientropy_install_portion(struct antientropy_replica *replica, struct antientropy_portion *portion,
                                      uint64_t *left);
 
-/* Frees the portion that a handle holds, if it holds one. */
+/* Frees the portion of a handle, if any. */
 void antientropy_portion_free(struct antientropy_portion *portion);
 
-/* Makes a snapshot of the moment, as antientropy_snapshot does of the rows now. Refused, in order: EMPTY (the replica),
- * HELD (the snapshot holds one already), DIRTY (there is no moment, or it isn't whole), NO_MEMORY. */
+/* Makes a snapshot of the moment, as antientropy_snapshot does of the current rows. Refused, in order: EMPTY (the
+ * replica), HELD (the snapshot holds one already), DIRTY (the replica has no moment, or it isn't whole), NO_MEMORY. */
 static inline uint32_t antientropy_moment(const struct antientropy_replica *replica,
                                           struct antientropy_snapshot *snapshot)
 {
@@ -832,7 +837,7 @@ static inline uint32_t antientropy_moment(const struct antientropy_replica *repl
 
 /* ---- snapshots and offers */
 
-/* Makes a snapshot of the rows now. It shares them with the replica, which copies those that it changes later.
+/* Makes a snapshot of the current rows. It shares them with the replica, which copies those that it changes later.
  * Refused, in order: EMPTY (the replica), HELD (the snapshot holds one already), DIRTY, NO_MEMORY. */
 static inline uint32_t antientropy_snapshot(const struct antientropy_replica *replica,
                                             struct antientropy_snapshot *snapshot)
@@ -841,8 +846,8 @@ static inline uint32_t antientropy_snapshot(const struct antientropy_replica *re
     return antientropy_share_snapshot(&share, snapshot);
 }
 
-/* Makes another handle of a snapshot's rows, which `other` then holds. Copies no row. A thread that has a handle of its
- * own needs no lock, even if others free theirs. The rows are freed with the last handle.
+/* Makes another handle of a snapshot's rows, in `other`. Copies no row. A thread with its own handle needs no lock,
+ * even if others free theirs. The rows are freed with the last handle.
  * Refused, in order: EMPTY (the snapshot), HELD (`other` holds one already), NO_MEMORY. */
 static inline uint32_t antientropy_snapshot_share(const struct antientropy_snapshot *snapshot,
                                                   struct antientropy_snapshot *other)
@@ -851,8 +856,8 @@ static inline uint32_t antientropy_snapshot_share(const struct antientropy_snaps
     return antientropy_share_snapshot_share(&share, other);
 }
 
-/* Returns the range of a snapshot, and the number of entries that made its rows: of a moment those at the time of
- * antientropy_hold. So a checkpoint of the snapshot has all entries below that number. Refused: EMPTY. */
+/* Returns the range of a snapshot, and the number of entries that made its rows: for a moment, the number at the time
+ * of antientropy_hold. A checkpoint of the snapshot has all entries below that number. Refused: EMPTY. */
 static inline uint32_t antientropy_snapshot_about(const struct antientropy_snapshot *snapshot,
                                                   struct antientropy_about *about)
 {
@@ -867,11 +872,11 @@ static inline uint32_t antientropy_snapshot_bytes(const struct antientropy_snaps
     return antientropy_share_snapshot_bytes(&share, bytes);
 }
 
-/* Frees the snapshot that a handle holds, if it holds one. */
+/* Frees the snapshot of a handle, if any. */
 void antientropy_snapshot_free(struct antientropy_snapshot *snapshot);
 
-/* Returns the text of a key's row in a snapshot, as antientropy_get does of a replica: no bytes if it has none. Searches
- * by a binary search. Refused, in order: EMPTY, BAD_KEY, NO_MEMORY, SMALL. */
+/* Returns the text of a key's row in a snapshot, as antientropy_get does for a replica: no bytes if the key has no row.
+ * Uses a binary search. Refused, in order: EMPTY, BAD_KEY, NO_MEMORY, SMALL. */
 static inline uint32_t antientropy_snapshot_get(const struct antientropy_snapshot *snapshot, const uint8_t *key,
                                                 size_t key_len, uint8_t *out, size_t out_len, uint64_t *need)
 {
@@ -879,7 +884,7 @@ static inline uint32_t antientropy_snapshot_get(const struct antientropy_snapsho
     return antientropy_share_snapshot_get(&share, key, key_len, out, out_len, need);
 }
 
-/* Lists the keys of a leaf of a snapshot with one buffer, as antientropy_key_next does of a replica.
+/* Lists the keys of a leaf of a snapshot with one buffer, as antientropy_key_next does for a replica.
  * Refused, in order: EMPTY, BAD_MESSAGE (the tree has no such leaf), BAD_KEY (`key_len` is over `key_room`), NO_VERSION
  * (no key follows), SMALL. */
 static inline uint32_t antientropy_snapshot_key_next(const struct antientropy_snapshot *snapshot, uint64_t leaf,
@@ -889,8 +894,8 @@ static inline uint32_t antientropy_snapshot_key_next(const struct antientropy_sn
     return antientropy_share_snapshot_key_next(&share, leaf, key, key_room, key_len);
 }
 
-/* Returns the digest of a node of a snapshot's tree: 32 bytes. The root is node 0 at depth 0; the leaves are at depth 2,
- * or at 3 in format 2. Refused, in order: EMPTY, BAD_MESSAGE (the tree has no such node), SMALL. */
+/* Returns the digest of a node of a snapshot's tree: 32 bytes. The root is node 0 at depth 0; the leaves are at depth
+ * 2, or at 3 in format 2. Refused, in order: EMPTY, BAD_MESSAGE (the tree has no such node), SMALL. */
 static inline uint32_t antientropy_digest(const struct antientropy_snapshot *snapshot, uint64_t depth, uint64_t index,
                                           uint8_t *out, size_t out_len, uint64_t *need)
 {
@@ -916,12 +921,12 @@ static inline uint32_t antientropy_offer(const struct antientropy_snapshot *snap
     return antientropy_share_offer(&share, number, out, out_len, need);
 }
 
-/* Returns the parts of a partner's offer. It needs no replica. Refused, in order: BAD_MESSAGE (the bytes aren't an
- * offer), NO_MEMORY, which may be returned instead. */
+/* Returns the parts of a partner's offer. Needs no replica. Refused, in order: BAD_MESSAGE (the bytes aren't an offer),
+ * NO_MEMORY, which may be returned instead. */
 uint32_t antientropy_read_offer(const uint8_t *offer, size_t offer_len, struct antientropy_offer_parts *parts);
 
 /* Returns the answer to an ask for the offer of that number, or the patch for an outline. The answer of a leaf has no
- * fixed limit: one row alone can have 4,215,427 bytes. Refused, in order: EMPTY, BAD_MESSAGE (the bytes are neither),
+ * fixed limit: a single row can have 4,215,427 bytes. Refused, in order: EMPTY, BAD_MESSAGE (the bytes are neither),
  * GONE (it is for another offer), BAD_MESSAGE (the node isn't in the tree), NO_MEMORY, SMALL. NO_MEMORY may be returned
  * instead of the first BAD_MESSAGE. */
 static inline uint32_t antientropy_serve(const struct antientropy_snapshot *snapshot, uint32_t number,
@@ -947,35 +952,35 @@ static inline uint32_t antientropy_rows(const struct antientropy_snapshot *snaps
 uint32_t antientropy_load(struct antientropy_replica *replica, const uint8_t *rows, size_t rows_len,
                           struct antientropy_loaded *loaded);
 
-/* Loads rows of a named format and of any leaves of the range, in ascending order of key, as copies, whole or not at
- * all. So rows that were saved before a migration can be loaded after it, and rows of many keys in one call.
- * Refused, in order: EMPTY, BAD_RING (the format is neither 1 nor 2), OTHER_FORMAT (rows of format 2, replica of
- * format 1), ROW_BROKEN, OTHER_RANGE (a key of another range), CROWDED, JOURNAL_FULL, NO_MEMORY, which may be returned
- * instead of any but EMPTY, BAD_RING and OTHER_FORMAT. */
+/* Loads rows of a given format and of any leaves of the range, in ascending order of key, as copies, all or none. Rows
+ * that were saved before a migration can be loaded after it, and rows of many keys in one call.
+ * Refused, in order: EMPTY, BAD_RING (the format is neither 1 nor 2), OTHER_FORMAT (rows of format 2, replica of format
+ * 1), ROW_BROKEN, OTHER_RANGE (a key of another range), CROWDED, JOURNAL_FULL, NO_MEMORY, which may be returned instead
+ * of any but EMPTY, BAD_RING and OTHER_FORMAT. */
 uint32_t antientropy_load_format(struct antientropy_replica *replica, uint64_t format, const uint8_t *rows,
                                  size_t rows_len, struct antientropy_loaded *loaded);
 
 /* ---- sessions */
 
-/* Opens a session with a partner's offer, and returns its number: one more than the last, from 0, over renewals too. The
- * partner's number, at most 65,535, is kept in the session's record, and no call returns it. A session is kept until
- * antientropy_drop_sessions, so compare first (antientropy_read_offer, antientropy_root): an offer of the replica's
- * format, range and root needs no session.
+/* Opens a session with a partner's offer, and returns its number: one more than the last, from 0, also over renewals.
+ * The partner's number, at most 65,535, is kept in the session's record, and no call returns it. A session is kept
+ * until antientropy_drop_sessions, so compare first (antientropy_read_offer, antientropy_root): an offer with the
+ * replica's format, range and root needs no session.
  * Refused, in order: EMPTY, BAD_CLOCK (the partner is over 65,535), BAD_MESSAGE, OTHER_FORMAT, OTHER_RANGE,
  * SESSIONS_FULL, DIRTY, NO_MEMORY. NO_MEMORY may be returned instead of BAD_MESSAGE. */
 uint32_t antientropy_open(struct antientropy_replica *replica, uint64_t partner, const uint8_t *offer, size_t offer_len,
                           uint64_t *session);
 
 /* Opens a session as antientropy_open does, but compares the rows of the replica's moment with the offer, so it doesn't
- * wait until each node of the tree has a digest. It may ask for leaves that differ only because the replica has gone
- * on.
+ * wait until each node of the tree has a digest. It may ask for leaves that differ only because the replica has changed
+ * since.
  * Refused, in order: EMPTY, BAD_CLOCK (the partner is over 65,535), BAD_MESSAGE, OTHER_FORMAT, OTHER_RANGE,
- * SESSIONS_FULL, DIRTY (there is no moment, or it isn't whole), NO_MEMORY. NO_MEMORY may be returned instead of
+ * SESSIONS_FULL, DIRTY (the replica has no moment, or it isn't whole), NO_MEMORY. NO_MEMORY may be returned instead of
  * BAD_MESSAGE. */
 uint32_t antientropy_open_at_moment(struct antientropy_replica *replica, uint64_t partner, const uint8_t *offer,
                                     size_t offer_len, uint64_t *session);
 
-/* Returns the number of nodes that a session has outstanding: 0 if it has ended.
+/* Returns the number of outstanding nodes of a session: 0 if it has ended.
  * Refused, in order: EMPTY, UNKNOWN_SESSION. */
 static inline uint32_t antientropy_outstanding(const struct antientropy_replica *replica, uint64_t session,
                                                uint64_t *count)
@@ -985,9 +990,8 @@ static inline uint32_t antientropy_outstanding(const struct antientropy_replica 
 }
 
 /* Returns the ask for one of the outstanding nodes of a session, by its place from 0. `number` is the number in the
- * partner's offer. If there are no more, `need` is 0. Several asks may be on their way at once: answers are taken in
- * any order. Each answer that is taken changes the places. Refused, in order: EMPTY, UNKNOWN_SESSION, NO_MEMORY,
- * SMALL. */
+ * partner's offer. If there are no more, `need` is 0. Several asks may be in progress at once: answers are taken in any
+ * order. Each taken answer changes the places. Refused, in order: EMPTY, UNKNOWN_SESSION, NO_MEMORY, SMALL. */
 static inline uint32_t antientropy_ask_at(const struct antientropy_replica *replica, uint64_t session, uint64_t place,
                                           uint32_t number, uint8_t *out, size_t out_len, uint64_t *need)
 {
@@ -1006,9 +1010,9 @@ static inline uint32_t antientropy_ask(const struct antientropy_replica *replica
 
 /* Returns the outline of one of the outstanding nodes of a session, by its place from 0: the ask for it, with marks of
  * `width` bytes, 1 to 8, of the parts of the node's text that the session's snapshot has. The partner's
- * antientropy_serve answers it by a patch, which has only what these parts lack. If there are no more, `need` is 0.
- * Send it in place of the ask if the partner has most of the parts, too: for a leaf with over 255 bytes of rows, say,
- * by marks of 3 bytes. Refused, in order: EMPTY, BAD_MESSAGE (the width isn't 1 to 8), UNKNOWN_SESSION, NO_MEMORY,
+ * antientropy_serve replies with a patch, which has only the other parts. If there are no more, `need` is 0. Send it in
+ * place of the ask if the partner has most of the parts, too: for example with marks of 3 bytes for a leaf with over
+ * 255 bytes of rows. Refused, in order: EMPTY, BAD_MESSAGE (the width isn't 1 to 8), UNKNOWN_SESSION, NO_MEMORY,
  * SMALL. */
 static inline uint32_t antientropy_outline_at(const struct antientropy_replica *replica, uint64_t session,
                                               uint64_t place, uint32_t number, uint64_t width, uint8_t *out,
@@ -1020,25 +1024,25 @@ static inline uint32_t antientropy_outline_at(const struct antientropy_replica *
 
 /* Takes a partner's answer to an ask, or its patch for an outline, for the offer of that number. The text that a patch
  * makes is taken as an answer's is. The partner isn't trusted.
- * Refused, in order: EMPTY, BAD_MESSAGE (neither, or of another offer), UNKNOWN_SESSION, NOT_ASKED,
- * WRONG_DIGEST, NOT_CANONICAL (the session has failed), CROWDED, JOURNAL_FULL, NO_MEMORY. NO_MEMORY may be returned
- * instead of any but EMPTY.
- * A patch is refused, in order: EMPTY, BAD_MESSAGE (of another offer), UNKNOWN_SESSION, NOT_ASKED, BAD_MESSAGE (its
+ * Refused, in order: EMPTY, BAD_MESSAGE (neither, or for another offer), UNKNOWN_SESSION, NOT_ASKED, WRONG_DIGEST,
+ * NOT_CANONICAL (the session has failed), CROWDED, JOURNAL_FULL, NO_MEMORY. NO_MEMORY may be returned instead of any
+ * but EMPTY.
+ * A patch is refused, in order: EMPTY, BAD_MESSAGE (for another offer), UNKNOWN_SESSION, NOT_ASKED, BAD_MESSAGE (its
  * steps make no text), and from WRONG_DIGEST on as an answer is. NO_MEMORY may be returned instead of any from the
- * second BAD_MESSAGE on. A true patch may be refused as WRONG_DIGEST, too, if two parts share a mark: send the ask
- * then. After BAD_MESSAGE, NOT_ASKED and WRONG_DIGEST ask again, with a bound on the number of bad answers. After
+ * second BAD_MESSAGE on. A true patch may also be refused as WRONG_DIGEST, if two parts share a mark: in that case send
+ * the ask. After BAD_MESSAGE, NOT_ASKED and WRONG_DIGEST ask again, with a bound on the number of bad answers. After
  * CROWDED, JOURNAL_FULL and NO_MEMORY the session stays open, and antientropy_ask names the same node: cancel the
  * session, or ask for another node by antientropy_ask_at. NOT_ASKED means that the node isn't outstanding. */
 uint32_t antientropy_take(struct antientropy_replica *replica, uint64_t session, uint32_t number, const uint8_t *answer,
                           size_t answer_len, struct antientropy_taken *taken);
 
-/* Cancels a session if it is open; otherwise leaves it unchanged. Refused, in order: EMPTY, UNKNOWN_SESSION. */
+/* Cancels a session if it is open; otherwise the session is unchanged. Refused, in order: EMPTY, UNKNOWN_SESSION. */
 uint32_t antientropy_cancel(struct antientropy_replica *replica, uint64_t session);
 
-/* Drops the sessions that have ended, and all that they keep: rows that later puts have changed, and texts. Call it after
- * each sync. Open sessions are unchanged, under their numbers. The number of a dropped one is UNKNOWN_SESSION from then
- * on, and no later session has it. Entries whose source is PARTNER have the source COPY then. Takes time in proportion to
- * the entries since the last such call, and to what is freed.
+/* Drops the sessions that have ended, and all that they keep: rows that later puts have changed, and texts. Call it
+ * after each sync. Open sessions are unchanged, and keep their numbers. The number of a dropped session is refused as
+ * UNKNOWN_SESSION afterwards, and no later session gets it. Entries with the source PARTNER get the source COPY. Takes
+ * time in proportion to the entries since the last such call, and to the freed data.
  * Refused: EMPTY. */
 uint32_t antientropy_drop_sessions(struct antientropy_replica *replica);
 
@@ -1051,28 +1055,30 @@ static inline uint32_t antientropy_session(const struct antientropy_replica *rep
 
 /* ---- exchanges: the loop of a sync */
 
-/* An exchange carries on a session with a partner: it says which node to ask next, takes the answers in any order,
- * counts the bad answers and the lost asks, and says how far it is. It sends nothing: the program sends the asks, and
- * hands in the answers. It lasts as long as the program wants: between two of its calls the replica may change in any
- * way, but a renewal or a migration ends it. Each of its calls gets the replica with which it was opened. */
+/* An exchange runs a session with a partner: it returns the next ask, takes the answers in any order, counts the bad
+ * answers and the lost asks, and reports its progress. It sends nothing: the program sends the asks, and passes the
+ * answers to it. It lasts as long as the program wants: between two of its calls the replica may change in any way, but
+ * a renewal or a migration ends it. Each of its calls gets the replica with which it was opened. */
 
 /* Opens an exchange with a partner by its offer, at the replica's moment, as antientropy_open_at_moment opens a
  * session. If the moment has the offered root, the exchange is FINISHED, and no session is opened.
  * Refused, in order: EMPTY (the replica), HELD (the exchange holds one already), BAD_CLOCK (the partner is over
- * 65,535), BAD_MESSAGE (the bytes aren't an offer), OTHER_FORMAT, OTHER_RANGE, DIRTY (there is no moment, or it isn't
- * whole), SESSIONS_FULL, NO_MEMORY, which may be returned instead of the two before it. */
+ * 65,535), BAD_MESSAGE (the bytes aren't an offer), OTHER_FORMAT, OTHER_RANGE, DIRTY (the replica has no moment, or it
+ * isn't whole), SESSIONS_FULL, NO_MEMORY, which may be returned instead of the two before it. */
 uint32_t antientropy_exchange_open(struct antientropy_replica *replica, struct antientropy_exchange *exchange,
                                    uint64_t partner, const uint8_t *offer, size_t offer_len,
                                    const struct antientropy_bounds *bounds);
 
-/* Returns the next ask to send: 8 bytes, or an outline in its place: the ask with marks of the parts of the node's text
- * that the replica has, so that the partner sends only what it lacks. An outline is sent if a patch is likely to be
- * smaller than the text, and it fits into the room: ANTIENTROPY_ASK_ROOM is enough for most leaves, and with a room of
- * ANTIENTROPY_ASK_LEN none is sent. One that brings no text counts as nothing, and the node is asked plainly; after
- * three in a row no more are sent, since the partner may not know them. Without memory for an outline the ask is sent.
- * `need` is 0 if there is none now: each outstanding node is on its way or was left, the bounds leave no room, asks have
- * stopped, or the exchange is over. A refused call sends no ask; after SMALL `need` is 8.
- * Refused, in order: EMPTY (the exchange or the replica), SMALL (the room is below 8 bytes, though there is no ask). */
+/* Returns the next ask to send: 8 bytes, or an outline in its place. An outline is the ask with marks of the parts of
+ * the node's text that the replica has, so that the partner sends only the other parts. It is sent if a patch is likely
+ * to be smaller than the text, and if it fits into the buffer: ANTIENTROPY_ASK_ROOM is enough for most leaves, and with
+ * a buffer of ANTIENTROPY_ASK_LEN no outline is sent. An outline that brings no text isn't counted, and the node is
+ * asked for plainly; after three in a row no more are sent, since the partner may not know them. Without memory for an
+ * outline the ask is sent. `need` is 0 if no ask is to be sent now: each outstanding node has an ask in progress or was
+ * left, the bounds are reached, asks have stopped, or the exchange is over. A refused call sends no ask; after SMALL
+ * `need` is 8.
+ * Refused, in order: EMPTY (the exchange or the replica), SMALL (the buffer has fewer than 8 bytes, even if no ask is
+ * to be sent). */
 static inline uint32_t antientropy_exchange_next(struct antientropy_exchange *exchange,
                                                  const struct antientropy_replica *replica, uint8_t *out,
                                                  size_t out_len, uint64_t *need)
@@ -1082,21 +1088,21 @@ static inline uint32_t antientropy_exchange_next(struct antientropy_exchange *ex
 }
 
 /* Takes a partner's answer or patch, and returns the verdict on it. Answers may arrive in any order, late or twice. The
- * partner isn't trusted: any bytes may be handed in. The replica changes as antientropy_take changes it, or not at all.
+ * partner isn't trusted: any bytes may be passed. The replica changes as antientropy_take changes it, or not at all.
  * Refused: EMPTY (the exchange or the replica). */
 uint32_t antientropy_exchange_take(struct antientropy_exchange *exchange, struct antientropy_replica *replica,
                                    const uint8_t *answer, size_t answer_len, struct antientropy_verdict *verdict);
 
-/* Counts an ask or an outline as lost if it is on its way, so that an ask may be sent again: its link was lost, say, its
- * time is over, or the partner refused it. One for another offer changes nothing.
+/* Counts an ask or an outline as lost if it is in progress, so that an ask may be sent again: for example, its link was
+ * lost, it timed out, or the partner refused it. One for another offer changes nothing.
  * Refused, in order: EMPTY, BAD_MESSAGE (the bytes are neither). */
 uint32_t antientropy_exchange_lose(struct antientropy_exchange *exchange, const uint8_t *ask, size_t ask_len);
 
-/* Lets asks be sent again after there was no room for an answer (STOPPED). Each ask whose answer was refused for that
- * counts as lost. Refused: EMPTY. */
+/* Lets asks be sent again after an answer was refused as JOURNAL_FULL or NO_MEMORY (STOPPED). Each ask whose answer was
+ * refused for that counts as lost. Refused: EMPTY. */
 uint32_t antientropy_exchange_go_on(struct antientropy_exchange *exchange);
 
-/* Returns how far an exchange is. Refused: EMPTY (the exchange or the replica). */
+/* Returns the progress of an exchange. Refused: EMPTY (the exchange or the replica). */
 static inline uint32_t antientropy_exchange_report(struct antientropy_exchange *exchange,
                                                    const struct antientropy_replica *replica,
                                                    struct antientropy_progress *progress)
@@ -1105,8 +1111,8 @@ static inline uint32_t antientropy_exchange_report(struct antientropy_exchange *
     return antientropy_share_exchange_report(exchange, &share, progress);
 }
 
-/* Returns a leaf that was left, by its place from 0 among those that were, in the order in which the session asks. In
- * each of them a key is crowded.
+/* Returns a leaf that was left, by its place from 0 among the leaves that were left, in the session's order. In each of
+ * them a key is crowded.
  * Refused, in order: EMPTY (the exchange or the replica), NO_VERSION (fewer were left). */
 static inline uint32_t antientropy_exchange_left(struct antientropy_exchange *exchange,
                                                  const struct antientropy_replica *replica, uint64_t place,
@@ -1116,17 +1122,18 @@ static inline uint32_t antientropy_exchange_left(struct antientropy_exchange *ex
     return antientropy_share_exchange_left(exchange, &share, place, node);
 }
 
-/* Closes an exchange: cancels its session if that is in progress, so that antientropy_drop_sessions drops it. An
- * exchange that has ended stays as it is. Refused: EMPTY (the exchange or the replica). */
+/* Closes an exchange: cancels its session if it is in progress, so that antientropy_drop_sessions drops it. An exchange
+ * that has ended is unchanged. Refused: EMPTY (the exchange or the replica). */
 uint32_t antientropy_exchange_close(struct antientropy_exchange *exchange, struct antientropy_replica *replica);
 
-/* Frees the exchange of a handle, if any. Its session stays as it is: close the exchange first. */
+/* Frees the exchange of a handle, if any. Its session is unchanged: close the exchange first. */
 void antientropy_exchange_free(struct antientropy_exchange *exchange);
 
 /* ---- hints: versions that a node carries for replicas that are down */
 
-/* No number ever names two hints. A number that was used names its hint or, after a renewal, none: then it is refused
- * as NO_VERSION or UNKNOWN_HINT, and the hint, which has a new number, is sent once more and is known to its owner. */
+/* No number ever names two hints. A number that was used names its hint or, after a renewal, no hint. In the second
+ * case it is refused as NO_VERSION or UNKNOWN_HINT, and the hint, which has a new number, is sent once more and is
+ * known to its owner. */
 
 /* Makes an empty store of hints. The first hint gets the number 1.
  * Refused, in order: HELD (the handle holds one already), NO_MEMORY. */
@@ -1142,7 +1149,7 @@ uint32_t antientropy_hints_restore(struct antientropy_hints *hints, uint64_t fir
 void antientropy_hints_free(struct antientropy_hints *hints);
 
 /* Keeps a version for its owner, a node that is down, and returns the number of the hint: one more than the last. A
- * hint is of no range: the owner checks the key and the format when it accepts the version.
+ * hint belongs to no range: the owner checks the key and the format when it accepts the version.
  * Refused, in order: EMPTY; BAD_CLOCK (the owner is 0 or over 65,535, or the pairs aren't a clock), CLOCK_FULL,
  * BAD_VALUE (unknown kind); BAD_KEY, BAD_VALUE (too long for format 2, or a tombstone that has a value), HINTS_FULL
  * (10,000 are pending, 2^32 - 1 were kept since the last renewal, or the number would be over 2^64 - 1), NO_MEMORY. */
@@ -1150,8 +1157,8 @@ uint32_t antientropy_hint_keep(struct antientropy_hints *hints, uint64_t owner, 
                                const struct antientropy_pair *clock, size_t clock_len, uint8_t kind,
                                const uint8_t *value, size_t value_len, uint64_t *id);
 
-/* Returns the pending hint of an owner with the least number over `after`: 0 gives the first.
- * Refused, in order: EMPTY, NO_VERSION (there is none). */
+/* Returns the pending hint of an owner with the least number over `after`: the first one for 0.
+ * Refused, in order: EMPTY, NO_VERSION (no hint follows). */
 uint32_t antientropy_hint_next(struct antientropy_hints *hints, uint64_t owner, uint64_t after, uint64_t *id);
 
 /* Returns the owner of a hint, pending or delivered. Refused, in order: EMPTY, NO_VERSION (no such hint). */
@@ -1171,28 +1178,29 @@ uint32_t antientropy_hint_value(struct antientropy_hints *hints, uint64_t id, ui
 uint32_t antientropy_hint_clock(struct antientropy_hints *hints, uint64_t id, struct antientropy_pair *out,
                                 size_t out_len, uint64_t *need);
 
-/* Ends the wait of a pending hint, which its owner has accepted, or knew. Call it after the owner has the version on
- * its disk. Refused, in order: EMPTY, UNKNOWN_HINT (no pending hint has this number). */
+/* Marks a pending hint as delivered: its owner has accepted the version, or knew it. Call it after the owner has the
+ * version on its disk. Refused, in order: EMPTY, UNKNOWN_HINT (no pending hint has this number). */
 uint32_t antientropy_hint_confirm(struct antientropy_hints *hints, uint64_t id, bool known);
 
-/* Drops the delivered hints. The pending ones get new numbers: those after the last one that was used, in order. A host
- * that logs hints logs these. Refused, in order: EMPTY, HINTS_FULL (a number would be over 2^64 - 1), NO_MEMORY. */
+/* Drops the delivered hints. The pending ones get new numbers, in order, after the last one that was used. A host that
+ * logs hints logs the new numbers. Refused, in order: EMPTY, HINTS_FULL (a number would be over 2^64 - 1),
+ * NO_MEMORY. */
 uint32_t antientropy_hints_renew(struct antientropy_hints *hints);
 
 /* Returns the counts of hints. Refused: EMPTY. */
 uint32_t antientropy_hints_count(struct antientropy_hints *hints, struct antientropy_hint_counts *counts);
 
-/* Returns the size of hints in bytes, those that are delivered too: their keys, values and clocks, 10 bytes for each pair
- * of a clock. Refused: EMPTY. */
+/* Returns the size of hints in bytes, pending or delivered: their keys, values and clocks, 10 bytes for each pair of a
+ * clock. Refused: EMPTY. */
 uint32_t antientropy_hints_bytes(struct antientropy_hints *hints, uint64_t *bytes);
 
 /* ---- slots: background work that backs off when the foreground is slow */
 
-/* A slot is a number here: that each slot lent is given back once is the program's. */
+/* Slots are only counted here: the program must give each lent slot back once. */
 
-/* Makes slots: none is lent, and the target is the ceiling. The target stays from the floor to the ceiling, 1 to 1,024.
- * It falls if the latency of the foreground is above the threshold, in microseconds. Refused, in order: HELD (the
- * handle holds slots already), BAD_RING (the floor is 0 or above the ceiling, or the ceiling above 1,024),
+/* Makes slots: none is lent, and the target is the ceiling. The target stays between the floor and the ceiling, 1 to
+ * 1,024. It falls if the latency of the foreground is above the threshold, in microseconds. Refused, in order: HELD
+ * (the handle holds slots already), BAD_RING (the floor is 0 or above the ceiling, or the ceiling above 1,024),
  * NO_MEMORY. */
 uint32_t antientropy_slots_new(struct antientropy_slots *slots, uint32_t floor, uint32_t ceiling, uint32_t threshold);
 
@@ -1211,7 +1219,7 @@ uint32_t antientropy_slots_sample(struct antientropy_slots *slots, uint64_t mome
 
 /* Sets the target by the samples of the last 60,000 milliseconds, and returns their 99th percentile. Above the
  * threshold the target becomes half, but not below the floor. At half of the threshold or less it rises by one, up to
- * the ceiling. Without samples it is left unchanged. Refused, in order: EMPTY, CLOCK_BACK (a later moment was accepted
+ * the ceiling. Without samples it is unchanged. Refused, in order: EMPTY, CLOCK_BACK (a later moment was accepted
  * before). */
 uint32_t antientropy_slots_adjust(struct antientropy_slots *slots, uint64_t now, struct antientropy_percentile *p99);
 
@@ -1226,7 +1234,7 @@ uint32_t antientropy_slots_count(struct antientropy_slots *slots, struct antient
 }
 #endif
 
-/* The calls that free, for NULL too. The library's own calls, which other languages link, take a handle. */
+/* The calls that free, also for NULL. The library's calls, which other languages link, take a handle. */
 #define ANTIENTROPY_ACCEPTS_NULL(call, handle) \
     static inline void call##_any(struct handle *at) \
     { \
