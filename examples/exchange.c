@@ -67,7 +67,7 @@ static void show(const char *name, struct antientropy_exchange *exchange, const 
     ok("exchange_report", antientropy_exchange_report(exchange, replica, &progress));
     printf("%s: %s, accepted %llu, bad %llu, lost %llu, on their way %llu\n", name, reports[progress.report],
            (unsigned long long)progress.accepted, (unsigned long long)progress.bad, (unsigned long long)progress.lost,
-           (unsigned long long)progress.on_way);
+           (unsigned long long)progress.in_flight);
 }
 
 /* Sends asks and takes the partner's answers, until no ask is left or `most` were sent. Returns their bytes. */

@@ -280,16 +280,16 @@ struct antientropy_verdict {
 
 /* The progress of an exchange. */
 struct antientropy_progress {
-    uint64_t report;       /* the report */
-    uint64_t cause;        /* JOURNAL_FULL or NO_MEMORY if it is STOPPED; otherwise 0 */
-    uint64_t asks;         /* asks that were sent, except outlines that brought no text */
-    uint64_t on_way;       /* asks in progress */
-    uint64_t bytes_on_way; /* size of their answers in bytes, as far as it can be estimated */
-    uint64_t bad;          /* bad answers */
-    uint64_t lost;         /* lost asks */
-    uint64_t accepted;     /* new versions in the answers that were taken */
-    uint64_t known;        /* known versions in them */
-    uint64_t leaves;       /* leaves that were taken */
+    uint64_t report;          /* the report */
+    uint64_t cause;           /* JOURNAL_FULL or NO_MEMORY if it is STOPPED; otherwise 0 */
+    uint64_t asks;            /* asks that were sent, except outlines that brought no text */
+    uint64_t in_flight;       /* asks in progress */
+    uint64_t bytes_in_flight; /* size of their answers in bytes, as far as it can be estimated */
+    uint64_t bad;             /* bad answers */
+    uint64_t lost;            /* lost asks */
+    uint64_t accepted;        /* new versions in the answers that were taken */
+    uint64_t known;           /* known versions in them */
+    uint64_t leaves;          /* leaves that were taken */
 };
 
 /* A node of a tree: its depth, 0 for the root, and its index there, from 0. */

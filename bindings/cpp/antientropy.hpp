@@ -493,7 +493,7 @@ struct Verdict {
 struct Progress {
     Report report;
     std::optional<Refusal> cause;
-    std::uint64_t asks, on_way, bytes_on_way, bad, lost, accepted, known, leaves;
+    std::uint64_t asks, in_flight, bytes_in_flight, bad, lost, accepted, known, leaves;
 };
 
 /// The result of loading rows: numbers of accepted and of known versions.
@@ -1430,7 +1430,7 @@ public:
         c::antientropy_progress of = {};
         const auto number = c::antientropy_exchange_report(at(), detail::handle_of(replica), &of);
         return detail::result(number, Progress{static_cast<Report>(of.report), detail::cause(of.cause), of.asks,
-                                               of.on_way, of.bytes_on_way, of.bad, of.lost, of.accepted, of.known,
+                                               of.in_flight, of.bytes_in_flight, of.bad, of.lost, of.accepted, of.known,
                                                of.leaves});
     }
 

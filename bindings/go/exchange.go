@@ -75,16 +75,16 @@ func (r Report) String() string {
 
 // Progress has the report and the counts of an exchange.
 type Progress struct {
-	Report     Report
-	Cause      error  // [ErrJournalFull] or [ErrNoMemory] if the exchange has stopped, otherwise nil
-	Asks       uint64 // asks sent
-	OnWay      uint64 // asks in flight
-	BytesOnWay uint64 // estimated bytes of their answers
-	Bad        uint64 // bad answers
-	Lost       uint64 // lost asks
-	Accepted   uint64 // new versions in the answers taken
-	Known      uint64 // known versions in them
-	Leaves     uint64 // leaves taken
+	Report        Report
+	Cause         error  // [ErrJournalFull] or [ErrNoMemory] if the exchange has stopped, otherwise nil
+	Asks          uint64 // asks sent
+	InFlight      uint64 // asks in flight
+	BytesInFlight uint64 // estimated bytes of their answers
+	Bad           uint64 // bad answers
+	Lost          uint64 // lost asks
+	Accepted      uint64 // new versions in the answers taken
+	Known         uint64 // known versions in them
+	Leaves        uint64 // leaves taken
 }
 
 // An Exchange is a sync with a partner that the program polls: it returns the asks to send, and takes the answers in
@@ -284,16 +284,16 @@ func (e *Exchange) Progress() (Progress, error) {
 	defer held.lock.Unlock()
 	err := check(C.antientropy_exchange_report(&held.session.handle, &held.handle, &progress))
 	return Progress{
-		Report:     Report(progress.report),
-		Cause:      check(C.uint32_t(progress.cause)),
-		Asks:       uint64(progress.asks),
-		OnWay:      uint64(progress.on_way),
-		BytesOnWay: uint64(progress.bytes_on_way),
-		Bad:        uint64(progress.bad),
-		Lost:       uint64(progress.lost),
-		Accepted:   uint64(progress.accepted),
-		Known:      uint64(progress.known),
-		Leaves:     uint64(progress.leaves),
+		Report:        Report(progress.report),
+		Cause:         check(C.uint32_t(progress.cause)),
+		Asks:          uint64(progress.asks),
+		InFlight:      uint64(progress.in_flight),
+		BytesInFlight: uint64(progress.bytes_in_flight),
+		Bad:           uint64(progress.bad),
+		Lost:          uint64(progress.lost),
+		Accepted:      uint64(progress.accepted),
+		Known:         uint64(progress.known),
+		Leaves:        uint64(progress.leaves),
 	}, err
 }
 

@@ -49,7 +49,7 @@ func TestAPolledExchange(t *testing.T) {
 	put(r, "own", "")
 	takeAll(exchange, snapshot, func() { equal(t, must(syncFrom(r, filled(1))).Finished(), true) })
 	progress := must(exchange.Progress())
-	equal(t, []any{progress.Report, progress.Cause, progress.OnWay}, []any{antientropy.ReportFinished, nil, uint64(0)})
+	equal(t, []any{progress.Report, progress.Cause, progress.InFlight}, []any{antientropy.ReportFinished, nil, uint64(0)})
 	equal(t, []uint64{progress.Accepted, progress.Known, progress.Bad, progress.Lost}, []uint64{49, 1, 1, 1})
 	check(exchange.Close())
 	noSession(t, r)

@@ -3,7 +3,6 @@ package antientropy
 import (
 	"runtime"
 	"testing"
-	"time"
 )
 
 // must returns the result of a call that mustn't fail.
@@ -50,42 +49,6 @@ func TestNoFinalizerFrees(t *testing.T) {
 		defer collected.lock.Unlock()
 		return !collected.isAtWork && len(collected.frees) == 0
 	})
-}
-
-// timeOfAFinalizer drops a replica. It returns the time until the finalizer of another object has run.
-func timeOfAFinalizer(r *Replica) time.Duration {
-	r.at = nil
-	runtime.GC()
-	begin, ran := time.Now(), finalized()
-	runtime.GC()
-	<-ran
-	return time.Since(begin)
-}
-
-// A finalizer doesn't wait for a large replica that was dropped before. The best of three counts, since the machine may
-// be busy.
-func TestAFinalizerBehindALargeReplica(t *testing.T) {
-	large := func() *Replica {
-		r := must(NewReplica(Config{Format: 1, Limit: EntriesMax}))
-		for n := 0; n < 200_000; n++ {
-			must(r.Put(1, []byte{byte(n), byte(n >> 8), byte(n >> 16)}, nil, nil))
-		}
-		return r
-	}
-	for attempt := 0; ; attempt++ {
-		closed := large()
-		begin := time.Now()
-		closed.Close()
-		took := time.Since(begin)
-		waited := timeOfAFinalizer(large())
-		t.Logf("Close takes %v, and a finalizer waits for %v", took, waited)
-		if 2*waited < took {
-			return
-		}
-		if attempt == 2 {
-			t.Fatal("a finalizer waits for a replica that was dropped")
-		}
-	}
 }
 
 // An exchange and its replica are collected at once, and an exchange that outlives its replica is freed too.

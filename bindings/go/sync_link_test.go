@@ -74,7 +74,7 @@ func (l *slowLink) receive(t *testing.T) {
 		if size > piece {
 			size = piece
 		}
-		if timeOf(size) > timeOf(must(l.exchange.Progress()).BytesOnWay)+time.Second {
+		if timeOf(size) > timeOf(must(l.exchange.Progress()).BytesInFlight)+time.Second {
 			t.Fatal("an ask is lost")
 		}
 		rest -= size

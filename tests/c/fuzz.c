@@ -167,7 +167,7 @@ static void bring_patch(const uint8_t *bytes, size_t len)
     must("exchange_report", antientropy_exchange_report(&awaiting, &asker, &progress));
     if (progress.lost > 0)
         fail("an outline counts as lost", 0);
-    if (progress.on_way == 0)
+    if (progress.in_flight == 0)
         await_patch();
 }
 

@@ -828,11 +828,11 @@ static void exchanges(void)
     SEE(exchange_report, EMPTY, antientropy_exchange_report(&empty, &replica, &progress));
     SEE(exchange_report, EMPTY, antientropy_exchange_report(&exchange, &none, &progress));
     OK(antientropy_exchange_report(&exchange, &replica, &progress));
-    is("no ask is lost", progress.lost == 0 && progress.bad == 1 && progress.on_way == 1);
+    is("no ask is lost", progress.lost == 0 && progress.bad == 1 && progress.in_flight == 1);
     ask[4] = OFFER;
     OK(antientropy_exchange_lose(&exchange, ask, sizeof ask));
     OK(antientropy_exchange_report(&exchange, &replica, &progress));
-    is("the root is lost", progress.lost == 1 && progress.on_way == 0 && progress.report == ANTIENTROPY_REPORT_WAITING);
+    is("the root is lost", progress.lost == 1 && progress.in_flight == 0 && progress.report == ANTIENTROPY_REPORT_WAITING);
     SEE(exchange_go_on, EMPTY, antientropy_exchange_go_on(&empty));
     OK(antientropy_exchange_go_on(&exchange));
     SEE(exchange_left, EMPTY, antientropy_exchange_left(&empty, &replica, 0, &node));

@@ -94,7 +94,7 @@ void polled_exchange() {
     }
     const Progress progress = sure(exchange.progress(b));
     CHECK(progress.report == Report::Finished && !progress.cause && progress.bad == 0 && progress.lost == 1);
-    CHECK(accepted == 50 && progress.accepted == 50 && progress.known == 0 && progress.on_way == 0);
+    CHECK(accepted == 50 && progress.accepted == 50 && progress.known == 0 && progress.in_flight == 0);
     CHECK(kept(b) == 1 && sure(b.entry(0))->source == Source::Partner && sure(exchange.left(b)).empty());
     sure(exchange.close(b));
     CHECK(kept(b) == 0 && sure(b.entry(0))->source == Source::Copy && sure(a.root()) == sure(b.root()));

@@ -93,13 +93,13 @@ CALL(EXCHANGE, exchange_progress)
     uint32_t number = antientropy_exchange_report(&at->exchange, &at->of->replica, &progress);
     if (number != ANTIENTROPY_OK)
         return refused(env, number);
-    const ERL_NIF_TERM keys[] = {atoms.report, atoms.cause, atoms.asks,     atoms.on_way, atoms.bytes_on_way,
+    const ERL_NIF_TERM keys[] = {atoms.report, atoms.cause, atoms.asks,     atoms.in_flight, atoms.bytes_in_flight,
                                  atoms.bad,    atoms.lost,  atoms.accepted, atoms.known,  atoms.leaves};
     const ERL_NIF_TERM values[] = {report_atom(env, progress.report),
                                    cause_atom(progress.cause),
                                    enif_make_uint64(env, progress.asks),
-                                   enif_make_uint64(env, progress.on_way),
-                                   enif_make_uint64(env, progress.bytes_on_way),
+                                   enif_make_uint64(env, progress.in_flight),
+                                   enif_make_uint64(env, progress.bytes_in_flight),
                                    enif_make_uint64(env, progress.bad),
                                    enif_make_uint64(env, progress.lost),
                                    enif_make_uint64(env, progress.accepted),

@@ -19,7 +19,7 @@
     X(before, "before")                                                                                                \
     X(bits, "bits")                                                                                                    \
     X(bytes, "bytes")                                                                                                  \
-    X(bytes_on_way, "bytes_on_way")                                                                                    \
+    X(bytes_in_flight, "bytes_in_flight")                                                                              \
     X(cause, "cause")                                                                                                  \
     X(clock, "clock")                                                                                                  \
     X(closed, "closed")                                                                                                \
@@ -40,6 +40,7 @@
     X(gone, "gone")                                                                                                    \
     X(hint, "hint")                                                                                                    \
     X(hold, "hold")                                                                                                    \
+    X(in_flight, "in_flight")                                                                                          \
     X(journal, "journal")                                                                                              \
     X(key, "key")                                                                                                      \
     X(known, "known")                                                                                                  \
@@ -56,7 +57,6 @@
     X(none, "none")                                                                                                    \
     X(number, "number")                                                                                                \
     X(ok, "ok")                                                                                                        \
-    X(on_way, "on_way")                                                                                                \
     X(open_sessions, "open_sessions")                                                                                  \
     X(owner, "owner")                                                                                                  \
     X(partner, "partner")                                                                                              \

@@ -21,8 +21,8 @@
     lost => non_neg_integer(),
     plain => boolean()
 }.
-%% The most asks on their way, and bytes of the answers to them, as far as they can be estimated: one ask may always be
-%% on its way, and its answer may be longer. After more bad answers or lost asks the exchange is over. If `plain', no
+%% The most asks in flight, and bytes of the answers to them, as far as they can be estimated: one ask may always be
+%% in flight, and its answer may be longer. After more bad answers or lost asks the exchange is over. If `plain', no
 %% ask is an outline: that takes less of both processors, and more of the link.
 -type cause() :: none | bad_message | not_asked | wrong_digest | journal_full | no_memory.
 -type verdict() :: #{
@@ -41,15 +41,15 @@
     report := report(),
     cause := cause(),
     asks := non_neg_integer(),
-    on_way := non_neg_integer(),
-    bytes_on_way := non_neg_integer(),
+    in_flight := non_neg_integer(),
+    bytes_in_flight := non_neg_integer(),
     bad := non_neg_integer(),
     lost := non_neg_integer(),
     accepted := non_neg_integer(),
     known := non_neg_integer(),
     leaves := non_neg_integer()
 }.
-%% The report, the cause of `stopped', numbers of asks that were sent and of those on their way, with the bytes of the
+%% The report, the cause of `stopped', numbers of asks that were sent and of those in flight, with the bytes of the
 %% answers to these as far as they can be estimated, of bad answers and lost asks, and of new versions, known versions
 %% and leaves that were taken.
 
@@ -64,7 +64,7 @@ asks(Exchange) ->
 take(Exchange, Answer) ->
     result(antientropy_nif:exchange_take(Exchange, Answer)).
 
-%% @doc Counts an ask as lost if it is on its way, so that it may be sent again. Refused: `bad_message' (not an ask).
+%% @doc Counts an ask as lost if it is in flight, so that it may be sent again. Refused: `bad_message' (not an ask).
 -spec lose(exchange(), Ask :: iodata()) -> ok | antientropy:refused().
 lose(Exchange, Ask) ->
     result(antientropy_nif:exchange_lose(Exchange, Ask)).

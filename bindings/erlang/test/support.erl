@@ -106,9 +106,9 @@ kill({Process, Monitor}) ->
 is_over({Process, _}) ->
     not is_process_alive(Process).
 
-%% @doc Waits until a condition holds. Returns false if it doesn't within 20 seconds.
+%% @doc Waits until a condition holds. Returns false if it doesn't within two minutes.
 until(Condition) ->
-    until(Condition, 20_000).
+    until(Condition, 120_000).
 
 until(_, 0) ->
     false;

@@ -191,15 +191,15 @@ class Verdict(NamedTuple):
 class Progress(NamedTuple):
     """The report and the counts of an exchange. The cause is JournalFullError or NoMemoryError if it is STOPPED.
 
-    `asks` is the number of asks sent, and `bytes_on_way` the estimated bytes of the answers to those in flight.
+    `asks` is the number of asks sent, and `bytes_in_flight` the estimated bytes of the answers to those in flight.
     `accepted`, `known` and `leaves` count new and known versions and leaves in the answers taken.
     """
 
     report: Report
     cause: Optional[AntientropyError]
     asks: int
-    on_way: int
-    bytes_on_way: int
+    in_flight: int
+    bytes_in_flight: int
     bad: int
     lost: int
     accepted: int

@@ -113,7 +113,7 @@ class ExchangeTest(ExchangeCase):
         self.assertRaises(antientropy.BadMessageError, exchange.lose, b"")
         asyncio.run(carry(exchange))
         progress = exchange.progress()
-        self.assertEqual((progress.report, progress.cause, progress.on_way), (Report.FINISHED, None, 0))
+        self.assertEqual((progress.report, progress.cause, progress.in_flight), (Report.FINISHED, None, 0))
         self.assertEqual((progress.accepted, progress.known, progress.bad, progress.lost), (49, 1, 1, 1))
         exchange.close()
         exchange.close()

@@ -331,9 +331,9 @@ pub struct Progress {
     /// Asks sent.
     pub asks: u64,
     /// Asks in flight.
-    pub on_way: u64,
+    pub in_flight: u64,
     /// Estimated bytes of their answers.
-    pub bytes_on_way: u64,
+    pub bytes_in_flight: u64,
     /// Bad answers.
     pub bad: u64,
     /// Lost asks.
@@ -348,9 +348,10 @@ pub struct Progress {
 
 impl From<sys::Progress> for Progress {
     fn from(progress: sys::Progress) -> Progress {
-        let sys::Progress { report, cause, asks, on_way, bytes_on_way, bad, lost, accepted, known, leaves } = progress;
+        let sys::Progress { report, cause, asks, in_flight, bytes_in_flight, bad, lost, accepted, known, leaves } =
+            progress;
         let (report, cause) = (report.into(), cause_of(cause));
-        Progress { report, cause, asks, on_way, bytes_on_way, bad, lost, accepted, known, leaves }
+        Progress { report, cause, asks, in_flight, bytes_in_flight, bad, lost, accepted, known, leaves }
     }
 }
 

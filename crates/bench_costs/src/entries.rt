@@ -7,7 +7,7 @@ use version_set::{Kind, Version};
 /// The odd factor that scrambles a number, and the step between the numbers that make up a value.
 const SCRAMBLE: u64 = 0x9e37_79b9_7f4a_7c15;
 
-/// The minimum length of a scrambled key, in bytes, as in the yardstick.
+/// The minimum length of a scrambled key, in bytes.
 const SCRAMBLED_KEY_MIN: usize = 13;
 
 /// The byte after the first 32 of a longer value.

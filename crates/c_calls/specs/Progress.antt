@@ -2,7 +2,7 @@
 use Rattle.std.specs.Prelude.{◌≡◌, ℕ, Option, Some, None}
 use Rattle.tree_nodes.specs.Nodes.{Node}
 use Rattle.range_state.specs.State.{State}
-use Rattle.exchange.specs.Standings.{ways, ways_bytes}
+use Rattle.exchange.specs.Standings.{in_flight, bytes_in_flight}
 use Rattle.exchange.specs.Exchanges.{report_in}
 use Rattle.exchange.specs.declared.exchange.Exchange.{Exchange}
 use Rattle.exchange.specs.declared.report.Report.{Report}
@@ -37,7 +37,7 @@ report_cause reports.Gone = 0
 
 -- the report of an exchange with its counts
 abbrev pub progress_in : Exchange → State → Progress
-progress_in x s = record { report = report_number (report_in x s); cause = report_cause (report_in x s); asks = x.course.tally.asks; on_way = ways x.course.standings; bytes_on_way = ways_bytes x.course.standings; bad = x.course.tally.bad; lost = x.course.tally.lost; accepted = x.course.tally.accepted; known = x.course.tally.known; leaves = x.course.tally.leaves }
+progress_in x s = record { report = report_number (report_in x s); cause = report_cause (report_in x s); asks = x.course.tally.asks; in_flight = in_flight x.course.standings; bytes_in_flight = bytes_in_flight x.course.standings; bad = x.course.tally.bad; lost = x.course.tally.lost; accepted = x.course.tally.accepted; known = x.course.tally.known; leaves = x.course.tally.leaves }
 
 -- the caller gets a node, if any; otherwise the result is NO_VERSION, and nothing is written
 abbrev pub TellsNode : Option Node → ℕ → LeftNode → LeftNode → Type 0

@@ -19,9 +19,9 @@ pub struct Progress {
     /// The number of asks that were sent.
     pub asks: u64,
     /// The number of asks in progress.
-    pub on_way: u64,
+    pub in_flight: u64,
     /// The estimated size of the answers to them, in bytes.
-    pub bytes_on_way: u64,
+    pub bytes_in_flight: u64,
     /// The number of bad answers.
     pub bad: u64,
     /// The number of lost asks.
@@ -54,8 +54,8 @@ pub fn progress_of(exchange: &Exchange, state: &RangeState) -> Progress
         report: number_of_report(report),
         cause: cause_of(report),
         asks: tally.asks,
-        on_way: exchange.on_way(),
-        bytes_on_way: exchange.bytes_on_way(),
+        in_flight: exchange.in_flight(),
+        bytes_in_flight: exchange.bytes_in_flight(),
         bad: tally.bad,
         lost: tally.lost,
         accepted: tally.accepted,

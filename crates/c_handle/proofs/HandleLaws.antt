@@ -1,5 +1,5 @@
--- The structs of C that are handles of one type: a function that makes one of a `Handle`, or a `Handle` of one, hands on the pointer, the flag and the allocator; and
--- they may go to another thread. Assumes `Logic`.
+-- The structs of C that are handles of one type: a function that makes one of a `Handle`, or a `Handle` of one, keeps the
+-- pointer, the flag and the allocator; and they may go to another thread. Assumes `Logic`.
 use Rattle.c_handle.proofs.Steps.{◌≡◌, List, [], ◌∷◌, sym, Ura, ty_ptr, ty_bool, Val, vstruct, of_list, ent, emp, ftrue, Closed, Model, Logic, sem}
 use Rattle.c_handle.proofs.Steps.{‵, raw, ◌⊛◌, ◌$◌, ◌∵◌, !, qed, by, move, keep, split, fsplit, fjoin, use0, use1, rewrite, stop, fld, of_opd}
 use Rattle.c_handle.proofs.Steps.{no_more, and_then, returns, enter, alloc_all, pass_all, free_all, look_at, get, get_in, sets, agg, sub, whole}

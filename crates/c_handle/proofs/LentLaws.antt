@@ -1,4 +1,5 @@
--- The structs of C that hold a share of a value: a function that makes one of a `Lent`, or a `Lent` of one, hands on the pointer and the flag; and they may go to another thread. Assumes `Logic`.
+-- The structs of C that hold a share of a value: a function that makes one of a `Lent`, or a `Lent` of one, keeps the
+-- pointer and the flag; and they may go to another thread. Assumes `Logic`.
 use Rattle.c_handle.proofs.Steps.{◌≡◌, List, [], ◌∷◌, sym, Ura, ty_ptr, ty_bool, Val, vstruct, of_list, ent, emp, ftrue, Closed, Model, Logic, sem}
 use Rattle.c_handle.proofs.Steps.{‵, raw, ◌⊛◌, ◌$◌, ◌∵◌, !, qed, by, move, keep, split, fsplit, fjoin, use0, use1, rewrite, stop, fld, of_opd}
 use Rattle.c_handle.proofs.Steps.{no_more, and_then, returns, enter, alloc_all, pass_all, free_all, look_at, get, get_in, sets, agg, sub, whole}

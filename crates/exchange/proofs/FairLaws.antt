@@ -4,9 +4,9 @@ use Rattle.std.specs.Prelude.{◌||◌, nat_lt, is_some, Option, Some, None}
 use Rattle.std.proofs.lemmas.Bool.{or_parts, ltb-false}
 use Rattle.tree_nodes.specs.Nodes.{Node, place_of}
 use Rattle.exchange.specs.declared.standing.Standing.{Standing}
-use Rattle.exchange.specs.declared.standing.Standing.TheVariants.{Unasked, OnWay, Lost, Left, Settled}
+use Rattle.exchange.specs.declared.standing.Standing.TheVariants.{Unasked, InFlight, Lost, Left, Settled}
 use Rattle.exchange.specs.declared.report.End.{End}
-use Rattle.exchange.specs.Standings.{is_on_way, is_asked, is_lost, standing_of, may_ask, may_take, is_sent}
+use Rattle.exchange.specs.Standings.{is_in_flight, is_asked, is_lost, standing_of, may_ask, may_take, is_sent}
 use Rattle.exchange.specs.Courses.{Course, IsFair, is_over, with_lost, retracted, gone_on}
 use Rattle.exchange.specs.Asks.{after_ask}
 use Rattle.exchange.specs.Answers.{with_bad, at_node, after_wrong, after_refused, after_taken, stop_by}
@@ -29,7 +29,7 @@ goes x going =
 pub fair_ask : (x : Course) (n : Node) (a : Standing) (bytes : ℕ) → IsFair x → Goes x → x.stop ≡ None → standing_of x.standings n ≡ Some a
     → may_ask (Some a) ≡ true → IsFair (after_ask x (Some (n, bytes)))
 fair_ask x n Unasked bytes fair going stop at may =
-    let m : Moved x.standings (place_of n) Unasked (OnWay bytes) = moved x.standings (place_of n) Unasked (OnWay bytes) at in
+    let m : Moved x.standings (place_of n) Unasked (InFlight bytes) = moved x.standings (place_of n) Unasked (InFlight bytes) at in
     record {
       nodes = omega (arith, m.len, fair.nodes);
       again = omega (arith, m.asked, m.lost, fair.again);
@@ -37,11 +37,11 @@ fair_ask x n Unasked bytes fair going stop at may =
       bad = fair.bad;
       lost = omega (arith, m.len, fair.lost);
       refused = omega (arith, m.ways_most, fair.going stop);
-      sent = omega (arith, m.way, fair.sent);
+      sent = omega (arith, m.flights, fair.sent);
       going = λ _. fair.going stop;
     }
 fair_ask x n Lost bytes fair going stop at may =
-    let m : Moved x.standings (place_of n) Lost (OnWay bytes) = moved x.standings (place_of n) Lost (OnWay bytes) at in
+    let m : Moved x.standings (place_of n) Lost (InFlight bytes) = moved x.standings (place_of n) Lost (InFlight bytes) at in
     record {
       nodes = omega (arith, m.len, fair.nodes);
       again = omega (arith, m.asked, m.lost, fair.again);
@@ -49,10 +49,10 @@ fair_ask x n Lost bytes fair going stop at may =
       bad = fair.bad;
       lost = omega (arith, m.len, fair.lost);
       refused = omega (arith, m.ways_most, fair.going stop);
-      sent = omega (arith, m.way, fair.sent);
+      sent = omega (arith, m.flights, fair.sent);
       going = λ _. fair.going stop;
     }
-fair_ask x n (OnWay b) bytes fair going stop at may = absurd (cc)
+fair_ask x n (InFlight b) bytes fair going stop at may = absurd (cc)
 fair_ask x n Left bytes fair going stop at may = absurd (cc)
 fair_ask x n Settled bytes fair going stop at may = absurd (cc)
 
@@ -69,43 +69,43 @@ fair_asked x n bytes fair going stop may = by (standing_of x.standings n) refl m
 pub record Ends (b : Standing) : Type 0 where
   pub asked : is_asked b ≡ true
   pub lost : is_lost b ≡ false
-  pub way : is_on_way b ≡ false
+  pub flights : is_in_flight b ≡ false
 
 pub settled : Ends Settled
-settled = record { asked = refl; lost = refl; way = refl }
+settled = record { asked = refl; lost = refl; flights = refl }
 
 pub left : Ends Left
-left = record { asked = refl; lost = refl; way = refl }
+left = record { asked = refl; lost = refl; flights = refl }
 
 -- the answer for a node was taken, or its leaf was left
 pub fair_end : (x : Course) (n : Node) (a b : Standing) → IsFair x → standing_of x.standings n ≡ Some a → may_take (Some a) ≡ true → Ends b
     → IsFair (at_node x n b)
-fair_end x n (OnWay bytes) b fair at may ends =
-    let m : Moved x.standings (place_of n) (OnWay bytes) b = moved x.standings (place_of n) (OnWay bytes) b at in
+fair_end x n (InFlight bytes) b fair at may ends =
+    let m : Moved x.standings (place_of n) (InFlight bytes) b = moved x.standings (place_of n) (InFlight bytes) b at in
     let asked : one (is_asked b) ≡ 1 = ap one ends.asked in let lost : one (is_lost b) ≡ 0 = ap one ends.lost in
-    let way : one (is_on_way b) ≡ 0 = ap one ends.way in
+    let flights : one (is_in_flight b) ≡ 0 = ap one ends.flights in
     record {
       nodes = omega (arith, m.len, fair.nodes);
       again = omega (arith, m.asked, m.lost, fair.again, asked, lost);
       most = omega (arith, m.len, fair.most);
       bad = fair.bad;
       lost = omega (arith, m.len, fair.lost);
-      refused = omega (arith, m.way, m.len, fair.refused, way);
-      sent = omega (arith, m.way, way, fair.sent);
+      refused = omega (arith, m.flights, m.len, fair.refused, flights);
+      sent = omega (arith, m.flights, flights, fair.sent);
       going = fair.going;
     }
 fair_end x n Lost b fair at may ends =
     let m : Moved x.standings (place_of n) Lost b = moved x.standings (place_of n) Lost b at in
     let asked : one (is_asked b) ≡ 1 = ap one ends.asked in let lost : one (is_lost b) ≡ 0 = ap one ends.lost in
-    let way : one (is_on_way b) ≡ 0 = ap one ends.way in
+    let flights : one (is_in_flight b) ≡ 0 = ap one ends.flights in
     record {
       nodes = omega (arith, m.len, fair.nodes);
       again = omega (arith, m.asked, m.lost, fair.again, asked, lost);
       most = omega (arith, m.len, fair.most);
       bad = fair.bad;
       lost = omega (arith, m.len, fair.lost);
-      refused = omega (arith, m.way, m.len, fair.refused, way);
-      sent = omega (arith, m.way, way, fair.sent);
+      refused = omega (arith, m.flights, m.len, fair.refused, flights);
+      sent = omega (arith, m.flights, flights, fair.sent);
       going = fair.going;
     }
 fair_end x n Unasked b fair at may ends = absurd (cc)
@@ -156,12 +156,12 @@ fair_wrong x n fair going =
       most = omega (arith, l.len, fair.most);
       bad = omega (arith, going.bad);
       lost = omega (arith, l.len, fair.lost);
-      refused = omega (arith, l.way, l.len, fair.refused);
-      sent = omega (arith, l.way, fair.sent);
+      refused = omega (arith, l.flights, l.len, fair.refused);
+      sent = omega (arith, l.flights, fair.sent);
       going = fair.going;
     }
 
--- the ask for a node was lost, that was on its way
+-- the ask for a node was lost, that was in flight
 pub fair_lost : (x : Course) (n : Node) → IsFair x → Goes x → IsFair (with_lost x n)
 fair_lost x n fair going =
     let l = losing x.standings n in let few = small (is_sent (standing_of x.standings n)) in
@@ -171,31 +171,31 @@ fair_lost x n fair going =
       most = omega (arith, l.len, fair.most);
       bad = fair.bad;
       lost = omega (arith, l.len, going.lost);
-      refused = omega (arith, l.way, l.len, fair.refused);
-      sent = omega (arith, l.way, fair.sent);
+      refused = omega (arith, l.flights, l.len, fair.refused);
+      sent = omega (arith, l.flights, fair.sent);
       going = fair.going;
     }
 
--- the ask for a node was taken back, that was on its way
+-- the ask for a node was taken back, that was in flight
 pub fair_retracted : (x : Course) (n : Node) → IsFair x → is_sent (standing_of x.standings n) ≡ true → IsFair (retracted x n)
 fair_retracted x n fair sent =
-    let l = losing x.standings n in let way : one (is_sent (standing_of x.standings n)) ≡ 1 = ap one sent in
+    let l = losing x.standings n in let flights : one (is_sent (standing_of x.standings n)) ≡ 1 = ap one sent in
     record {
       nodes = omega (arith, l.len, fair.nodes);
-      again = omega (arith, l.asked, l.lost, l.way, fair.again, fair.sent, way);
+      again = omega (arith, l.asked, l.lost, l.flights, fair.again, fair.sent, flights);
       most = omega (arith, l.len, fair.most);
       bad = fair.bad;
       lost = omega (arith, l.len, fair.lost);
-      refused = omega (arith, l.way, l.len, fair.refused);
-      sent = omega (arith, l.way, fair.sent, way);
+      refused = omega (arith, l.flights, l.len, fair.refused);
+      sent = omega (arith, l.flights, fair.sent, flights);
       going = fair.going;
     }
 
 -- there is one
 pub retractable : (x : Course) (n : Node) → IsFair x → is_sent (standing_of x.standings n) ≡ true → 1 ≤ x.tally.asks
 retractable x n fair sent =
-    let l = losing x.standings n in let way : one (is_sent (standing_of x.standings n)) ≡ 1 = ap one sent in
-    omega (arith, l.way, fair.sent, way)
+    let l = losing x.standings n in let flights : one (is_sent (standing_of x.standings n)) ≡ 1 = ap one sent in
+    omega (arith, l.flights, fair.sent, flights)
 
 -- asks are sent again
 pub fair_on : (x : Course) → IsFair x → Goes x → IsFair (gone_on x)
@@ -225,8 +225,8 @@ fair_refused x n cause fair =
       most = omega (arith, l.len, fair.most);
       bad = fair.bad;
       lost = omega (arith, l.len, fair.lost);
-      refused = omega (arith, l.way, l.len, fair.refused, few);
-      sent = omega (arith, l.way, fair.sent);
+      refused = omega (arith, l.flights, l.len, fair.refused, few);
+      sent = omega (arith, l.flights, fair.sent);
       going = λ none. absurd (stopped x.stop cause none);
     }
 

@@ -37,7 +37,7 @@ module _ (x : Course) (a : Answer) (o : Option Standing) (ours : nat_eq a.offer 
   sorts_due y is = subst (λ (p : Sorted × Course). IsDueBy p (a.node, a.text) y) (sym as_sorted) is
 
 pub due_when : (x : Course) (a : Answer) (o : Option Standing) → may_take o ≡ true → IsDueBy (sorted_at x a o) (a.node, a.text) x
-due_when x a (Some (standings.OnWay bytes)) may = (refl, refl)
+due_when x a (Some (standings.InFlight bytes)) may = (refl, refl)
 due_when x a (Some standings.Lost) may = (refl, refl)
 due_when x a (Some standings.Left) may = absurd (cc)
 due_when x a (Some standings.Settled) may = absurd (cc)
@@ -46,7 +46,7 @@ due_when x a None may = absurd (cc)
 
 pub late_when : (x : Course) (a : Answer) (o : Option Standing) → may_take o ≡ false → was_asked o ≡ true
     → IsVerdictBy (sorted_at x a o) verdicts.Late x
-late_when x a (Some (standings.OnWay bytes)) may asked = absurd (cc)
+late_when x a (Some (standings.InFlight bytes)) may asked = absurd (cc)
 late_when x a (Some standings.Lost) may asked = absurd (cc)
 late_when x a (Some standings.Left) may asked = (refl, refl)
 late_when x a (Some standings.Settled) may asked = (refl, refl)
@@ -55,7 +55,7 @@ late_when x a None may asked = absurd (cc)
 
 pub bad_when : (x : Course) (a : Answer) (o : Option Standing) → was_asked o ≡ false
     → IsVerdictBy (sorted_at x a o) (verdicts.Bad refusals.NotAsked) (with_bad x)
-bad_when x a (Some (standings.OnWay bytes)) asked = absurd (cc)
+bad_when x a (Some (standings.InFlight bytes)) asked = absurd (cc)
 bad_when x a (Some standings.Lost) asked = absurd (cc)
 bad_when x a (Some standings.Left) asked = absurd (cc)
 bad_when x a (Some standings.Settled) asked = absurd (cc)
@@ -65,7 +65,7 @@ bad_when x a None asked = (refl, refl)
 -- what is due may be taken, and nothing has changed
 due_may : (x y : Course) (a : Answer) (o : Option Standing) (parts : Node × List ℕ) → standing_of x.standings a.node ≡ o
     → IsDueBy (sorted_at x a o) parts y → (may_take (standing_of y.standings parts.0) ≡ true) × (y ≡ x)
-due_may x y a (Some (standings.OnWay bytes)) parts at is = (
+due_may x y a (Some (standings.InFlight bytes)) parts at is = (
   subst (λ (z : Course). may_take (standing_of z.standings parts.0) ≡ true) (sym is.1)
       (ap (λ (n : Node). may_take (standing_of x.standings n)) (ap (λ (q : Node × List ℕ). q.0) is.0) ∙ ap may_take at),
   is.1,

@@ -22,7 +22,7 @@ use Rattle.exchange.specs.declared.verdict.Verdict.TheVariants as verdicts
 use Rattle.exchange.specs.declared.report.Stop.{Stop}
 use Rattle.exchange.specs.declared.report.Stop.TheVariants as stops
 use Rattle.exchange.specs.declared.report.End.TheVariants as ends
-use Rattle.exchange.specs.Standings.{is_on_way, is_lost, standing_of, may_ask, may_take, is_sent, was_left, first_askable}
+use Rattle.exchange.specs.Standings.{is_in_flight, is_lost, standing_of, may_ask, may_take, is_sent, was_left, first_askable}
 use Rattle.exchange.specs.Courses.{Course, IsFair, is_over, unasked, with_lost, after_loss, gone_on, after_go_on, closed_end}
 use Rattle.exchange.specs.Asks.{next_in, fitting, has_room, estimate, is_leaf, after_ask}
 use Rattle.exchange.specs.Answers.{sorted, sorted_at, with_bad, judged}
@@ -94,7 +94,7 @@ follow_ask x w fair = by (next_in x w) refl
         record {
           fair = fair_asked x p.0 p.1 fair (goes x n.over) n.stop n.may;
           bounds = refl;
-          nodes = length-set x.standings (place_of p.0) (standings.OnWay p.1);
+          nodes = length-set x.standings (place_of p.0) (standings.InFlight p.1);
         }
 
 follow_loss : (x : Course) (n : Node) → IsFair x → Follows x (after_loss x n)
@@ -116,7 +116,7 @@ follow_bad : (x : Course) → IsFair x → is_over x ≡ false → Follows x (wi
 follow_bad x fair over = record { fair = fair_bad x fair (goes x over); bounds = refl; nodes = refl }
 
 follow_sorted_at : (x : Course) (a : Answer) (o : Option Standing) → IsFair x → is_over x ≡ false → Follows x (sorted_at x a o).1
-follow_sorted_at x a (Some (standings.OnWay bytes)) fair over = same x fair
+follow_sorted_at x a (Some (standings.InFlight bytes)) fair over = same x fair
 follow_sorted_at x a (Some standings.Lost) fair over = same x fair
 follow_sorted_at x a (Some standings.Left) fair over = same x fair
 follow_sorted_at x a (Some standings.Settled) fair over = same x fair
@@ -178,7 +178,7 @@ few_nodes Two = omega arith
 pub at_start_fair : (offer : Offer) (bounds : Bounds) (f : Format) → IsFair (at_start offer bounds f)
 at_start_fair offer bounds f =
     let lost : count_by is_lost (unasked f) ≡ 0 = none_counted is_lost (node_count f) refl in
-    let way : count_by is_on_way (unasked f) ≡ 0 = none_counted is_on_way (node_count f) refl in
+    let flights : count_by is_in_flight (unasked f) ≡ 0 = none_counted is_in_flight (node_count f) refl in
     let len : length (unasked f) ≡ node_count f = length-replicate (node_count f) standings.Unasked in
     record {
       nodes = omega (arith, len, few_nodes f);
@@ -186,8 +186,8 @@ at_start_fair offer bounds f =
       most = omega arith;
       bad = omega arith;
       lost = omega arith;
-      refused = omega (arith, way);
-      sent = omega (arith, way);
+      refused = omega (arith, flights);
+      sent = omega (arith, flights);
       going = λ _. refl;
     }
 
@@ -199,11 +199,11 @@ asks_bounded offer bounds f steps may =
     let len : length (unasked f) ≡ node_count f = length-replicate (node_count f) standings.Unasked in
     omega (arith, r.fair.most, r.nodes, len, ap (λ (b : Bounds). b.bad) r.bounds, ap (λ (b : Bounds). b.lost) r.bounds)
 
--- what may be asked isn't on its way, and wasn't left
+-- what may be asked isn't in flight, and wasn't left
 pub may_isnt : (o : Option Standing) → may_ask o ≡ true → (is_sent o ≡ false) × (was_left o ≡ false)
 may_isnt (Some standings.Unasked) e = (refl, refl)
 may_isnt (Some standings.Lost) e = (refl, refl)
-may_isnt (Some (standings.OnWay bytes)) e = absurd (cc)
+may_isnt (Some (standings.InFlight bytes)) e = absurd (cc)
 may_isnt (Some standings.Left) e = absurd (cc)
 may_isnt (Some standings.Settled) e = absurd (cc)
 may_isnt None e = absurd (cc)

@@ -89,25 +89,25 @@ abbrev Among : List Standing → List Node → Type 0
 Among xs nodes = count_by is_asked xs + fresh_in xs nodes ≤ length nodes
 
 among_ask : (xs : List Standing) (n : Node) (bytes : ℕ) (nodes : List Node) → Among xs nodes → may_ask (standing_of xs n) ≡ true → 1 ≤ times n nodes
-    → Among (with_standing xs n (standings.OnWay bytes)) nodes
+    → Among (with_standing xs n (standings.InFlight bytes)) nodes
 among_ask xs n bytes nodes among may has = by (standing_of xs n) refl may
   where
-    by : (o : Option Standing) → standing_of xs n ≡ o → may_ask o ≡ true → Among (with_standing xs n (standings.OnWay bytes)) nodes
+    by : (o : Option Standing) → standing_of xs n ≡ o → may_ask o ≡ true → Among (with_standing xs n (standings.InFlight bytes)) nodes
     by (Some standings.Unasked) at m =
         omega (
           arith,
-          (moved xs (place_of n) standings.Unasked (standings.OnWay bytes) at).asked,
-          one_less xs n (standings.OnWay bytes) nodes refl at has,
+          (moved xs (place_of n) standings.Unasked (standings.InFlight bytes) at).asked,
+          one_less xs n (standings.InFlight bytes) nodes refl at has,
           among,
         )
     by (Some standings.Lost) at m =
         omega (
           arith,
-          (moved xs (place_of n) standings.Lost (standings.OnWay bytes) at).asked,
-          fewer_in xs (place_of n) (standings.OnWay bytes) nodes refl,
+          (moved xs (place_of n) standings.Lost (standings.InFlight bytes) at).asked,
+          fewer_in xs (place_of n) (standings.InFlight bytes) nodes refl,
           among,
         )
-    by (Some (standings.OnWay b)) at m = absurd (cc)
+    by (Some (standings.InFlight b)) at m = absurd (cc)
     by (Some standings.Left) at m = absurd (cc)
     by (Some standings.Settled) at m = absurd (cc)
     by None at m = absurd (cc)
@@ -120,8 +120,8 @@ among_end xs n b nodes among may asked = by (standing_of xs n) refl may
     by : (o : Option Standing) → standing_of xs n ≡ o → may_take o ≡ true → Among (with_standing xs n b) nodes
     by (Some standings.Lost) at m =
         omega (arith, (moved xs (place_of n) standings.Lost b at).asked, ap one asked, fewer_in xs (place_of n) b nodes asked, among)
-    by (Some (standings.OnWay c)) at m =
-        omega (arith, (moved xs (place_of n) (standings.OnWay c) b at).asked, ap one asked, fewer_in xs (place_of n) b nodes asked, among)
+    by (Some (standings.InFlight c)) at m =
+        omega (arith, (moved xs (place_of n) (standings.InFlight c) b at).asked, ap one asked, fewer_in xs (place_of n) b nodes asked, among)
     by (Some standings.Unasked) at m = absurd (cc)
     by (Some standings.Left) at m = absurd (cc)
     by (Some standings.Settled) at m = absurd (cc)
@@ -131,8 +131,13 @@ among_lost : (xs : List Standing) (n : Node) (nodes : List Node) → Among xs no
 among_lost xs n nodes among = by (standing_of xs n) refl
   where
     by : (o : Option Standing) → standing_of xs n ≡ o → Among (if is_sent o then with_standing xs n standings.Lost else xs) nodes
-    by (Some (standings.OnWay c)) at =
-        omega (arith, (moved xs (place_of n) (standings.OnWay c) standings.Lost at).asked, fewer_in xs (place_of n) standings.Lost nodes refl, among)
+    by (Some (standings.InFlight c)) at =
+        omega (
+          arith,
+          (moved xs (place_of n) (standings.InFlight c) standings.Lost at).asked,
+          fewer_in xs (place_of n) standings.Lost nodes refl,
+          among,
+        )
     by (Some standings.Unasked) at = among
     by (Some standings.Lost) at = among
     by (Some standings.Left) at = among
@@ -186,7 +191,7 @@ module _ (own other : RowMap) where
 
   among_sorted_at : (x : Course) (a : Answer) (o : Option Standing) → Among x.standings (differ own other)
       → Among (sorted_at x a o).1.standings (differ own other)
-  among_sorted_at x a (Some (standings.OnWay bytes)) among = among
+  among_sorted_at x a (Some (standings.InFlight bytes)) among = among
   among_sorted_at x a (Some standings.Lost) among = among
   among_sorted_at x a (Some standings.Left) among = among
   among_sorted_at x a (Some standings.Settled) among = among

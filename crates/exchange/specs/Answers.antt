@@ -32,7 +32,7 @@ Sorted = Result Answer Verdict
 
 -- sorted, by the standing of the node that the answer names
 abbrev pub sorted_at : Course → Answer → Option Standing → Sorted × Course
-sorted_at x a (Some (standings.OnWay bytes)) = (Ok a, x)
+sorted_at x a (Some (standings.InFlight bytes)) = (Ok a, x)
 sorted_at x a (Some standings.Lost) = (Ok a, x)
 sorted_at x a (Some standings.Left) = (Err verdicts.Late, x)
 sorted_at x a (Some standings.Settled) = (Err verdicts.Late, x)

@@ -7,8 +7,8 @@ use Rattle.snapshot.specs.RowMaps.{RowMap, leaf_in}
 use Rattle.walk_messages.specs.declared.message.Ask.{Ask}
 use Rattle.sync_session.specs.Walks.{Walk}
 use Rattle.exchange.specs.declared.tally.Tally.{Tally}
-use Rattle.exchange.specs.declared.standing.Standing.TheVariants.{OnWay}
-use Rattle.exchange.specs.Standings.{ways, ways_bytes, first_askable, with_standing}
+use Rattle.exchange.specs.declared.standing.Standing.TheVariants.{InFlight}
+use Rattle.exchange.specs.Standings.{in_flight, bytes_in_flight, first_askable, with_standing}
 use Rattle.exchange.specs.Courses.{Course, is_over}
 
 -- a node is a leaf of the tree over these rows
@@ -34,7 +34,7 @@ most_ways x leaf = if leaf && (x.tally.leaves == 0) then min 16 x.bounds.asks el
 
 -- another ask may be sent, with an answer of this size: none is in progress, or it is within the bounds
 abbrev pub has_room : Course → Bool → ℕ → Bool
-has_room x leaf bytes = (ways x.standings == 0) || (nat_lt (ways x.standings) (most_ways x leaf) && nat_le (ways_bytes x.standings + bytes) x.bounds.bytes)
+has_room x leaf bytes = (in_flight x.standings == 0) || (nat_lt (in_flight x.standings) (most_ways x leaf) && nat_le (bytes_in_flight x.standings + bytes) x.bounds.bytes)
 
 -- the node, with the estimate, if it is within the bounds
 abbrev pub fitting : Course → RowMap → Option Node → Option (Node × ℕ)
@@ -51,4 +51,4 @@ ask_for x next = option_map (λ p. record { offer = x.offer.offer; node = p.0 })
 -- the course after an ask was sent
 abbrev pub after_ask : Course → Option (Node × ℕ) → Course
 after_ask x None = x
-after_ask x (Some p) = record x { standings = with_standing x.standings p.0 (OnWay p.1); tally = record x.tally { asks = x.tally.asks + 1 } }
+after_ask x (Some p) = record x { standings = with_standing x.standings p.0 (InFlight p.1); tally = record x.tally { asks = x.tally.asks + 1 } }

@@ -16,7 +16,7 @@ use Rattle.exchange.specs.declared.report.End.TheVariants as ends
 use Rattle.exchange.specs.declared.report.Stop.{Stop}
 use Rattle.exchange.specs.declared.report.Report.{Report}
 use Rattle.exchange.specs.declared.report.Report.TheVariants as reports
-use Rattle.exchange.specs.Standings.{is_asked, is_lost, ways, standing_of, was_left, lost_in, is_sent}
+use Rattle.exchange.specs.Standings.{is_asked, is_lost, in_flight, standing_of, was_left, lost_in, is_sent}
 
 -- the partner's offer, the bounds, the standing of each node by its place, the counts, the cause for which asks
 -- stopped, if they did, and the end, if any
@@ -45,8 +45,8 @@ pub record IsFair (x : Course) : Type 0 where
   pub most : x.tally.asks ≤ length x.standings + x.bounds.bad + x.bounds.lost
   pub bad : x.tally.bad ≤ x.bounds.bad + 1
   pub lost : x.tally.lost ≤ x.bounds.lost + 1 + length x.standings
-  pub refused : x.tally.refused + ways x.standings ≤ length x.standings
-  pub sent : ways x.standings ≤ x.tally.asks
+  pub refused : x.tally.refused + in_flight x.standings ≤ length x.standings
+  pub sent : in_flight x.standings ≤ x.tally.asks
   pub going : x.stop ≡ None → x.tally.refused ≡ 0
 
 -- it is over: it has ended, or too many answers were bad, or too many asks were lost

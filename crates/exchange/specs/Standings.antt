@@ -3,20 +3,20 @@ use Rattle.std.specs.Prelude.{ℕ, Bool, true, false, List, [], ◌∷◌, Optio
 use Rattle.std.specs.List.{filter, sum_by, count_by}
 use Rattle.tree_nodes.specs.Nodes.{Node, place_of}
 use Rattle.exchange.specs.declared.standing.Standing.{Standing}
-use Rattle.exchange.specs.declared.standing.Standing.TheVariants.{Unasked, OnWay, Lost, Left, Settled}
+use Rattle.exchange.specs.declared.standing.Standing.TheVariants.{Unasked, InFlight, Lost, Left, Settled}
 
 -- an ask is in progress
-abbrev pub is_on_way : Standing → Bool
-is_on_way (OnWay bytes) = true
-is_on_way Unasked = false
-is_on_way Lost = false
-is_on_way Left = false
-is_on_way Settled = false
+abbrev pub is_in_flight : Standing → Bool
+is_in_flight (InFlight bytes) = true
+is_in_flight Unasked = false
+is_in_flight Lost = false
+is_in_flight Left = false
+is_in_flight Settled = false
 
 -- an ask was sent, once or more
 abbrev pub is_asked : Standing → Bool
 is_asked Unasked = false
-is_asked (OnWay bytes) = true
+is_asked (InFlight bytes) = true
 is_asked Lost = true
 is_asked Left = true
 is_asked Settled = true
@@ -25,7 +25,7 @@ is_asked Settled = true
 abbrev pub is_lost : Standing → Bool
 is_lost Lost = true
 is_lost Unasked = false
-is_lost (OnWay bytes) = false
+is_lost (InFlight bytes) = false
 is_lost Left = false
 is_lost Settled = false
 
@@ -33,24 +33,24 @@ is_lost Settled = false
 abbrev pub is_left : Standing → Bool
 is_left Left = true
 is_left Unasked = false
-is_left (OnWay bytes) = false
+is_left (InFlight bytes) = false
 is_left Lost = false
 is_left Settled = false
 
 -- the size of the answer to an ask in progress
-abbrev pub way_bytes : Standing → ℕ
-way_bytes (OnWay bytes) = bytes
-way_bytes Unasked = 0
-way_bytes Lost = 0
-way_bytes Left = 0
-way_bytes Settled = 0
+abbrev pub flight_bytes : Standing → ℕ
+flight_bytes (InFlight bytes) = bytes
+flight_bytes Unasked = 0
+flight_bytes Lost = 0
+flight_bytes Left = 0
+flight_bytes Settled = 0
 
 -- the number of asks in progress, and the size of their answers
-abbrev pub ways : List Standing → ℕ
-ways standings = count_by is_on_way standings
+abbrev pub in_flight : List Standing → ℕ
+in_flight standings = count_by is_in_flight standings
 
-abbrev pub ways_bytes : List Standing → ℕ
-ways_bytes standings = sum_by way_bytes standings
+abbrev pub bytes_in_flight : List Standing → ℕ
+bytes_in_flight standings = sum_by flight_bytes standings
 
 -- the standing of a node, if the tree has it
 abbrev pub standing_of : List Standing → Node → Option Standing
@@ -63,7 +63,7 @@ with_standing standings n s = slice_set standings (place_of n) s
 abbrev pub may_ask : Option Standing → Bool
 may_ask (Some Unasked) = true
 may_ask (Some Lost) = true
-may_ask (Some (OnWay bytes)) = false
+may_ask (Some (InFlight bytes)) = false
 may_ask (Some Left) = false
 may_ask (Some Settled) = false
 may_ask None = false
@@ -72,7 +72,7 @@ may_ask None = false
 abbrev pub may_take : Option Standing → Bool
 may_take (Some Unasked) = false
 may_take (Some Lost) = true
-may_take (Some (OnWay bytes)) = true
+may_take (Some (InFlight bytes)) = true
 may_take (Some Left) = false
 may_take (Some Settled) = false
 may_take None = false
@@ -84,12 +84,12 @@ was_asked None = false
 
 -- the ask for a node with this standing is in progress
 abbrev pub is_sent : Option Standing → Bool
-is_sent (Some s) = is_on_way s
+is_sent (Some s) = is_in_flight s
 is_sent None = false
 
 -- the size of its answer
 abbrev pub sent_bytes : Option Standing → ℕ
-sent_bytes (Some s) = way_bytes s
+sent_bytes (Some s) = flight_bytes s
 sent_bytes None = 0
 
 -- the ask for a node, if it is in progress, is lost

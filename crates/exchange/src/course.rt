@@ -3,7 +3,7 @@ ghost use Rattle.std.specs.Prelude.{◌≡◌, ◌+◌, ◌<◌, ◌^◌, true, 
 ghost use Rattle.vclock.specs.declared.format.Format.{Format};
 ghost use Rattle.walk_messages.specs.declared.message.Answer.{Answer};
 ghost use Rattle.exchange.specs.declared.verdict.Verdict.TheVariants as verdicts;
-ghost use Rattle.exchange.specs.Standings.{ways_bytes, standing_of, may_take, is_sent};
+ghost use Rattle.exchange.specs.Standings.{bytes_in_flight, standing_of, may_take, is_sent};
 ghost use Rattle.exchange.specs.Courses.{is_over, begun, unasked, level, after_loss, retracted, after_go_on, closed, report_by_state, bounded_report};
 ghost use Rattle.exchange.specs.Asks.{is_leaf, estimate, has_room, next_in, ask_for, after_ask};
 ghost use Rattle.exchange.specs.Answers.{IsRead, IsDueBy, IsVerdictBy, sorted, end_by, after_refused, judged};
@@ -115,17 +115,17 @@ impl Course {
     /// Returns true if another ask may be sent, for an answer of that size.
     fn has_room(&self, is_leaf: bool, bytes: u64) -> bool
         ensures room { result ≡ has_room self.now is_leaf bytes }
-        ensures fits { result ≡ true → ways_bytes self.now.standings + bytes < 2 ^ 64 }
+        ensures fits { result ≡ true → bytes_in_flight self.now.standings + bytes < 2 ^ 64 }
     {
-        let ways = self.standings.ways();
-        if ways == 0 {
+        let in_flight = self.standings.in_flight();
+        if in_flight == 0 {
             return true;
         }
         let mut most = u64::from(self.bounds.asks);
         if is_leaf && self.tally.leaves == 0 {
             most = most.min(FIRST_WAYS);
         }
-        ways < most && fits(self.standings.ways_bytes(), bytes, self.bounds.bytes)
+        in_flight < most && fits(self.standings.bytes_in_flight(), bytes, self.bounds.bytes)
     }
 
     /// Returns the node and the text of a due answer, or the verdict on any other, which is counted if it is bad.

@@ -4,7 +4,7 @@ ghost use Rattle.vclock.specs.Answer.{Answers};
 ghost use Rattle.vclock.specs.Outcome.{Does};
 ghost use Rattle.tree_nodes.specs.Nodes.{tree_depth};
 ghost use Rattle.range_state.specs.Sessions.{foreign_fault};
-ghost use Rattle.exchange.specs.Standings.{ways, ways_bytes, standing_of, is_sent, may_take};
+ghost use Rattle.exchange.specs.Standings.{in_flight, bytes_in_flight, standing_of, is_sent, may_take};
 ghost use Rattle.exchange.specs.Courses.{IsFair, is_over, unasked, after_go_on, closed};
 ghost use Rattle.exchange.specs.Outlines.{unsent, may_outline, pays, outline_for};
 ghost use Rattle.exchange.specs.Exchanges.{on, is_of, record_in, going_in, level_with, opening, OpensUnless, asks_of, outlines_of, awaits, missed, lost_for, concluded, TakesText, TakesPatch, TakesFor, Takes, report_in, left_of, after_close};
@@ -264,17 +264,17 @@ impl Exchange {
     }
 
     /// Returns the number of asks in progress.
-    pub fn on_way(&self) -> u64
-        ensures { result ≡ ways self.now.course.standings }
+    pub fn in_flight(&self) -> u64
+        ensures { result ≡ in_flight self.now.course.standings }
     {
-        self.course.standings.ways()
+        self.course.standings.in_flight()
     }
 
     /// Returns the estimated size of the answers to the asks in progress, in bytes.
-    pub fn bytes_on_way(&self) -> u64
-        ensures { result ≡ ways_bytes self.now.course.standings }
+    pub fn bytes_in_flight(&self) -> u64
+        ensures { result ≡ bytes_in_flight self.now.course.standings }
     {
-        self.course.standings.ways_bytes()
+        self.course.standings.bytes_in_flight()
     }
 
     /// Takes bytes that aren't a patch.

@@ -46,7 +46,7 @@ pub fn asks_of_a_true_partner_are_few()
 {}
 
 /// The node of the next ask has no ask in progress, and wasn't left.
-pub fn no_node_is_on_its_way_twice()
+pub fn no_node_is_in_flight_twice()
     ensures { (x : Course) (w : Walk) (n : Node) (bytes : ℕ) → next_in x w ≡ Some (n, bytes)
         → (is_sent (standing_of x.standings n) ≡ false) × (was_left (standing_of x.standings n) ≡ false) }
 {}

@@ -6,7 +6,7 @@ pub enum Standing {
     /// No ask was sent.
     Unasked,
     /// An ask is in progress, and its answer may have this many bytes.
-    OnWay(u64),
+    InFlight(u64),
     /// The last ask was lost: another one may be sent.
     Lost,
     /// The leaf was left, since one of its keys is crowded.

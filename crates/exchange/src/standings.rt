@@ -3,7 +3,7 @@ ghost use Rattle.std.specs.Prelude.{◌≡◌, ◌+◌, ◌<◌, ◌≤◌, ◌^
 ghost use Rattle.vclock.specs.Answer.{Answers};
 ghost use Rattle.tree_nodes.specs.Nodes.{node_count, place_of};
 ghost use Rattle.exchange.specs.Courses.{are_left, unasked};
-ghost use Rattle.exchange.specs.Standings.{ways, ways_bytes, is_on_way, standing_of, with_standing, may_ask, may_take, was_asked, is_sent, sent_bytes, lost_in, was_left, left_in, first_askable};
+ghost use Rattle.exchange.specs.Standings.{in_flight, bytes_in_flight, is_in_flight, standing_of, with_standing, may_ask, may_take, was_asked, is_sent, sent_bytes, lost_in, was_left, left_in, first_askable};
 
 use crate::standing::Standing;
 use std::alloc::Global;
@@ -21,13 +21,13 @@ pub(crate) struct Standings {
 impl Model for Standings {
     ghost use Rattle.std.specs.Prelude.{◌≡◌, List};
     ghost use Rattle.exchange.specs.declared.standing.Standing.{Standing};
-    ghost use Rattle.exchange.specs.Standings.{ways, ways_bytes};
+    ghost use Rattle.exchange.specs.Standings.{in_flight, bytes_in_flight};
 
     ghost Value = { List Standing };
 
     ghost view = { λ s. s.list.items };
 
-    ghost invariant = { λ s. (s.sent ≡ ways s.list.items) × (s.bytes ≡ ways_bytes s.list.items) };
+    ghost invariant = { λ s. (s.sent ≡ in_flight s.list.items) × (s.bytes ≡ bytes_in_flight s.list.items) };
 }
 
 impl Standings {
@@ -56,16 +56,16 @@ impl Standings {
     }
 
     /// Returns the number of asks in progress.
-    pub(crate) fn ways(&self) -> u64
-        ensures number { result ≡ ways self.now }
+    pub(crate) fn in_flight(&self) -> u64
+        ensures number { result ≡ in_flight self.now }
         ensures most { result ≤ length self.now }
     {
         self.sent
     }
 
     /// Returns the size of their answers in bytes.
-    pub(crate) fn ways_bytes(&self) -> u64
-        ensures { result ≡ ways_bytes self.now }
+    pub(crate) fn bytes_in_flight(&self) -> u64
+        ensures { result ≡ bytes_in_flight self.now }
     {
         self.bytes
     }
@@ -80,10 +80,10 @@ impl Standings {
     /// Sets the standing of a node that may be asked: an ask is in progress, whose answer may have `bytes` bytes.
     pub(crate) fn send(&mut self, node: NodeAt, bytes: u64)
         requires may { may_ask (standing_of self.old node) ≡ true }
-        requires fits { ways_bytes self.old + bytes < 2 ^ 64 }
-        ensures { self.new ≡ with_standing self.old node (Standing.OnWay bytes) }
+        requires fits { bytes_in_flight self.old + bytes < 2 ^ 64 }
+        ensures { self.new ≡ with_standing self.old node (Standing.InFlight bytes) }
     {
-        self.list[node.place()] = Standing::OnWay(bytes);
+        self.list[node.place()] = Standing::InFlight(bytes);
         self.sent += 1;
         self.bytes += bytes;
     }
@@ -91,11 +91,11 @@ impl Standings {
     /// Sets the standing of a node whose answer may be taken; the new one has no ask in progress.
     pub(crate) fn end(&mut self, node: NodeAt, standing: Standing)
         requires may { may_take (standing_of self.old node) ≡ true }
-        requires ended { is_on_way standing ≡ false }
+        requires ended { is_in_flight standing ≡ false }
         ensures { self.new ≡ with_standing self.old node standing }
     {
         let before = self.get(node);
-        self.sent -= ways_of(before);
+        self.sent -= in_flight_of(before);
         self.bytes -= bytes_of(before);
         self.list[node.place()] = standing;
     }
@@ -116,7 +116,7 @@ impl Standings {
     pub(crate) fn is_sent(&self, node: NodeAt) -> bool
         ensures { result ≡ is_sent (standing_of self.now node) }
     {
-        matches!(self.get(node), Some(Standing::OnWay(_)))
+        matches!(self.get(node), Some(Standing::InFlight(_)))
     }
 
     /// Returns the first of some nodes that may be asked, if any.
@@ -173,11 +173,11 @@ pub(crate) fn node_count(format: Format) -> usize
 }
 
 /// Returns the number of asks in progress for a node with this standing: 1 or 0.
-fn ways_of(standing: Option<Standing>) -> u64
+fn in_flight_of(standing: Option<Standing>) -> u64
     ensures { result ≡ cond (is_sent standing) 1 0 }
 {
     match standing {
-        Some(Standing::OnWay(_)) => 1,
+        Some(Standing::InFlight(_)) => 1,
         _ => 0,
     }
 }
@@ -187,7 +187,7 @@ fn bytes_of(standing: Option<Standing>) -> u64
     ensures { result ≡ sent_bytes standing }
 {
     match standing {
-        Some(Standing::OnWay(bytes)) => bytes,
+        Some(Standing::InFlight(bytes)) => bytes,
         _ => 0,
     }
 }
@@ -198,7 +198,7 @@ fn may_ask(standing: Option<Standing>) -> bool
 {
     match standing {
         Some(Standing::Unasked | Standing::Lost) => true,
-        Some(Standing::OnWay(_) | Standing::Left | Standing::Settled) | None => false,
+        Some(Standing::InFlight(_) | Standing::Left | Standing::Settled) | None => false,
     }
 }
 
@@ -207,7 +207,7 @@ pub(crate) fn may_take(standing: Option<Standing>) -> bool
     ensures { result ≡ may_take standing }
 {
     match standing {
-        Some(Standing::OnWay(_) | Standing::Lost) => true,
+        Some(Standing::InFlight(_) | Standing::Lost) => true,
         Some(Standing::Unasked | Standing::Left | Standing::Settled) | None => false,
     }
 }
@@ -217,7 +217,7 @@ pub(crate) fn was_asked(standing: Option<Standing>) -> bool
     ensures { result ≡ was_asked standing }
 {
     match standing {
-        Some(Standing::OnWay(_) | Standing::Lost | Standing::Left | Standing::Settled) => true,
+        Some(Standing::InFlight(_) | Standing::Lost | Standing::Left | Standing::Settled) => true,
         Some(Standing::Unasked) | None => false,
     }
 }

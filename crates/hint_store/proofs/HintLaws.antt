@@ -384,7 +384,8 @@ delivery_back : (h : Hint) (d : Delivery) → h.owner ≡ d.owner → h.key ≡ 
     → delivery_of (record { hint = h; fate = fate_of d }) ≡ Some d
 delivery_back h d o k v =
     elim d.known as (λ t. d.known ≡ t
-    → option_map (λ known. record { owner = h.owner; key = h.key; version = h.version; known = known }) (owner_answer (cond t Known Taken)) ≡ Some d) [
+    → option_map (λ known. record { owner = h.owner; key = h.key; version = h.version; known = known })
+    (owner_answer (cond t Known Taken)) ≡ Some d) [
       | true ↦ λ e. λ i. Some (record { owner = o i; key = k i; version = v i; known = sym e i })
       | false ↦ λ e. λ i. Some (record { owner = o i; key = k i; version = v i; known = sym e i })
     ] refl

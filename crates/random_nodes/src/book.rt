@@ -117,7 +117,7 @@ impl Book {
     }
 
     /// Returns the number of asks in progress, and the expected size of their answers in bytes.
-    pub(crate) fn on_way(&self) -> (u64, u64) {
+    pub(crate) fn in_flight(&self) -> (u64, u64) {
         let (mut count, mut bytes) = (0u64, 0u64);
         for asked in &self.asked {
             if let Way::Open(size) | Way::Outlined(size) = asked.way {
@@ -190,7 +190,7 @@ impl Book {
 
     /// Returns true if one more ask may be sent, whose answer has this number of bytes.
     fn has_room(&self, is_leaf: bool, bytes: u64) -> bool {
-        let (count, sum) = self.on_way();
+        let (count, sum) = self.in_flight();
         let mut most = u64::from(self.bounds.asks);
         if is_leaf && self.tally.leaves == 0 {
             most = most.min(FIRST_LEAVES);

@@ -612,8 +612,8 @@ impl Dialogue {
         let walk = walk_of(&here.mirror, self.session);
         let same = self.exchange.tally() == self.book.tally;
         expect(same, "the counts of an exchange")?;
-        let on_way = (self.exchange.on_way(), self.exchange.bytes_on_way());
-        expect(on_way == self.book.on_way(), "the asks on their way")?;
+        let in_flight = (self.exchange.in_flight(), self.exchange.bytes_in_flight());
+        expect(in_flight == self.book.in_flight(), "the asks on their way")?;
         let report = here.range.report_of(&self.exchange);
         expect(report == self.book.report(walk), "how far an exchange is")?;
         let left = self.book.left(alloc, walk)?;

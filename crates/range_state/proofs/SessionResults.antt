@@ -9,7 +9,7 @@ use Rattle.snapshot.specs.RowMaps.{RowMap}
 use Rattle.sync_session.specs.declared.state.SessionState.TheVariants.{Open, Finished, Failed, Cancelled}
 use Rattle.tree_nodes.specs.Nodes.{Node, contains_node}
 use Rattle.sync_session.specs.TreeNodes.{text_of}
-use Rattle.sync_session.specs.Walks.{Walk, Held, IsCanonical, IsRightlyTaken, NoTwoShareADigest, IsPartners}
+use Rattle.sync_session.specs.Walks.{Walk, Held, IsCanonical, IsExpectedText, NoTwoShareADigest, IsPartners}
 use Rattle.sync_session.specs.Steps.{IsDue}
 use Rattle.sync_session.specs.Differing.{differ, times, IsHonest, IsNearlyDone, IsInTurn, AscendByPlace}
 use Rattle.sync_session.proofs.DescentLaws.{finished_held}
@@ -44,8 +44,8 @@ from_partner s ok e has source = all_of (λ (x : Entry). x.source ≡ Partner �
 
 -- ---- what a session took and asked, however it ended
 
-pub rightly_taken : (s : State) → IsRight s → (r : Record) → Contains s.records r → AllByRecursion (IsRightlyTaken r.session) r.session.taken
-rightly_taken s ok r has = (kept_of s r ok has).traced.texts
+pub expected_texts : (s : State) → IsRight s → (r : Record) → Contains s.records r → AllByRecursion (IsExpectedText r.session) r.session.taken
+expected_texts s ok r has = (kept_of s r ok has).traced.texts
 
 pub asked_once : (s : State) → IsRight s → (r : Record) → Contains s.records r → (n : Node) → times n r.session.asked ≤ 1
 asked_once s ok r has = (kept_of s r ok has).traced.once

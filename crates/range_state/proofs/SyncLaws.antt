@@ -41,7 +41,7 @@ use Rattle.range_state.specs.Syncs.{IsOfRange, leaves_in, offers_at, known_in, P
 use Rattle.range_state.specs.Syncs.{IsSyncedTo, IsPartWay, IsFirstOf}
 use Rattle.range_state.proofs.SyncLists.{AreIn, member_of, has_head, all_has, same_nodes, fits, ascends_before, without_first, differ_ascends}
 use Rattle.range_state.proofs.SyncLists.{differ_inside, as_deep}
-use Rattle.range_state.proofs.SyncStepLaws.{so_far, taken_more, leaf_came, leaf_refused, leaves-append, leaf_counts, inner_counts, no_leaves}
+use Rattle.range_state.proofs.SyncStepLaws.{so_far, taken_more, leaf_is_taken, leaf_refused, leaves-append, leaf_counts, inner_counts, no_leaves}
 use Rattle.range_state.proofs.SyncStepLaws.{nodes-push, got_last, set_last, all_last, true_rows}
 use Rattle.range_store.proofs.TakenLaws.{config_stays}
 
@@ -326,7 +326,7 @@ leaf_on s now new seat id known other u n rest a count sum is at first took =
     (omega (arith, ap length entries, length-append now.store.entries a.receipts.items)) new_is
     (ap (taken_leaves s.store seat other 0) more
     ∙ taken_more s.store now.store seat other 0 known (leaves_in f done) (n ∷ []) u.progress
-    ∙ leaf_came now.store seat other known n fits
+    ∙ leaf_is_taken now.store seat other known n fits
     ∙ ap (so_far base) known_is)
 
 went_on : (s now new : State) (seat id known : ℕ) (other : RowMap) (u : IsUnderWay s seat other known now) (n : Node) (rest : List Node)

@@ -44,9 +44,9 @@ taken_more s t seat other known count (n ∷ leaves) more h =
     by_case None before later end again e = again e
     by_case (Some x) before later end again e = absurd (let clash : Some x ≡ None = ap (λ (p : Progress). p.fault) e in cc)
 
-pub leaf_came : (t : Store) (seat : ℕ) (other : RowMap) (known : ℕ) (n : Node) → leaf_fault t seat (offers_at other n) ≡ None
+pub leaf_is_taken : (t : Store) (seat : ℕ) (other : RowMap) (known : ℕ) (n : Node) → leaf_fault t seat (offers_at other n) ≡ None
     → taken_leaves t seat other known (n ∷ []) ≡ so_far (taken_in t seat (offers_at other n)) (known + known_in t seat (offers_at other n))
-leaf_came t seat other known n fits = rw fits refl
+leaf_is_taken t seat other known n fits = rw fits refl
 
 pub leaf_refused : (t : Store) (seat : ℕ) (other : RowMap) (known : ℕ) (n : Node) (leaves : List Node) (e : Refusal)
     → leaf_fault t seat (offers_at other n) ≡ Some e → taken_leaves t seat other known (n ∷ leaves) ≡ stopped t known e

@@ -11,7 +11,7 @@ ghost use Rattle.tree_nodes.specs.Nodes.{Node, contains_node, kept_digest};
 ghost use Rattle.snapshot.specs.RowMaps.{RowMap};
 ghost use Rattle.range_store.specs.Store.{Store, IsSound, rows_now, dirty_fault, full_fault};
 ghost use Rattle.sync_session.specs.TreeNodes.{text_of};
-ghost use Rattle.sync_session.specs.Walks.{Held, IsCanonical, IsRightlyTaken, NoTwoShareADigest, IsPartners};
+ghost use Rattle.sync_session.specs.Walks.{Held, IsCanonical, IsExpectedText, NoTwoShareADigest, IsPartners};
 ghost use Rattle.sync_session.specs.Steps.{IsDue};
 ghost use Rattle.sync_session.specs.Differing.{differ, times, IsHonest, IsNearlyDone, IsInTurn, AscendByPlace};
 ghost use Rattle.sync_session.specs.declared.state.SessionState.TheVariants.{Open, Finished};
@@ -65,7 +65,7 @@ pub fn partners_versions_were_taken()
 /// is outstanding, as when it is finished. A session that isn't open has no outstanding nodes.
 pub fn sessions_ask_where_the_trees_differ()
     ensures texts { (s : State) → IsRight s → (r : Record) → Contains s.records r
-        → AllByRecursion (IsRightlyTaken r.session) r.session.taken }
+        → AllByRecursion (IsExpectedText r.session) r.session.taken }
     ensures once { (s : State) → IsRight s → (r : Record) → Contains s.records r
         → (n : Node) → times n r.session.asked ≤ 1 }
     ensures ordered { (s : State) → IsRight s → (r : Record) → Contains s.records r

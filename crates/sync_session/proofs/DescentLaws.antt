@@ -19,7 +19,7 @@ use Rattle.snapshot.specs.RowMaps.{RowMap, IsRowMap, leaf_in, root_of}
 use Rattle.tree_nodes.specs.Nodes.{Node, top, child, is_same_node, contains_node, tree_depth, ancestor_of}
 use Rattle.hash_tree.specs.Texts.{leaf_text}
 use Rattle.sync_session.specs.TreeNodes.{digest_of}
-use Rattle.sync_session.specs.Walks.{Walk, TakenText, taken_at, child_digest, expected, differing, asks, Held, IsLeafHeld, IsRightlyTaken, Walked}
+use Rattle.sync_session.specs.Walks.{Walk, TakenText, taken_at, child_digest, expected, differing, asks, Held, IsLeafHeld, IsExpectedText, Walked}
 use Rattle.sync_session.specs.Walks.{IsCompared, NoTwoShareADigest, IsPartners}
 use Rattle.sync_session.proofs.TextLaws.{text_above, leaf_rows, leaf_are, child_digest-text, leaf_below, ancestor_below}
 
@@ -153,7 +153,7 @@ taken_child held w other good h d i e lt asked due =
         → taken_at w.taken (at_node d i) ≡ Some (text_above other h i)
     taken_text None at is = absurd (cc)
     taken_text (Some text) at is =
-        let digest = (All-taken_at (IsRightlyTaken w) w.taken (at_node d i) text good.walked.texts at).digest in
+        let digest = (All-taken_at (IsExpectedText w) w.taken (at_node d i) text good.walked.texts at).digest in
         let same : sha256 text ≡ sha256 (text_above other h i) = some_is (sha256 text) (sha256 (text_above other h i)) (sym digest ∙ due) in
         at ∙ ap (λ (x : List ℕ). Some x)
         (good.distinct text (text_above other h i) (taken_compared w other (at_node d i) text at)

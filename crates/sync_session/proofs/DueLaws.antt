@@ -4,7 +4,7 @@ use Rattle.std.proofs.Common.{◌∙◌, arith, inl, inr}
 use Rattle.std.specs.Prelude.{is_some, option_map}
 use Rattle.std.proofs.lemmas.List.{length-take, length-drop}
 use Rattle.tree_nodes.specs.Nodes.{Node, contains_node}
-use Rattle.sync_session.specs.Walks.{Walk, child_digest, taken_at, expected, IsCanonical, IsRightlyTaken}
+use Rattle.sync_session.specs.Walks.{Walk, child_digest, taken_at, expected, IsCanonical, IsExpectedText}
 use Rattle.sync_session.specs.Differing.{times, nodes_of, IsOrderly, IsTraced}
 use Rattle.sync_session.proofs.DescentLaws.{at_node, levels, All-taken_at}
 use Rattle.sync_session.proofs.CountLaws.{has_times, asker, no_root}
@@ -29,7 +29,7 @@ child_awaited w d i traced deep took = by_case (taken_at w.taken (at_node d (i /
     by_case : (o : Option (List ℕ)) → taken_at w.taken (at_node d (i / 16)) ≡ o → is_some o ≡ true → IsAwaited w (at_node (suc d) i)
     by_case None at is = absurd (cc)
     by_case (Some text) at is =
-        let right = All-taken_at (IsRightlyTaken w) w.taken (at_node d (i / 16)) text traced.texts at in
+        let right = All-taken_at (IsExpectedText w) w.taken (at_node d (i / 16)) text traced.texts at in
         record {
           shallow = omega arith;
           digest = child_digest text (i % 16);
@@ -40,7 +40,7 @@ child_awaited w d i traced deep took = by_case (taken_at w.taken (at_node d (i /
 asked_awaited : (w : Walk) → IsTraced w → length w.root ≡ 32 → (d i : ℕ) → 1 ≤ times (at_node d i) w.asked → IsAwaited w (at_node d i)
 asked_awaited w traced long zero i h = record { shallow = omega arith; digest = w.root; expects = refl; long = long }
 asked_awaited w traced long (suc d) i h =
-    let who = asker (IsRightlyTaken w) w.own w.taken (at_node (suc d) i) traced.texts
+    let who = asker (IsExpectedText w) w.own w.taken (at_node (suc d) i) traced.texts
     (omega (arith, h, asked_times w traced (at_node (suc d) i), no_root w.own w.root (at_node (suc d) i) d refl)) in
     let kid = who.by.kid in
     let depth : suc d ≡ suc who.t.node.depth = ap (λ (n : Node). n.depth) kid.is in

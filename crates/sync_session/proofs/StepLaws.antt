@@ -14,7 +14,7 @@ use Rattle.sync_session.specs.declared.state.SessionState.TheVariants.{Finished}
 use Rattle.tree_nodes.specs.Nodes.{Node, is_same_node, contains_node}
 use Rattle.snapshot.specs.RowMaps.{RowMap, IsRowMap}
 use Rattle.sync_session.specs.Walks.{Walk, TakenText, taken_at, child_digest, expected_at, first_asked, asks, Held, IsLeafHeld, IsCanonical}
-use Rattle.sync_session.specs.Walks.{AreSpelled, IsRightlyTaken, Walked}
+use Rattle.sync_session.specs.Walks.{AreSpelled, IsExpectedText, Walked}
 use Rattle.sync_session.specs.Steps.{state_by, started, left_after, after, IsDue, Grows}
 use Rattle.hash_tree.proofs.TextLaws.{same_leaf}
 use Rattle.sync_session.proofs.DescentLaws.{is_node-true, is_node-same}
@@ -169,8 +169,8 @@ walked_after held w t h due canonical is_held =
       map = h.map;
       own_held = h.own_held;
       rows_held = all-push _ w.taken t h.rows_held is_held;
-      texts = all-push (IsRightlyTaken (after w t)) w.taken t
-          (All-weaker (IsRightlyTaken w) (IsRightlyTaken (after w t)) w.taken
+      texts = all-push (IsExpectedText (after w t)) w.taken t
+          (All-weaker (IsExpectedText w) (IsExpectedText (after w t)) w.taken
           (λ u is. record { canonical = is.canonical; digest = expected_stays w.root w.taken (t ∷ []) u.node.depth u.node.index _ is.digest })
           h.texts)
           (record { canonical = canonical; digest = expected_stays w.root w.taken (t ∷ []) t.node.depth t.node.index _ due.digest });

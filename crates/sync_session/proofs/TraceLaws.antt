@@ -3,7 +3,7 @@ use Rattle.std.proofs.Common.{List, ℕ, arith}
 use Rattle.version_set.specs.declared.version.Version.{Version}
 use Rattle.sync_session.specs.declared.state.SessionState.{SessionState}
 use Rattle.sync_session.specs.declared.state.SessionState.TheVariants.{Open, Finished, Failed, Cancelled}
-use Rattle.sync_session.specs.Walks.{Walk, IsRightlyTaken, Walked}
+use Rattle.sync_session.specs.Walks.{Walk, IsExpectedText, Walked}
 use Rattle.sync_session.specs.Steps.{failed, cancelled_by}
 use Rattle.sync_session.specs.Differing.{IsOrderly, IsTraced}
 use Rattle.sync_session.proofs.StepLaws.{All-weaker}
@@ -20,7 +20,7 @@ traced held w walked orderly = record {
 -- one that failed
 pub traced_failed : (w : Walk) → IsTraced w → IsTraced (failed w)
 traced_failed w h = record {
-  texts = All-weaker (IsRightlyTaken w) (IsRightlyTaken (failed w)) w.taken (λ t is. record { canonical = is.canonical; digest = is.digest }) h.texts;
+  texts = All-weaker (IsExpectedText w) (IsExpectedText (failed w)) w.taken (λ t is. record { canonical = is.canonical; digest = is.digest }) h.texts;
   asked = h.asked;
   took = h.took;
   once = h.once;
@@ -29,7 +29,7 @@ traced_failed w h = record {
 -- one that was cancelled, as it stood
 pub traced_cancelled : (w : Walk) (state : SessionState) → IsTraced w → IsTraced (cancelled_by w state)
 traced_cancelled w Open h = record {
-  texts = All-weaker (IsRightlyTaken w) (IsRightlyTaken (cancelled_by w Open)) w.taken
+  texts = All-weaker (IsExpectedText w) (IsExpectedText (cancelled_by w Open)) w.taken
       (λ t is. record { canonical = is.canonical; digest = is.digest }) h.texts;
   asked = h.asked;
   took = h.took;

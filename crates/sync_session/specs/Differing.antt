@@ -6,7 +6,7 @@ use Rattle.version_set.specs.Order.{Pairwise}
 use Rattle.tree_nodes.specs.Nodes.{Node, is_same_node, contains_node, place_of, tree_depth}
 use Rattle.snapshot.specs.RowMaps.{RowMap}
 use Rattle.sync_session.specs.TreeNodes.{text_of, digest_of}
-use Rattle.sync_session.specs.Walks.{TakenText, Walk, asked_by, IsRightlyTaken}
+use Rattle.sync_session.specs.Walks.{TakenText, Walk, asked_by, IsExpectedText}
 
 -- the first k nodes of a depth
 unfoldable pub first_of_level : ℕ → ℕ → List Node
@@ -52,7 +52,7 @@ pub record IsOrderly (w : Walk) : Type 0 where
 -- was expected there; the nodes asked are those that the texts ask, each once; and only nodes that were asked were
 -- taken.
 pub record IsTraced (w : Walk) : Type 0 where
-  pub texts : AllByRecursion (IsRightlyTaken w) w.taken
+  pub texts : AllByRecursion (IsExpectedText w) w.taken
   pub asked : w.asked ≡ asked_by w.own w.root w.taken
   pub took : (n : Node) → times n (nodes_of w.taken) ≤ times n w.asked
   pub once : (n : Node) → times n w.asked ≤ 1

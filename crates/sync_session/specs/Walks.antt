@@ -92,7 +92,7 @@ abbrev pub IsCanonical : RowMap → Node → List ℕ → Type 0
 IsCanonical m n text = ((n.depth < tree_depth m.format) × IsInnerText m.format text) ⊎ ((n.depth ≡ tree_depth m.format) × ((rows : List Row) × AreSpelled m n text rows))
 
 -- a taken text that is canonical and has the expected digest
-pub record IsRightlyTaken (w : Walk) (t : TakenText) : Type 0 where
+pub record IsExpectedText (w : Walk) (t : TakenText) : Type 0 where
   pub canonical : IsCanonical w.own t.node t.text
   pub digest : expected w.root w.taken t.node ≡ Some (sha256 t.text)
 
@@ -107,7 +107,7 @@ pub record Walked (held : List ℕ → List Version) (w : Walk) : Type 0 where
   pub map : IsRowMap w.own
   pub own_held : Held w.own.rows held
   pub rows_held : AllByRecursion (IsLeafHeld w.own held) w.taken
-  pub texts : AllByRecursion (IsRightlyTaken w) w.taken
+  pub texts : AllByRecursion (IsExpectedText w) w.taken
   pub asked : w.asked ≡ asked_by w.own w.root w.taken
   pub answered : (n : Node) → contains_node n w.asked ≡ true → (is_some (taken_at w.taken n) ≡ true) ⊎ (contains_node n w.outstanding ≡ true)
   pub finished : w.state ≡ Finished → w.outstanding ≡ []

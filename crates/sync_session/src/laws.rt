@@ -19,7 +19,7 @@ pub fn a_finished_session_is_held()
 {}
 
 /// The record of a walk stays valid as versions are accepted and as texts are taken.
-pub fn a_walk_stays_right()
+pub fn a_walk_stays_valid()
     ensures started { (held : List ℕ → List Version) (own : RowMap) (offered : List ℕ) → IsRowMap own
         → Held own.rows held → Walked held (started own offered) }
     ensures grows { (before now : List ℕ → List Version) (w : Walk) → Grows before now → Walked before w → Walked now w }

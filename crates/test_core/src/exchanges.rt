@@ -243,7 +243,7 @@ fn an_answer_counts_for_the_node_that_it_names(rt: HostRuntime) -> Result<(), Fa
         pair.take_true(alloc, crowded)?;
     }
     expect(
-        leaves.len() == 4 && pair.exchange.on_way() == 3,
+        leaves.len() == 4 && pair.exchange.in_flight() == 3,
         "the three other asks are on their way still",
     )?;
     for node in &leaves {

@@ -212,8 +212,8 @@ exchange(Exchange, Serve, Bytes) ->
     case {antientropy_exchange:asks(Exchange), antientropy_exchange:progress(Exchange)} of
         {{ok, []}, {ok, #{accepted := Keys} = Progress}} ->
             {outcome(Progress), Keys, Bytes};
-        {{ok, Asks}, {ok, #{accepted := Keys, bytes_on_way := OnWay}}} ->
-            case Serve(Asks, OnWay) of
+        {{ok, Asks}, {ok, #{accepted := Keys, bytes_in_flight := InFlight}}} ->
+            case Serve(Asks, InFlight) of
                 {ok, [_ | _] = Answers} -> exchange(Exchange, Serve, Bytes + take(Exchange, Asks, Answers));
                 {ok, []} -> {gone, Keys, Bytes};
                 down -> {silent, Keys, Bytes}

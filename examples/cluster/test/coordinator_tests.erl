@@ -147,25 +147,33 @@ stale_test_() ->
         ?assertEqual([{asked, 2}, {asked, 3}], lists:sort(ets:tab2list(?DEEDS)))
     end).
 
-%% Each late copy has a hint before its time limit. From then on its holder is down.
+%% Each late copy has a hint before its time limit. From then on its holder is down, and is sent no copy.
 late_copies_test_() ->
     Other = fun
-        (_, cluster_range, copy, _) ->
-            timer:sleep(500),
+        (Place, cluster_range, copy, _) ->
+            true = ets:insert(?DEEDS, {copied, Place}),
+            ok = room:until(fun() -> ets:member(?DEEDS, over) end),
             error({erpc, timeout});
         (Place, cluster_hints, keep, [Owner, ?RANGE, _, _]) ->
-            true = ets:insert(?DEEDS, {Owner, Place}),
+            true = ets:insert(?DEEDS, {{hint, Owner}, Place}),
             {ok, 1};
         (_, cluster_ring, here, []) ->
             error({erpc, timeout})
     end,
+    Hinted = fun() -> lists:usort([Owner || {{hint, Owner}, _} <- ets:tab2list(?DEEDS)]) end,
     as_place(1, Other, fun() ->
-        ?assert(millis_of_put(room:key(1)) < 400),
-        timer:sleep(600),
-        ?assertMatch([{2, _}, {3, _}], lists:sort(ets:tab2list(?DEEDS))),
-        ?assertEqual([2, 3], cluster_wire:down()),
-        ?assert(millis_of_put(room:key(2)) < 90)
+        ok = put_with_a_carrier(room:key(1)),
+        ok = room:until(fun() -> Hinted() =:= [2, 3] end),
+        true = ets:insert(?DEEDS, {over, true}),
+        ok = room:until(fun() -> cluster_wire:down() =:= [2, 3] end),
+        true = ets:delete(?DEEDS, copied),
+        ok = put_with_a_carrier(room:key(2)),
+        ?assertEqual([], ets:lookup(?DEEDS, copied))
     end).
+
+put_with_a_carrier(Key) ->
+    {ok, #{on := [1, Carrier]}} = cluster_coordinator:put(Key, <<"value">>, #{}, 2),
+    ?assert(lists:member(Carrier, [4, 5])).
 
 %% A holder that is down gets a hint at once, but is asked first if it hasn't checked this node's disk since the start.
 unchecked_test_() ->
@@ -194,11 +202,6 @@ unchecked_test_() ->
         {ok, _} = cluster_coordinator:put(room:key(2), <<"value">>, #{}, 2),
         room:until(fun() -> lists:sort(ets:tab2list(?DEEDS)) =:= [{asked, 2}, {asked, 3}] end)
     end).
-
-millis_of_put(Key) ->
-    {Micros, {ok, #{on := [1, Carrier]}}} = timer:tc(fun() -> cluster_coordinator:put(Key, <<"value">>, #{}, 2) end),
-    ?assert(lists:member(Carrier, [4, 5])),
-    Micros div 1000.
 
 %% Carriers without space are named by the owners whose hints they refuse.
 no_room_for_hints_test_() ->
@@ -251,7 +254,7 @@ no_life_test_() ->
 handed_on_get_test_() ->
     Other = fun
         (1, cluster_coordinator, get_here, _) ->
-            timer:sleep(300),
+            ok = room:until(fun() -> ets:member(?DEEDS, answered) end),
             {ok, #{coordinator => 1, versions => []}};
         (2, cluster_coordinator, get_here, [?RANGE, Key, 2]) ->
             case Key =:= room:key(1) of
@@ -263,6 +266,7 @@ handed_on_get_test_() ->
     end,
     as_place(4, Other, fun() ->
         ?assertMatch({ok, #{coordinator := 2}}, cluster_coordinator:get(room:key(1), 2)),
+        true = ets:insert(?DEEDS, {answered, true}),
         ?assertMatch({ok, #{coordinator := 1}}, cluster_coordinator:get(room:key(2), 2))
     end).
 
@@ -283,8 +287,7 @@ read_repair_test_() ->
         Key = room:key(1),
         Get = fun() -> cluster_coordinator:get(Key, 2) end,
         ?assertEqual({ok, #{coordinator => 1, versions => [Version]}}, Get()),
-        timer:sleep(100),
-        ?assertEqual([{3, Key, row(Version, Key)}], ets:tab2list(?DEEDS)),
+        ok = room:until(fun() -> ets:tab2list(?DEEDS) =:= [{3, Key, row(Version, Key)}] end),
         ok = application:set_env(cluster, read_repair, off),
         {ok, _} = Get(),
         timer:sleep(100),

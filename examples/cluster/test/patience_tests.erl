@@ -14,7 +14,7 @@ patience_test_() ->
         ?assertEqual(100, cluster_patience:ms(2, ?KIND)),
         ?assert(cluster_patience:is_silent(2, 1)),
         ?assertEqual(20, After(1000, 1)),
-        ?assertNot(cluster_patience:is_silent(2, 1000)),
+        ?assertNot(cluster_patience:is_silent(2, 60000)),
         timer:sleep(30),
         ?assert(cluster_patience:is_silent(2, 30)),
         ?assertEqual(40, After(40000, 50)),

@@ -38,7 +38,7 @@ fn answers_in_any_order_and_a_lost_ask() {
     let progress = exchange.progress(&replica).unwrap();
     assert_eq!((progress.report, progress.cause, progress.bad, progress.lost), (Report::Finished, None, 0, 1));
     assert_eq!((taken, progress.accepted, progress.known), (50, 50, 0));
-    assert_eq!((progress.on_way, progress.bytes_on_way, sessions(&replica)), (0, 0, (1, 0)));
+    assert_eq!((progress.in_flight, progress.bytes_in_flight, sessions(&replica)), (0, 0, (1, 0)));
     assert!(replica.entries(0).unwrap().all(|entry| entry.unwrap().source == Source::Partner));
     exchange.close(&mut replica).unwrap();
     assert_eq!((sessions(&replica), replica.root()), ((0, 0), snapshot.root()));

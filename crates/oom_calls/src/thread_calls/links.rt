@@ -67,8 +67,8 @@ fn length<K: Link>(bytes: &[u8], failures: u64, link: &K) -> Result<u64, Refusal
 
 /// Returns NoMemory for a lost call, if the link has failed once more for it and the repeated call received bytes.
 fn lost<K: Link>(again: Reached, failures: u64, link: &K) -> Refusal {
-    let has_come = matches!(again, Reached::Bytes(_));
-    if has_come && link.failures() == failures.saturating_add(1) {
+    let was_received = matches!(again, Reached::Bytes(_));
+    if was_received && link.failures() == failures.saturating_add(1) {
         Refusal::NoMemory
     } else {
         Refusal::LinkLost

@@ -14,7 +14,7 @@ from nemesis.links import SOURCE
 PROBE = sorted(map(str, (Path(__file__).with_name("erlang")).glob("*.erl")))
 
 #: The limit of the probe's calls, and the time that a call may take in addition to its fault, in milliseconds.
-LIMIT_MS, SPARE_MS = 600, 1_000
+LIMIT_MS, SPARE_MS = 2_000, 10_000
 
 
 class LinkTest(unittest.TestCase):

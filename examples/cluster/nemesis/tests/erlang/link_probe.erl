@@ -11,12 +11,22 @@
 main() ->
     ?MODULE = ets:new(?MODULE, [named_table, public, duplicate_bag]),
     Calls = [call(Name, Faults) || {Name, Faults} <- faults()],
-    timer:sleep(1100),
-    [
-        io:format("~p ~p ~b ~b~n", [Name, Outcome, Micros div 1000, length(ets:lookup(?MODULE, Name))])
-     || {Name, {Micros, Outcome}} <- Calls
-    ],
+    ok = await([{too_late, 1}, {repeated, 2}], 60000),
+    [io:format("~p ~p ~b ~b~n", [Name, Outcome, Micros div 1000, times(Name)]) || {Name, {Micros, Outcome}} <- Calls],
     halt().
+
+%% Waits until calls are served that arrive after their time, at most these milliseconds.
+await(Wanted, Millis) ->
+    case [Name || {Name, Times} <- Wanted, times(Name) < Times] of
+        [_ | _] when Millis > 0 ->
+            timer:sleep(10),
+            await(Wanted, Millis - 10);
+        _ ->
+            ok
+    end.
+
+times(Name) ->
+    length(ets:lookup(?MODULE, Name)).
 
 faults() ->
     [
@@ -26,7 +36,7 @@ faults() ->
         {others_dropped, "drop 1 3\ndrop 3 1\n"},
         {refused, "drop 1 2\ninstant\n"},
         {late, "late 1 2 60 60\nlate 2 1 40 40\n"},
-        {too_late, "late 1 2 900 900\n"},
+        {too_late, "late 1 2 2500 2500\n"},
         {repeated, "repeat 1000\n"}
     ].
 
@@ -37,7 +47,7 @@ call(Name, Faults) ->
 
 outcome(Name) ->
     try
-        cluster_link:call(2, ?MODULE, served, [Name], 600)
+        cluster_link:call(2, ?MODULE, served, [Name], 2000)
     catch
         error:{erpc, Reason} -> Reason
     end.

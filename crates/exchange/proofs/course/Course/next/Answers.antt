@@ -2,7 +2,7 @@ use Rattle.std.proofs.Common.{◌≡◌, ◌+◌, ◌<◌, List, false, sym, sub
 use Rattle.std.specs.Prelude.{is_some, Option, Some, None}
 use Rattle.exchange.specs.declared.report.Stop.{Stop}
 use Rattle.exchange.specs.declared.standing.Standing.{Standing}
-use Rattle.exchange.specs.Standings.{ways_bytes}
+use Rattle.exchange.specs.Standings.{bytes_in_flight}
 use Rattle.exchange.specs.Courses.{Course, IsFair, is_over}
 use Rattle.exchange.proofs.StandingLaws.{first_may}
 use Rattle.exchange.proofs.FairLaws.{goes, fair_asked}
@@ -16,7 +16,8 @@ pub send-requires-clause-may : goal.send-requires-clause-may
 send-requires-clause-may c = first_may c.self.inside.standings c.outstanding.result.now c.in_ok-node.node (sym c.in_ok-node.ensures)
 
 pub send-requires-clause-fits : goal.send-requires-clause-fits
-send-requires-clause-fits c = subst (λ (x : Course). ways_bytes x.standings + c.estimate-bytes.result < 18446744073709551616) (sym c.self.view_is)
+send-requires-clause-fits c =
+    subst (λ (x : Course). bytes_in_flight x.standings + c.estimate-bytes.result < 18446744073709551616) (sym c.self.view_is)
     (c.has_room.ensures.fits c.if-not-has_room.false)
 
 pub invariant_of-self : goal.invariant_of-self
