@@ -29,33 +29,37 @@ shows_verdict x bytes read v c going is verdict =
     subst (λ (b : Bool). ShowsUnless b x bytes v None (record x { course = c })) (sym going)
     (record { read = read; is = is; shown = sorted_shown x (sorted x.course read) v c verdict })
 
-due_shown : (x : DryExchange) (p : Sorted × Course) (parts : Node × List ℕ) (c z : Course) (said : Result News Refusal) (w : Walk)
-    (taken : Result AnswerTaken Refusal) (leaf : Bool) (v : Verdict) → IsDueBy p parts c
-    → TakesNews x.session (record { node = parts.0; text = parts.1 }) said w → IsNothingOf said w taken → leaf ≡ is_leaf x.session.own parts.0
-    → v ≡ (judged c parts.0 leaf (length parts.1) taken).0 → z ≡ (judged c parts.0 leaf (length parts.1) taken).1
-    → ShowsSorted x p v (news_in said) (record { session = w; course = z })
-due_shown x (Ok a, d) parts c z said w taken leaf v due takes nothing leaf_is verdict counts = record {
-  said = said;
-  takes = subst (λ (q : Node × List ℕ). TakesNews x.session (record { node = q.0; text = q.1 }) said w) due.0 takes;
-  taken = taken;
-  nothing = nothing;
-  news_is = refl;
-  verdict = verdict ∙ (ap (λ l. (judged c parts.0 l (length parts.1) taken).0) leaf_is
-      ∙ (λ i. (judged (due.1 i) (due.0 i).0 (is_leaf x.session.own (due.0 i).0) (length (due.0 i).1) taken).0));
-  course = counts ∙ (ap (λ l. (judged c parts.0 l (length parts.1) taken).1) leaf_is
-      ∙ (λ i. (judged (due.1 i) (due.0 i).0 (is_leaf x.session.own (due.0 i).0) (length (due.0 i).1) taken).1));
-}
-due_shown x (Err u, d) parts c z said w taken leaf v due takes nothing leaf_is verdict counts = absurd due
+-- a due answer that was taken: what the session said of it, and the verdict and the course that follow
+pub record TakesDue (x : DryExchange) (p : Sorted × Course) (said : Result News Refusal) (w : Walk) (v : Verdict) (z : Course) : Type 0 where
+  pub parts : Node × List ℕ
+  pub course : Course
+  pub taken : Result AnswerTaken Refusal
+  pub leaf : Bool
+  pub due : IsDueBy p parts course
+  pub takes : TakesNews x.session (record { node = parts.0; text = parts.1 }) said w
+  pub nothing : IsNothingOf said w taken
+  pub leaf_is : leaf ≡ is_leaf x.session.own parts.0
+  pub verdict : v ≡ (judged course parts.0 leaf (length parts.1) taken).0
+  pub counts : z ≡ (judged course parts.0 leaf (length parts.1) taken).1
 
-pub shows_due : (x : DryExchange) (bytes : List ℕ) (read : Option Answer) (parts : Node × List ℕ) (c z : Course) (said : Result News Refusal)
-    (w : Walk) (taken : Result AnswerTaken Refusal) (leaf : Bool) (v : Verdict) → is_over x.course ≡ false → IsRead bytes read
-    → IsDueBy (sorted x.course read) parts c → TakesNews x.session (record { node = parts.0; text = parts.1 }) said w → IsNothingOf said w taken
-    → leaf ≡ is_leaf x.session.own parts.0 → v ≡ (judged c parts.0 leaf (length parts.1) taken).0
-    → z ≡ (judged c parts.0 leaf (length parts.1) taken).1 → Shows x bytes v (news_in said) (record { session = w; course = z })
-shows_due x bytes read parts c z said w taken leaf v going is due takes nothing leaf_is verdict counts =
+due_shown : (x : DryExchange) (p : Sorted × Course) (said : Result News Refusal) (w : Walk) (v : Verdict) (z : Course) → TakesDue x p said w v z
+    → ShowsSorted x p v (news_in said) (record { session = w; course = z })
+due_shown x (Ok a, d) said w v z t = record {
+  said = said;
+  takes = subst (λ (q : Node × List ℕ). TakesNews x.session (record { node = q.0; text = q.1 }) said w) t.due.0 t.takes;
+  taken = t.taken;
+  nothing = t.nothing;
+  news_is = refl;
+  verdict = t.verdict ∙ (ap (λ l. (judged t.course t.parts.0 l (length t.parts.1) t.taken).0) t.leaf_is
+      ∙ (λ i. (judged (t.due.1 i) (t.due.0 i).0 (is_leaf x.session.own (t.due.0 i).0) (length (t.due.0 i).1) t.taken).0));
+  course = t.counts ∙ (ap (λ l. (judged t.course t.parts.0 l (length t.parts.1) t.taken).1) t.leaf_is
+      ∙ (λ i. (judged (t.due.1 i) (t.due.0 i).0 (is_leaf x.session.own (t.due.0 i).0) (length (t.due.0 i).1) t.taken).1));
+}
+due_shown x (Err u, d) said w v z t = absurd t.due
+
+pub shows_due : (x : DryExchange) (bytes : List ℕ) (read : Option Answer) (said : Result News Refusal) (w : Walk) (v : Verdict) (z : Course)
+    → is_over x.course ≡ false → IsRead bytes read → TakesDue x (sorted x.course read) said w v z
+    → Shows x bytes v (news_in said) (record { session = w; course = z })
+shows_due x bytes read said w v z going is due =
     subst (λ (b : Bool). ShowsUnless b x bytes v (news_in said) (record { session = w; course = z })) (sym going)
-    (record {
-      read = read;
-      is = is;
-      shown = due_shown x (sorted x.course read) parts c z said w taken leaf v due takes nothing leaf_is verdict counts;
-    })
+    (record { read = read; is = is; shown = due_shown x (sorted x.course read) said w v z due })

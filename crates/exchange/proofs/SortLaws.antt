@@ -91,31 +91,33 @@ pub sorted_may : (x y : Course) (read : Option Answer) (parts : Node × List ℕ
 sorted_may x y None parts is = absurd is
 sorted_may x y (Some a) parts is = ours_may x y a parts (nat_eq a.offer x.offer.offer) is
 
--- an answer that is due is taken
-takes_sorted : (x z : Exchange) (s t : State) (seat : ℕ) (r : Record) (p : Sorted × Course) (parts : Node × List ℕ) (y : Course) (leaf : Bool)
-    (said : Result AnswerTaken Refusal) (v : Verdict) → IsDueBy p parts y
-    → TakesText s seat x.session (record { node = parts.0; text = parts.1 }) said t → leaf ≡ is_leaf r.session.own parts.0
-    → v ≡ (concluded (on x y) parts.0 leaf (length parts.1) said).0 → z ≡ (concluded (on x y) parts.0 leaf (length parts.1) said).1
-    → TakesSorted x s seat r p v z t
-takes_sorted x z s t seat r (Ok a, c) parts y leaf said v due takes leaf_is verdict exchange = record {
-  said = said;
-  takes = subst (λ (q : Node × List ℕ). TakesText s seat x.session (record { node = q.0; text = q.1 }) said t) due.0 takes;
-  verdict = verdict ∙ (ap (λ l. (concluded (on x y) parts.0 l (length parts.1) said).0) leaf_is
-      ∙ (λ i. (concluded (on x (due.1 i)) (due.0 i).0 (is_leaf r.session.own (due.0 i).0) (length (due.0 i).1) said).0));
-  exchange = exchange ∙ (ap (λ l. (concluded (on x y) parts.0 l (length parts.1) said).1) leaf_is
-      ∙ (λ i. (concluded (on x (due.1 i)) (due.0 i).0 (is_leaf r.session.own (due.0 i).0) (length (due.0 i).1) said).1));
-}
-takes_sorted x z s t seat r (Err w, c) parts y leaf said v due takes leaf_is verdict exchange = absurd due
+-- a due answer that a state took: what the state said of it, and the verdict and the exchange that follow
+pub record TakesDue (x z : Exchange) (s t : State) (seat : ℕ) (r : Record) (p : Sorted × Course) (v : Verdict) : Type 0 where
+  pub parts : Node × List ℕ
+  pub course : Course
+  pub leaf : Bool
+  pub said : Result AnswerTaken Refusal
+  pub due : IsDueBy p parts course
+  pub takes : TakesText s seat x.session (record { node = parts.0; text = parts.1 }) said t
+  pub leaf_is : leaf ≡ is_leaf r.session.own parts.0
+  pub verdict : v ≡ (concluded (on x course) parts.0 leaf (length parts.1) said).0
+  pub exchange : z ≡ (concluded (on x course) parts.0 leaf (length parts.1) said).1
 
-pub takes_due : (x z : Exchange) (s t : State) (seat : ℕ) (bytes : List ℕ) (r : Record) (read : Option Answer) (parts : Node × List ℕ) (y : Course)
-    (leaf : Bool) (said : Result AnswerTaken Refusal) (v : Verdict) → going_in x s ≡ Some r → IsRead bytes read
-    → IsDueBy (sorted x.course read) parts y → TakesText s seat x.session (record { node = parts.0; text = parts.1 }) said t
-    → leaf ≡ is_leaf r.session.own parts.0 → v ≡ (concluded (on x y) parts.0 leaf (length parts.1) said).0
-    → z ≡ (concluded (on x y) parts.0 leaf (length parts.1) said).1 → TakesFor x s seat bytes (going_in x s) v z t
-takes_due x z s t seat bytes r read parts y leaf said v going is due takes leaf_is verdict exchange =
+takes_sorted : (x z : Exchange) (s t : State) (seat : ℕ) (r : Record) (p : Sorted × Course) (v : Verdict) → TakesDue x z s t seat r p v
+    → TakesSorted x s seat r p v z t
+takes_sorted x z s t seat r (Ok a, c) v is = record {
+  said = is.said;
+  takes = subst (λ (q : Node × List ℕ). TakesText s seat x.session (record { node = q.0; text = q.1 }) is.said t) is.due.0 is.takes;
+  verdict = is.verdict ∙ (ap (λ l. (concluded (on x is.course) is.parts.0 l (length is.parts.1) is.said).0) is.leaf_is
+      ∙ (λ i. (concluded (on x (is.due.1 i)) (is.due.0 i).0 (is_leaf r.session.own (is.due.0 i).0) (length (is.due.0 i).1) is.said).0));
+  exchange = is.exchange ∙ (ap (λ l. (concluded (on x is.course) is.parts.0 l (length is.parts.1) is.said).1) is.leaf_is
+      ∙ (λ i. (concluded (on x (is.due.1 i)) (is.due.0 i).0 (is_leaf r.session.own (is.due.0 i).0) (length (is.due.0 i).1) is.said).1));
+}
+takes_sorted x z s t seat r (Err w, c) v is = absurd is.due
+
+pub takes_due : (x z : Exchange) (s t : State) (seat : ℕ) (bytes : List ℕ) (r : Record) (read : Option Answer) (v : Verdict)
+    → going_in x s ≡ Some r → IsRead bytes read → TakesDue x z s t seat r (sorted x.course read) v
+    → TakesFor x s seat bytes (going_in x s) v z t
+takes_due x z s t seat bytes r read v going is due =
     subst (λ (o : Option Record). TakesFor x s seat bytes o v z t) (sym going)
-    (record {
-      read = read;
-      is = is;
-      taken = takes_sorted x z s t seat r (sorted x.course read) parts y leaf said v due takes leaf_is verdict exchange;
-    })
+    (record { read = read; is = is; taken = takes_sorted x z s t seat r (sorted x.course read) v due })

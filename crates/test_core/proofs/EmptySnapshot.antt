@@ -115,17 +115,26 @@ empty_rows bits range few less = record {
   here = tt;
 }
 
--- Leaves without rows and the digests of their nodes' texts make a snapshot.
-pub empty_snapshot : (bits range : ℕ) (leaves : List Bucket) (digests : List (List ℕ)) (root inner leaf : List ℕ) → bits ≤ 8 → range < 2 ^ bits
-    → leaves ≡ replicate 256 (record { format = One; rows = [] })
-    → leaf ≡ leaf_text One [] → inner ≡ inner_text One (replicate 16 (sha256 leaf)) → root ≡ inner_text One (replicate 16 (sha256 inner))
-    → digests ≡ sha256 root ∷ replicate 16 (sha256 inner) ++ replicate 256 (sha256 leaf) → IsSnapshot (map_of One bits range leaves) leaves digests
-empty_snapshot bits range leaves digests root inner leaf few less no_rows leaf_is inner_is root_is digests_are =
+-- Leaves without rows, and the digests of the texts of the root, of 16 inner nodes and of 256 leaves.
+pub record AreEmpty (leaves : List Bucket) (digests : List (List ℕ)) : Type 0 where
+  pub root : List ℕ
+  pub inner : List ℕ
+  pub leaf : List ℕ
+  pub no_rows : leaves ≡ replicate 256 (record { format = One; rows = [] })
+  pub leaf_is : leaf ≡ leaf_text One []
+  pub inner_is : inner ≡ inner_text One (replicate 16 (sha256 leaf))
+  pub root_is : root ≡ inner_text One (replicate 16 (sha256 inner))
+  pub digests_are : digests ≡ sha256 root ∷ replicate 16 (sha256 inner) ++ replicate 256 (sha256 leaf)
+
+-- They make a snapshot.
+pub empty_snapshot : (bits range : ℕ) (leaves : List Bucket) (digests : List (List ℕ)) → bits ≤ 8 → range < 2 ^ bits → AreEmpty leaves digests
+    → IsSnapshot (map_of One bits range leaves) leaves digests
+empty_snapshot bits range leaves digests few less of =
     let m = empty_map bits range in
-    let inner_at : inner ≡ text_of 1 = inner_is ∙ ap (λ (t : List ℕ). inner_text One (replicate 16 (sha256 t))) leaf_is in
-    let root_at : root ≡ text_of 2 = root_is ∙ ap (λ (t : List ℕ). inner_text One (replicate 16 (sha256 t))) inner_at in
-    let all : digests ≡ true_digests = digests_are ∙ (λ i. by_place (sha256 (root_at i)) (sha256 (inner_at i)) (sha256 (leaf_is i))) in
-    let shared : leaves ≡ leaves_of m = no_rows ∙ leaves_are bits range in
+    let inner_at : of.inner ≡ text_of 1 = of.inner_is ∙ ap (λ (t : List ℕ). inner_text One (replicate 16 (sha256 t))) of.leaf_is in
+    let root_at : of.root ≡ text_of 2 = of.root_is ∙ ap (λ (t : List ℕ). inner_text One (replicate 16 (sha256 t))) inner_at in
+    let all : digests ≡ true_digests = of.digests_are ∙ (λ i. by_place (sha256 (root_at i)) (sha256 (inner_at i)) (sha256 (of.leaf_is i))) in
+    let shared : leaves ≡ leaves_of m = of.no_rows ∙ leaves_are bits range in
     let made : map_of One bits range leaves ≡ m = ap (λ (xs : List Bucket). map_of One bits range xs) shared ∙ leaves_make m tt in
     let whole : IsSnapshot m leaves digests = record {
       rows = empty_rows bits range few less;

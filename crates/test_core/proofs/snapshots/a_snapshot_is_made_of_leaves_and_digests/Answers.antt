@@ -13,5 +13,14 @@ new-requires c =
     let digests = c.in_ok-digests.ensures
     ∙ (λ i. sha256 (c.deref-3.ensures.value i) ∷ replicate 16 (sha256 (c.deref-4.ensures.value i)) ++ replicate 256
     (sha256 (c.deref-5.ensures.value i))) in
-    empty_snapshot 3 5 c.in_ok-leaves.leaves.items c.in_ok-digests.digests.items c.in_ok-root.root.items c.in_ok-inner.inner.items
-    c.in_ok-leaf.leaf.items (omega arith) (omega arith) c.in_ok-leaves.ensures c.in_ok-leaf.ensures.1 inner root digests
+    empty_snapshot 3 5 c.in_ok-leaves.leaves.items c.in_ok-digests.digests.items (omega arith) (omega arith)
+    (record {
+      root = c.in_ok-root.root.items;
+      inner = c.in_ok-inner.inner.items;
+      leaf = c.in_ok-leaf.leaf.items;
+      no_rows = c.in_ok-leaves.ensures;
+      leaf_is = c.in_ok-leaf.ensures.1;
+      inner_is = inner;
+      root_is = root;
+      digests_are = digests;
+    })

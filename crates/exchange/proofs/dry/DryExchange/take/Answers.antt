@@ -25,10 +25,20 @@ returns-in-Ok-take_news c =
     let own : c.deref.result.now ≡ c.args.self.now.session.own = c.deref.ensures ∙ c.own.ensures in
     let d = c.in-Ok.ensures in
     let taken : AnswerTaken = record { receipts = c.new.result; known = c.in-Ok-take_news.news.known; state = c.state.result } in
-    shows_due c.args.self.now c.args.answer.now d.0 (c.in-Ok.due.0, c.in-Ok.due.1.now) c.sort.new.self c.judge-verdict.new.self
-    (Ok c.in-Ok-take_news.news) c.take_news.new.session (Ok taken) c.is_leaf-is_leaf.result c.judge-verdict.result
-    (sym c.is_over.ensures ∙ c.if-is_over.false) d.1 d.2 c.in-Ok-take_news.ensures (c.new.ensures.items, refl, c.state.ensures)
-    (c.is_leaf-is_leaf.ensures ∙ ap (λ (m : RowMap). is_leaf m c.in-Ok.due.0) own) c.judge-verdict.ensures.verdict c.judge-verdict.ensures.counts
+    shows_due c.args.self.now c.args.answer.now d.0 (Ok c.in-Ok-take_news.news) c.take_news.new.session c.judge-verdict.result
+    c.judge-verdict.new.self (sym c.is_over.ensures ∙ c.if-is_over.false) d.1
+    (record {
+      parts = (c.in-Ok.due.0, c.in-Ok.due.1.now);
+      course = c.sort.new.self;
+      taken = Ok taken;
+      leaf = c.is_leaf-is_leaf.result;
+      due = d.2;
+      takes = c.in-Ok-take_news.ensures;
+      nothing = (c.new.ensures.items, refl, c.state.ensures);
+      leaf_is = c.is_leaf-is_leaf.ensures ∙ ap (λ (m : RowMap). is_leaf m c.in-Ok.due.0) own;
+      verdict = c.judge-verdict.ensures.verdict;
+      counts = c.judge-verdict.ensures.counts;
+    })
 
 pub returns-in-Err-take_news : goal.returns-in-Err-take_news
 returns-in-Err-take_news c =
@@ -36,9 +46,17 @@ returns-in-Err-take_news c =
     let d = c.in-Ok.ensures in
     subst (λ (s : Shown). Shows c.args.self.now c.args.answer.now s.verdict s.news
     (record { session = c.take_news.new.session; course = c.judge-verdict-in-Err-take_news.new.self })) (sym c.nothing-in-Err-take_news.ensures)
-    (shows_due c.args.self.now c.args.answer.now d.0 (c.in-Ok.due.0, c.in-Ok.due.1.now) c.sort.new.self c.judge-verdict-in-Err-take_news.new.self
-    (Err c.in-Err-take_news.refusal) c.take_news.new.session
-    (Err c.in-Err-take_news.refusal) c.is_leaf-is_leaf.result c.judge-verdict-in-Err-take_news.result
-    (sym c.is_over.ensures ∙ c.if-is_over.false) d.1 d.2 c.in-Err-take_news.ensures refl
-    (c.is_leaf-is_leaf.ensures ∙ ap (λ (m : RowMap). is_leaf m c.in-Ok.due.0) own) c.judge-verdict-in-Err-take_news.ensures.verdict
-    c.judge-verdict-in-Err-take_news.ensures.counts)
+    (shows_due c.args.self.now c.args.answer.now d.0 (Err c.in-Err-take_news.refusal) c.take_news.new.session
+    c.judge-verdict-in-Err-take_news.result c.judge-verdict-in-Err-take_news.new.self (sym c.is_over.ensures ∙ c.if-is_over.false) d.1
+    (record {
+      parts = (c.in-Ok.due.0, c.in-Ok.due.1.now);
+      course = c.sort.new.self;
+      taken = Err c.in-Err-take_news.refusal;
+      leaf = c.is_leaf-is_leaf.result;
+      due = d.2;
+      takes = c.in-Err-take_news.ensures;
+      nothing = refl;
+      leaf_is = c.is_leaf-is_leaf.ensures ∙ ap (λ (m : RowMap). is_leaf m c.in-Ok.due.0) own;
+      verdict = c.judge-verdict-in-Err-take_news.ensures.verdict;
+      counts = c.judge-verdict-in-Err-take_news.ensures.counts;
+    }))
