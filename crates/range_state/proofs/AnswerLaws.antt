@@ -1,5 +1,5 @@
 -- What a session answers to a text, and what the range is then.
-use Rattle.std.proofs.Common.{◌≡◌, ◌≢◌, ℕ, zero, suc, ◌+◌, ◌<◌, ◌≤◌, ◌⊎◌, Bool, true, false, cond, Option, Some, None, List, [], ◌∷◌, ◌++◌, length}
+use Rattle.std.proofs.Common.{◌≡◌, ◌≢◌, ℕ, zero, suc, ◌<◌, ◌≤◌, ◌⊎◌, Bool, true, false, cond, Option, Some, None, List, [], ◌∷◌, length}
 use Rattle.std.proofs.Common.{set, get_or, refl, sym, ap, subst, ◌∙◌, inl, inr, arith, slice_get, ◌^◌}
 use Rattle.std.specs.Prelude.{nat_le, Ok, Err, MatchOption, IsTrue}
 use Rattle.std.specs.List.{AllByRecursion}
@@ -315,21 +315,10 @@ taken_to s id t r new = record {
   settled = s.settled;
 }
 
-pub leaf_taken : {s : State} {id : ℕ} {t : TakenText} {rows : List Row} {r : Record} {new : Store} (seat : ℕ) (a : AnswerTaken)
-    → IsLeafAt s id r t rows → leaf_fault s.store seat (offers_of rows) ≡ None → new ≡ taken_in s.store seat (offers_of rows)
-    → s.store.entries ++ a.receipts.items ≡ (taken_in s.store seat (offers_of rows)).entries
-    → length a.receipts.items + a.known ≡ length (offers_of rows) → a.state ≡ (after r.session t).state
-    → TakesFor s seat id (slice_get s.records id) t (Ok a) (taken_to s id t r new)
-leaf_taken {s = s} {id = id} {t = t} {rows = rows} {r = r} {new = new} seat a at fits is receipts known state =
-    let took : TakesLeaf s seat id r t a (taken_to s id t r new) = record {
-      rows = rows;
-      read = at.read;
-      fault = fits;
-      receipts = receipts;
-      known = known;
-      new_is = ap (taken_to s id t r) is;
-    } in
-    subst (λ (o : Option Record). TakesFor s seat id o t (Ok a) (taken_to s id t r new)) (sym at.here) (state, inr took)
+pub leaf_taken : {s new : State} {id : ℕ} {t : TakenText} {r : Record} (seat : ℕ) (a : AnswerTaken) → slice_get s.records id ≡ Some r
+    → TakesLeaf s seat id r t a new → a.state ≡ (after r.session t).state → TakesFor s seat id (slice_get s.records id) t (Ok a) new
+leaf_taken {s = s} {new = new} {id = id} {t = t} seat a here took state =
+    subst (λ (o : Option Record). TakesFor s seat id o t (Ok a) new) (sym here) (state, inr took)
 
 -- ---- what was read
 

@@ -125,11 +125,18 @@ recorded_right s r ok room beside number kept = record {
   moment = ok.moment;
 }
 
+-- A record that can stand in the place of another while a store has these entries: it has the same number, is open only
+-- if the other was, and its session has all that the other's took.
+pub record Replaces (s : State) (entries : List Entry) (id : ℕ) (old new : Record) : Type 0 where
+  pub was : old ≡ get_or s.records id old
+  pub number : new.number ≡ old.number
+  pub stays : is_open new ≡ true → is_open old ≡ true
+  pub kept : IsKept s.store.config entries new
+  pub keeps : Keeps old.session new.session
+
 -- entries more, and a record in the place of another
 pub stepped_right : (s : State) (t : Store) (more : List Entry) (id : ℕ) (r new : Record) → IsRight s → IsSound t → t.config ≡ s.store.config
-    → t.entries ≡ s.store.entries ++ more
-    → r ≡ get_or s.records id r → new.number ≡ r.number → (is_open new ≡ true → is_open r ≡ true)
-    → IsKept s.store.config (s.store.entries ++ more) new → Keeps r.session new.session
+    → t.entries ≡ s.store.entries ++ more → Replaces s (s.store.entries ++ more) id r new
     → AllByRecursion (λ (e : Entry). Any (λ (x : Record). HasTaken x.session e) (set s.records id new)) more
     → IsRight (record {
       store = t;
@@ -139,38 +146,38 @@ pub stepped_right : (s : State) (t : Store) (more : List Entry) (id : ℕ) (r ne
       next_session = s.next_session;
       settled = s.settled;
     })
-stepped_right s t more id r new ok sound config entries was number stays kept keeps come =
+stepped_right s t more id r new ok sound config entries replaces come =
     let records = set s.records id new in
-    let all = all-set (IsKept s.store.config (s.store.entries ++ more)) s.records id new kept
+    let all = all-set (IsKept s.store.config (s.store.entries ++ more)) s.records id new replaces.kept
     (all_kept s.store.config s.store.entries more s.records ok.records) in
     record {
       store = sound;
       records = subst (λ (c : Config). AllByRecursion (IsKept c t.entries) records) (sym config)
           (subst (λ (es : List Entry). AllByRecursion (IsKept s.store.config es) records) (sym entries) all);
       few = omega (arith, ok.few, length-set s.records id new);
-      few_open = omega (arith, ok.few_open, open_set s.records id r new was stays);
-      numbers = numbered_set s.next_session s.records id r new ok.numbers was number;
+      few_open = omega (arith, ok.few_open, open_set s.records id r new replaces.was replaces.stays);
+      numbers = numbered_set s.next_session s.records id r new ok.numbers replaces.was replaces.number;
       partners = subst (AllByRecursion (λ (e : Entry). e.source ≡ Partner → Any (λ (x : Record). HasTaken x.session e) records)) (sym entries)
           (all-append _ s.store.entries more
           (All-weaker _ _ s.store.entries
-          (λ e from source. any-set (λ (x : Record). HasTaken x.session e) s.records id r new was (keeps e) (from source)) ok.partners)
+          (λ e from source. any-set (λ (x : Record). HasTaken x.session e) s.records id r new replaces.was (replaces.keeps e) (from source))
+          ok.partners)
           (All-weaker _ _ more (λ e is source. is) come));
       settled = subst (IsSettled s.settled) (sym entries) (settled_grows s.settled s.store.entries more ok.settled);
       moment = moment_grows s.store t more s.moment config entries ok.moment;
     }
 
 -- a record in the place of another
-pub replaced_right : (s : State) (id : ℕ) (r new : Record) → IsRight s → r ≡ get_or s.records id r → new.number ≡ r.number
-    → (is_open new ≡ true → is_open r ≡ true) → IsKept s.store.config s.store.entries new → Keeps r.session new.session
+pub replaced_right : (s : State) (id : ℕ) (r new : Record) → IsRight s → Replaces s s.store.entries id r new
     → IsRight (record s { records = set s.records id new })
-replaced_right s id r new ok was number stays kept keeps = record {
+replaced_right s id r new ok replaces = record {
   store = ok.store;
-  records = all-set (IsKept s.store.config s.store.entries) s.records id new kept ok.records;
+  records = all-set (IsKept s.store.config s.store.entries) s.records id new replaces.kept ok.records;
   few = omega (arith, ok.few, length-set s.records id new);
-  few_open = omega (arith, ok.few_open, open_set s.records id r new was stays);
-  numbers = numbered_set s.next_session s.records id r new ok.numbers was number;
+  few_open = omega (arith, ok.few_open, open_set s.records id r new replaces.was replaces.stays);
+  numbers = numbered_set s.next_session s.records id r new ok.numbers replaces.was replaces.number;
   partners = All-weaker _ _ s.store.entries
-      (λ e from source. any-set (λ (x : Record). HasTaken x.session e) s.records id r new was (keeps e) (from source)) ok.partners;
+      (λ e from source. any-set (λ (x : Record). HasTaken x.session e) s.records id r new replaces.was (replaces.keeps e) (from source)) ok.partners;
   settled = ok.settled;
   moment = ok.moment;
 }
@@ -303,5 +310,11 @@ cancelled_right s id r new ok within was is =
     (all_get (IsKept s.store.config s.store.entries) s.records id r ok.records within) in
     let over = kept_cancelled s.store.config s.store.entries r r.session r.session.state refl kept in
     subst (λ (x : Record). IsRight (record s { records = set s.records id x })) (sym is)
-    (replaced_right s id r (record { number = r.number; partner = r.partner; session = cancelled_by r.session r.session.state }) ok was refl
-    (still_open r r.session r.session.state) over (keeps_cancelled r.session r.session.state))
+    (replaced_right s id r (record { number = r.number; partner = r.partner; session = cancelled_by r.session r.session.state }) ok
+    (record {
+      was = was;
+      number = refl;
+      stays = still_open r r.session r.session.state;
+      kept = over;
+      keeps = keeps_cancelled r.session r.session.state;
+    }))

@@ -75,12 +75,20 @@ ended_done s ok r has = (kept_of s r ok has).ended
 
 -- ---- what one that was not ended early asked
 
-pub asked_all : (s : State) → IsRight s → (r : Record) → Contains s.records r → ¬ IsOver r.session → (other : RowMap) → IsPartners r.session other
-    → IsHonest r.session other → IsNearlyDone r.session
+-- a session of a right state that was not ended early and is nearly done, with an honest partner
+pub record IsNearItsEnd (s : State) (r : Record) (other : RowMap) : Type 0 where
+  pub right : IsRight s
+  pub has : Contains s.records r
+  pub on : ¬ IsOver r.session
+  pub partner : IsPartners r.session other
+  pub honest : IsHonest r.session other
+  pub near : IsNearlyDone r.session
+
+pub asked_all : (s : State) (r : Record) (other : RowMap) → IsNearItsEnd s r other
     → (n : Node) → contains_node n (differ r.session.own other) ≡ true → contains_node n r.session.asked ≡ true
-asked_all s ok r has on other partner honest near n differs =
-    let going = going_of s r ok has on in
-    differ_is_asked (held s.store.entries) r.session other going.walked going.orderly partner honest near n differs
+asked_all s r other end n differs =
+    let going = going_of s r end.right end.has end.on in
+    differ_is_asked (held s.store.entries) r.session other going.walked going.orderly end.partner end.honest end.near n differs
 
 pub finished_done : (s : State) → IsRight s → (r : Record) → Contains s.records r → r.session.state ≡ Finished
     → (¬ IsOver r.session) × IsNearlyDone r.session

@@ -165,13 +165,11 @@ pub record IsNext (s now : State) (seat id known : ℕ) (other : RowMap) (u : Is
   pub rest : List Node
   pub first : u.r.session.outstanding ≡ n ∷ rest
 
-pub next_is : {s now : State} {seat known id : ℕ} {other : RowMap} {o : Option Node} {node : Node} (u : IsUnderWay s seat other known now)
+pub next_is : {s now : State} {seat known id : ℕ} {other : RowMap} {node : Node} (u : IsUnderWay s seat other known now)
     → id ≡ length s.records → IsRight now → IsOfRange s.store.config other → IsRowMap other
-    → MatchOption (slice_get now.records id) ⊥ (λ r. IsFirstOf r.session.outstanding o) → o ≡ Some node
-    → IsNext s now seat id known other u node
-next_is {s = s} {now = now} {seat = seat} {known = known} {id = id} {other = other} {o = o} {node = node} u at ok here map h some =
-    let first : IsFirstOf u.r.session.outstanding (Some node) = subst (λ (x : Option Node). IsFirstOf u.r.session.outstanding x) some
-    (first_is s now seat known id other u at o h) in
+    → MatchOption (slice_get now.records id) ⊥ (λ r. IsFirstOf r.session.outstanding (Some node)) → IsNext s now seat id known other u node
+next_is {s = s} {now = now} {seat = seat} {known = known} {id = id} {other = other} {node = node} u at ok here map h =
+    let first : IsFirstOf u.r.session.outstanding (Some node) = first_is s now seat known id other u at (Some node) h in
     record { at = at; is = true_walk s now seat known other u ok here map; rest = first.0; first = first.1 }
 
 -- a session on its way that has no next node
@@ -240,12 +238,11 @@ pub record HasMoved (s now new : State) (seat id count : ℕ) (other : RowMap) (
 
 -- one text more was taken, and this came of it
 moved : (s now new : State) (base : Store) (seat id known count : ℕ) (other : RowMap) (u : IsUnderWay s seat other known now) (n : Node)
-    (rest : List Node) → IsTrueWalk s now other u.r → id ≡ length s.records → u.r.session.outstanding ≡ n ∷ rest
-    → base.config ≡ now.store.config → length now.store.entries ≤ length base.entries
+    → IsNext s now seat id known other u n → base.config ≡ now.store.config → length now.store.entries ≤ length base.entries
     → new ≡ walked_to (with_store now base) id u.r (after u.r.session (entry n (text_of other n)))
     → taken_leaves s.store seat other 0 (leaves_in s.store.config.format (nodes_of u.r.session.taken ++ n ∷ [])) ≡ so_far base count
     → HasMoved s now new seat id count other u.r n
-moved s now new base seat id known count other u n rest is at first config grown new_is progress =
+moved s now new base seat id known count other u n next config grown new_is progress =
     subst (λ (x : State). HasMoved s now x seat id count other u.r n) (sym new_is) (record {
       under = record {
         r = r;
@@ -256,7 +253,7 @@ moved s now new base seat id known count other u n rest is at first config grown
         own = u.own;
         root = u.root;
         honest = all-push _ u.r.session.taken t u.honest refl;
-        turn = turned u.r.session.taken t rest (asks u.r.session.own t) u.r.session.asked u.r.session.outstanding u.turn first _ left;
+        turn = turned u.r.session.taken t next.rest (asks u.r.session.own t) u.r.session.asked u.r.session.outstanding u.turn next.first _ left;
         stands = refl;
         grown = omega (arith, u.grown, grown);
         progress = ap (λ (xs : List Node). taken_leaves s.store seat other 0 (leaves_in s.store.config.format xs)) (nodes-push u.r.session.taken t)
@@ -264,7 +261,8 @@ moved s now new base seat id known count other u n rest is at first config grown
       };
       partner = refl;
       turn = nodes-push u.r.session.taken t;
-      more = ap (λ (rs : List Record). taken_count rs id) records ∙ ap (taken_count (s.records ++ r ∷ [])) at ∙ ap count_of (got_last s.records r)
+      more = ap (λ (rs : List Record). taken_count rs id) records ∙ ap (taken_count (s.records ++ r ∷ [])) next.at
+          ∙ ap count_of (got_last s.records r)
           ∙ length-append u.r.session.taken (t ∷ []);
     })
   where
@@ -277,23 +275,24 @@ moved s now new base seat id known count other u n rest is at first config grown
     records : set now.records id r ≡ s.records ++ r ∷ []
     records =
         ap (λ (rs : List Record). set rs id r) u.records
-        ∙ ap (λ (k : ℕ). set (s.records ++ u.r ∷ []) k r) at
+        ∙ ap (λ (k : ℕ). set (s.records ++ u.r ∷ []) k r) next.at
         ∙ set_last s.records u.r r
 
-    left : filter (λ m. not (is_same_node m n)) u.r.session.outstanding ≡ rest
-    left = ap (filter (λ m. not (is_same_node m n))) first ∙ without_first n rest (left_ascend s now seat known other u n rest is first).0
+    left : filter (λ m. not (is_same_node m n)) u.r.session.outstanding ≡ next.rest
+    left = ap (filter (λ m. not (is_same_node m n))) next.first
+        ∙ without_first n next.rest (left_ascend s now seat known other u n next.rest next.is next.first).0
 
-inner_on : (s now new : State) (seat id known : ℕ) (other : RowMap) (u : IsUnderWay s seat other known now) (n : Node) (rest : List Node)
-    (a : AnswerTaken) (count : ℕ) → count ≡ known + a.known → IsTrueWalk s now other u.r → id ≡ length s.records → u.r.session.outstanding ≡ n ∷ rest
+inner_on : (s now new : State) (seat id known : ℕ) (other : RowMap) (u : IsUnderWay s seat other known now) (n : Node) (a : AnswerTaken)
+    (count : ℕ) → count ≡ known + a.known → IsNext s now seat id known other u n
     → TakesInner now id u.r (entry n (text_of other n)) a new → HasMoved s now new seat id count other u.r n
-inner_on s now new seat id known other u n rest a count sum is at first took =
+inner_on s now new seat id known other u n a count sum next took =
     let f : Format = s.store.config.format in
     let done = nodes_of u.r.session.taken in
     let less : n.depth < tree_depth f = omega (arith, took.read.inner, ap (λ (c : Config). tree_depth c.format) u.config) in
     let none : leaves_in f (done ++ n ∷ []) ≡ leaves_in f done = leaves-append f done (n ∷ [])
     ∙ ap (λ (xs : List Node). leaves_in f done ++ xs) (inner_counts f n [] less) ∙ append-nil (leaves_in f done) in
     let same : known ≡ count = omega (arith, took.known, sum) in
-    moved s now new now.store seat id known count other u n rest is at first refl (omega arith) took.new_is
+    moved s now new now.store seat id known count other u n next refl (omega arith) took.new_is
     (ap (taken_leaves s.store seat other 0) none ∙ u.progress ∙ ap (so_far now.store) same)
 
 -- what a leaf's true text is read as
@@ -304,13 +303,13 @@ offers_are s now seat known other u n rows is read =
     let deep : n.depth ≡ tree_depth s.store.config.format = read.leaf ∙ ap (λ (c : Config). tree_depth c.format) u.config in
     (deep, ap offers_of (true_rows u.r.session other is.partner n (deep ∙ ap (λ (m : RowMap). tree_depth m.format) (sym u.own)) rows read.spelled))
 
-leaf_on : (s now new : State) (seat id known : ℕ) (other : RowMap) (u : IsUnderWay s seat other known now) (n : Node) (rest : List Node)
-    (a : AnswerTaken) (count : ℕ) → count ≡ known + a.known → IsTrueWalk s now other u.r → id ≡ length s.records → u.r.session.outstanding ≡ n ∷ rest
+leaf_on : (s now new : State) (seat id known : ℕ) (other : RowMap) (u : IsUnderWay s seat other known now) (n : Node) (a : AnswerTaken)
+    (count : ℕ) → count ≡ known + a.known → IsNext s now seat id known other u n
     → TakesLeaf now seat id u.r (entry n (text_of other n)) a new → HasMoved s now new seat id count other u.r n
-leaf_on s now new seat id known other u n rest a count sum is at first took =
+leaf_on s now new seat id known other u n a count sum next took =
     let f : Format = s.store.config.format in
     let done = nodes_of u.r.session.taken in
-    let are = offers_are s now seat known other u n took.rows is took.read in
+    let are = offers_are s now seat known other u n took.rows next.is took.read in
     let base : Store = taken_in now.store seat (offers_at other n) in
     let fits : leaf_fault now.store seat (offers_at other n) ≡ None = ap (leaf_fault now.store seat) (sym are.1) ∙ took.fault in
     let new_is : new ≡ walked_to (with_store now base) id u.r (after u.r.session (entry n (text_of other n))) =
@@ -322,22 +321,22 @@ leaf_on s now new seat id known other u n rest a count sum is at first took =
     ∙ ap (λ (o : List _). (taken_in now.store seat o).entries) are.1 in
     let known_is : known + known_in now.store seat (offers_at other n) ≡ count =
     omega (arith, ap length entries, length-append now.store.entries a.receipts.items, took.known, sum, ap length are.1) in
-    moved s now new base seat id known count other u n rest is at first (config_stays now.store seat Partner (offers_at other n))
+    moved s now new base seat id known count other u n next (config_stays now.store seat Partner (offers_at other n))
     (omega (arith, ap length entries, length-append now.store.entries a.receipts.items)) new_is
     (ap (taken_leaves s.store seat other 0) more
     ∙ taken_more s.store now.store seat other 0 known (leaves_in f done) (n ∷ []) u.progress
     ∙ leaf_is_taken now.store seat other known n fits
     ∙ ap (so_far base) known_is)
 
-went_on : (s now new : State) (seat id known : ℕ) (other : RowMap) (u : IsUnderWay s seat other known now) (n : Node) (rest : List Node)
-    (a : AnswerTaken) (count : ℕ) → count ≡ known + a.known → IsTrueWalk s now other u.r → id ≡ length s.records → u.r.session.outstanding ≡ n ∷ rest
+went_on : (s now new : State) (seat id known : ℕ) (other : RowMap) (u : IsUnderWay s seat other known now) (n : Node) (a : AnswerTaken)
+    (count : ℕ) → count ≡ known + a.known → IsNext s now seat id known other u n
     → TakesFor now seat id (slice_get now.records id) (entry n (text_of other n)) (Ok a) new → HasMoved s now new seat id count other u.r n
-went_on s now new seat id known other u n rest a count sum is at first answer =
+went_on s now new seat id known other u n a count sum next answer =
     let took : TakesText now seat id u.r (entry n (text_of other n)) (Ok a) new = subst
-    (λ (o : Option Record). TakesFor now seat id o (entry n (text_of other n)) (Ok a) new) (here_is s now seat known id other u at) answer in
+    (λ (o : Option Record). TakesFor now seat id o (entry n (text_of other n)) (Ok a) new) (here_is s now seat known id other u next.at) answer in
     elim took.1 [
-      | inl inner ↦ inner_on s now new seat id known other u n rest a count sum is at first inner
-      | inr leaf ↦ leaf_on s now new seat id known other u n rest a count sum is at first leaf
+      | inl inner ↦ inner_on s now new seat id known other u n a count sum next inner
+      | inr leaf ↦ leaf_on s now new seat id known other u n a count sum next leaf
     ]
 
 -- the next node was answered
@@ -347,7 +346,7 @@ pub answered : {s now new : State} {seat id known : ℕ} {other : RowMap} {u : I
     (entry n (text_of other n)) (Ok a) new → HasMoved s now new seat id count other u.r n
 answered next sum (inl memory) = absurd (let clash = memory.0 in cc)
 answered {s = s} {now = now} {new = new} {seat = seat} {id = id} {known = known} {other = other} {u = u} {n = n} {a = a} {count = count} next sum
-    (inr took) = went_on s now new seat id known other u n next.rest a count sum next.is next.at next.first took
+    (inr took) = went_on s now new seat id known other u n a count sum next took
 
 -- ---- a leaf is refused
 

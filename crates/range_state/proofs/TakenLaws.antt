@@ -179,8 +179,14 @@ inner_right s id r t ok within was read =
     let same : IsKept s.store.config s.store.entries (record { number = r.number; partner = r.partner; session = after r.session t }) = subst
     (λ (es : List Entry). IsKept s.store.config es (record { number = r.number; partner = r.partner; session = after r.session t }))
     (append-nil s.store.entries) kept in
-    replaced_right s id r (record { number = r.number; partner = r.partner; session = after r.session t }) ok was refl
-    (λ e. is_awaiting s.store.config s.store.entries r t old read.due) same (keeps_after r.session t)
+    replaced_right s id r (record { number = r.number; partner = r.partner; session = after r.session t }) ok
+    (record {
+      was = was;
+      number = refl;
+      stays = λ e. is_awaiting s.store.config s.store.entries r t old read.due;
+      kept = same;
+      keeps = keeps_after r.session t;
+    })
 
 -- of a leaf, whose versions are accepted
 pub leaf_right : (s : State) (seat id : ℕ) (r : Record) (t : TakenText) (rows : List Row) → IsRight s → id < length s.records
@@ -204,8 +210,15 @@ leaf_right s seat id r t rows ok within was read none =
     let come = come_of s id r t rows more within (read.leaf ∙ sym depth) read.spelled grown.all in
     stepped_right s (taken_in s.store seat (offers_of rows)) more id r
     (record { number = r.number; partner = r.partner; session = after r.session t }) ok sound
-    (config_stays s.store seat Partner (offers_of rows)) grown.entries was refl
-    (λ e. is_awaiting s.store.config s.store.entries r t old read.due) kept (keeps_after r.session t) come
+    (config_stays s.store seat Partner (offers_of rows)) grown.entries
+    (record {
+      was = was;
+      number = refl;
+      stays = λ e. is_awaiting s.store.config s.store.entries r t old read.due;
+      kept = kept;
+      keeps = keeps_after r.session t;
+    })
+    come
   where
     come_of : (s : State) (id : ℕ) (r : Record) (t : TakenText) (rows : List Row) (more : List Entry) → id < length s.records
         → t.node.depth ≡ tree_depth r.session.own.format → AreSpelled r.session.own t.node t.text rows
@@ -254,8 +267,8 @@ pub failed_right : (s : State) (id : ℕ) (r : Record) → IsRight s → id < le
     → IsRight (walked_to s id r (failed r.session))
 failed_right s id r ok within was =
     let kept = kept_failed s.store.config s.store.entries r (record_kept s id r ok within was) in
-    replaced_right s id r (record { number = r.number; partner = r.partner; session = failed r.session }) ok was refl (is_closed r) kept
-    (keeps_failed r.session)
+    replaced_right s id r (record { number = r.number; partner = r.partner; session = failed r.session }) ok
+    (record { was = was; number = refl; stays = is_closed r; kept = kept; keeps = keeps_failed r.session })
   where
     keeps_failed : (w : Walk) → Keeps w (failed w)
     keeps_failed w = λ e a. a

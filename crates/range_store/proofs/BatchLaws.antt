@@ -183,43 +183,56 @@ pub crowded_next : (s : Store) (seat : ℕ) (source : Source) (leaf : ℕ) (key 
 crowded_next s seat source leaf key v a e is at full = alone (ahead s a) seat source key v ∙ sym (ap (offer_fault v) (set_ahead s leaf a key is at))
     ∙ full
 
+-- a version that is news to a batch of its leaf, and is not one too many
+pub record IsNewsFor (s : Store) (leaf : ℕ) (key : List ℕ) (v : Version) (b : Batch) : Type 0 where
+  pub batch : IsBatch s leaf b
+  pub leaf_is : leaf ≡ leaf_in s.config key
+  pub fresh : covered v (versions_in key b.leaf.rows) ≡ false
+  pub fits : offer_fault v (versions_in key b.leaf.rows) ≡ None
+
+-- the entry of a version that is prepared after others
+abbrev pub prepared_entry : Store → List Entry → ℕ → Source → List ℕ → Version → Entry
+prepared_entry s before seat source key v = record {
+  number = length s.entries + length before;
+  seat = seat;
+  source = source;
+  key = key;
+  version = v;
+}
+
 -- one that is news
-pub news_next : (s : Store) (seat : ℕ) (source : Source) (leaf : ℕ) (key : List ℕ) (v w : Version) (a b : Batch) (e : Entry) → IsBatch s leaf a
-    → leaf ≡ leaf_in s.config key → covered v (versions_in key a.leaf.rows) ≡ false → offer_fault v (versions_in key a.leaf.rows) ≡ None → w ≡ v
-    → e ≡ record { number = length s.entries + length a.entries.items; seat = seat; source = source; key = key; version = v }
-    → b.leaf ≡ record { format = a.leaf.format; rows = with_offer key w a.leaf.rows } → b.entries.items ≡ a.entries.items ++ e ∷ []
-    → b.known ≡ a.known
+pub news_next : (s : Store) (seat : ℕ) (source : Source) (leaf : ℕ) (key : List ℕ) (v : Version) (a b : Batch) → IsNewsFor s leaf key v a
+    → b.leaf ≡ record { format = a.leaf.format; rows = with_offer key v a.leaf.rows }
+    → b.entries.items ≡ a.entries.items ++ prepared_entry s a.entries.items seat source key v ∷ [] → b.known ≡ a.known
     → (crowded_in (ahead s a) seat source ((key, v) ∷ []) ≡ None) × IsPrepared s seat source leaf ((key, v) ∷ []) a b
-news_next s seat source leaf key v w a b e is at fresh fits copy made leaf_now entries known =
-    let here : covered v (held (ahead s a).entries key) ≡ false = sym (ap (covered v) (set_ahead s leaf a key is at)) ∙ fresh in
-    let long : length (ahead s a).entries ≡ length s.entries + length a.entries.items = length-append s.entries a.entries.items in
+news_next s seat source leaf key v a b news leaf_now entries known =
+    let e : Entry = prepared_entry s a.entries.items seat source key v in
+    let set = set_ahead s leaf a key news.batch news.leaf_is in
+    let here : covered v (held (ahead s a).entries key) ≡ false = sym (ap (covered v) set) ∙ news.fresh in
     let entry : entry_of (ahead s a) seat source key v ≡ e = ap
-    (λ (n : ℕ). record { number = n; seat = seat; source = source; key = key; version = v }) long ∙ sym made in
+    (λ (n : ℕ). record { number = n; seat = seat; source = source; key = key; version = v }) (length-append s.entries a.entries.items) in
     let step : (accept_step (ahead s a) seat source key v).entries ≡ (ahead s a).entries ++ e ∷ [] =
     entries_step (ahead s a) seat source key v
     ∙ rw (sym (knows_held (ahead s a) key v) ∙ here) (ap (λ (y : Entry). (ahead s a).entries ++ y ∷ []) entry) in
     let grown : (ahead s b).entries ≡ (ahead s a).entries ++ e ∷ [] = ap (λ (es : List Entry). s.entries ++ es) entries
-    ∙ sym (append_assoc s.entries a.entries.items (e ∷ [])) in
-    let k : e.key ≡ key = ap (λ (y : Entry). y.key) made in
-    let ver : e.version ≡ v = ap (λ (y : Entry). y.version) made in (
-      alone (ahead s a) seat source key v ∙ sym (ap (offer_fault v) (set_ahead s leaf a key is at)) ∙ fits,
+    ∙ sym (append_assoc s.entries a.entries.items (e ∷ [])) in (
+      alone (ahead s a) seat source key v ∙ sym (ap (offer_fault v) set) ∙ news.fits,
       record {
         batch = record {
-          leaf_is = leaf_now ∙ bucket_next s.config (ahead s a).entries e leaf a.leaf key w is.leaf_is k (copy ∙ sym ver) at
+          leaf_is = leaf_now ∙ bucket_next s.config (ahead s a).entries e leaf a.leaf news.batch.leaf_is news.leaf_is
               ∙ ap (λ (es : List Entry). bucket_of s.config es leaf) (sym grown);
           numbered = subst (AreNumberedFrom (length s.entries)) (sym entries)
-              (AreNumberedFrom-push (length s.entries) a.entries.items e is.numbered (ap (λ (y : Entry). y.number) made));
+              (AreNumberedFrom-push (length s.entries) a.entries.items e news.batch.numbered refl);
         };
         entries = grown ∙ sym step;
         count = omega (arith, ap length entries, length-append a.entries.items (e ∷ []), known);
       },
     )
   where
-    bucket_next : (c : Config) (es : List Entry) (e : Entry) (leaf : ℕ) (old : Bucket) (key : List ℕ) (w : Version) → old ≡ bucket_of c es leaf
-        → e.key ≡ key → w ≡ e.version → leaf ≡ leaf_in c key
-        → record { format = old.format; rows = with_offer key w old.rows } ≡ bucket_of c (es ++ e ∷ []) leaf
-    bucket_next c es e leaf old key w was k ver at =
-        let home : leaf_in c e.key ≡ leaf = ap (leaf_in c) k ∙ sym at in
+    bucket_next : (c : Config) (es : List Entry) (e : Entry) (leaf : ℕ) (old : Bucket) → old ≡ bucket_of c es leaf → leaf ≡ leaf_in c e.key
+        → record { format = old.format; rows = with_offer e.key e.version old.rows } ≡ bucket_of c (es ++ e ∷ []) leaf
+    bucket_next c es e leaf old was at =
+        let home : leaf_in c e.key ≡ leaf = sym at in
         let rows = leaf-push (leaf_in c) es e leaf ∙ rw (home, eq_itself leaf) refl in
-        (λ i. record { format = (was i).format; rows = with_offer (sym k i) (ver i) (was i).rows })
+        (λ i. record { format = (was i).format; rows = with_offer e.key e.version (was i).rows })
         ∙ ap (λ (t : List Row). record { format = c.format; rows = t }) (sym rows)

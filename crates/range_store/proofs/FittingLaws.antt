@@ -149,25 +149,34 @@ pub fitting_sent : (s : Store) (leaf : ℕ) (key : List ℕ) (v : Version) → l
 fitting_sent s leaf key v at here uncovered fits =
     (rw here fits, record { leaf_is = at; here = here; news = sym (knows_held s key v) ∙ uncovered; fits = fits })
 
+-- the version of a put that passes each check
+pub record IsCheckedPut (test : ContextTest) (s : Store) (leaf at : ℕ) (key : List ℕ) (context : Pairs) (kind : Kind) (value : List ℕ) (v : Version)
+    : Type 0 where
+  pub leaf_is : leaf ≡ leaf_at Two s.config.bits key
+  pub here : place_fault s.config key kind value ≡ None
+  pub raise : raise_fault context at ≡ None
+  pub version_is : v ≡ put_version at context kind value
+  pub clock : IsClock v.clock
+  pub passes : context_fault test (held s.entries key) at context ≡ None
+  pub fits : offer_fault v (held s.entries key) ≡ None
+
 -- the version of a put that has its place, and whose context passes its test
 pub fitting_put : (test : ContextTest) (s : Store) (leaf at : ℕ) (key : List ℕ) (context : Pairs) (kind : Kind) (value : List ℕ) (v : Version)
-    → leaf ≡ leaf_at Two s.config.bits key → place_fault s.config key kind value ≡ None → raise_fault context at ≡ None
-    → v ≡ put_version at context kind value
-    → IsClock v.clock → context_fault test (held s.entries key) at context ≡ None → offer_fault v (held s.entries key) ≡ None
+    → IsCheckedPut test s leaf at key context kind value v
     → (made_fault test s at key context kind value ≡ None) × (IsFitting s leaf key v × (v ≡ put_version at context kind value))
-fitting_put test s leaf at key context kind value v here place raise is clock passes fits =
-    let stale : stale_fault (held s.entries key) v.clock ≡ None = ap (λ (w : Version). stale_fault (held s.entries key) w.clock) is
-    ∙ tested_fresh test (held s.entries key) at context passes in
+fitting_put test s leaf at key context kind value v put =
+    let stale : stale_fault (held s.entries key) v.clock ≡ None = ap (λ (w : Version). stale_fault (held s.entries key) w.clock) put.version_is
+    ∙ tested_fresh test (held s.entries key) at context put.passes in
     let fits_is : offer_fault (put_version at context kind value) (held s.entries key) ≡ None = ap
-    (λ (w : Version). offer_fault w (held s.entries key)) (sym is) ∙ fits in (
-      rw (place, raise, passes) fits_is,
+    (λ (w : Version). offer_fault w (held s.entries key)) (sym put.version_is) ∙ put.fits in (
+      rw (put.here, put.raise, put.passes) fits_is,
       (
         record {
-          leaf_is = here;
-          here = ap (λ (w : Version). place_fault s.config key w.kind w.value) is ∙ place;
-          news = news s key v clock.rising stale;
-          fits = fits;
+          leaf_is = put.leaf_is;
+          here = ap (λ (w : Version). place_fault s.config key w.kind w.value) put.version_is ∙ put.here;
+          news = news s key v put.clock.rising stale;
+          fits = put.fits;
         },
-        is,
+        put.version_is,
       ),
     )

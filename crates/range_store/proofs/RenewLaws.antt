@@ -528,28 +528,23 @@ rows_here c m leaf of = λ i. rows_in_leaf (leaf_at (of.format i) (of.bits i)) l
 -- ---- a new range
 
 -- what a renewed range has
-pub renewed_range : (s now : Store) (seat limit : ℕ) (config : Config) (entries : List Entry) (old tree : RangeTree) → s ≡ now → IsSound s
-    → old.map ≡ rows_now s → old.marks ≡ s.marks
-    → renew_fault now limit ≡ None → config ≡ config_to now.config limit → entries ≡ copies_from 0 seat (held_offers now) → tree ≡ old
+pub renewed_range : (s : Store) (seat limit : ℕ) (config : Config) (entries : List Entry) (tree : RangeTree) → IsSound s → tree ≡ tree_in s
+    → renew_fault s limit ≡ None → config ≡ config_to s.config limit → entries ≡ copies_from 0 seat (held_offers s)
     → IsSound (record { config = config; entries = entries; marks = tree.marks })
     × (tree.map ≡ rows_now (record { config = config; entries = entries; marks = tree.marks }))
-    × (record { config = config; entries = entries; marks = tree.marks } ≡ renewed_by now seat limit)
-renewed_range s now seat limit config entries old tree view ok map marks fits limited copies same =
-    let fits_s : renew_fault s limit ≡ None = ap (λ (t : Store). renew_fault t limit) view ∙ fits in
-    let config_is : config ≡ config_to s.config limit = limited ∙ ap (λ (t : Store). config_to t.config limit) (sym view) in
-    let es : entries ≡ copies_from 0 seat (held_offers s) = copies ∙ ap (λ (t : Store). copies_from 0 seat (held_offers t)) (sym view) in
-    let digests : tree.marks ≡ s.marks = ap (λ (t : RangeTree). t.marks) same ∙ marks in
+    × (record { config = config; entries = entries; marks = tree.marks } ≡ renewed_by s seat limit)
+renewed_range s seat limit config entries tree ok same fits limited copies =
     let back : record { config = config; entries = entries; marks = tree.marks } ≡ renewed_by s seat limit = λ i. record {
-      config = config_is i;
-      entries = es i;
-      marks = digests i;
+      config = limited i;
+      entries = copies i;
+      marks = (same i).marks;
     } in
     let rows : rows_now s ≡ rows_now (renewed_by s seat limit) = ap
     (λ (rs : List Row). record { format = s.config.format; bits = s.config.bits; range = s.config.range; rows = rs })
     (sym (renewed_rows s seat)) in (
-      subst IsSound (sym back) (renewed_right s seat limit ok (limit_fits s limit fits_s)),
-      ap (λ (t : RangeTree). t.map) same ∙ map ∙ rows ∙ ap rows_now (sym back),
-      back ∙ ap (λ (t : Store). renewed_by t seat limit) view,
+      subst IsSound (sym back) (renewed_right s seat limit ok (limit_fits s limit fits)),
+      ap (λ (t : RangeTree). t.map) same ∙ rows ∙ ap rows_now (sym back),
+      back,
     )
 
 -- ---- a new range that begins with the rows of a basis
@@ -599,7 +594,7 @@ begun_range b seat limit config entries tree is fits limited copies map marks =
     let rows_s : tree.map ≡ rows_now s = map
     ∙ ap (λ (rs : List Row). record { format = b.config.format; bits = b.config.bits; range = b.config.range; rows = rs }) is.rows in
     let same : tree ≡ tree_in s = λ i. record { map = rows_s i; marks = marks i } in
-    let range = renewed_range s s seat limit config entries (tree_in s) tree refl is.sound refl refl
+    let range = renewed_range s seat limit config entries tree is.sound same
     (ap (λ (rs : List Row). limit_fault b.config rs limit) (sym is.rows) ∙ fits) limited
-    (copies ∙ ap (λ (rs : List Row). copies_from 0 seat (offers_by_leaf b.config rs)) is.rows) same in
+    (copies ∙ ap (λ (rs : List Row). copies_from 0 seat (offers_by_leaf b.config rs)) is.rows) in
     (range.0, range.1, range.2 ∙ ap (λ (rs : List Row). begun_by (record { config = b.config; rows = rs; marks = b.marks }) seat limit) (sym is.rows))

@@ -38,24 +38,29 @@ pub record IsNext (t : RangeTree) (i : ℕ) (k : List ℕ) (v : Version) : Type 
   pub value : value_fault t.map.format v.kind v.value ≡ None
   pub room : offer_fault v (versions_in k t.map.rows) ≡ None
 
+-- the tree of the entries that were replayed, and the leaf, the key and the version of another entry
+pub record IsOffer (r : Replayed) (e : Entry) (t : RangeTree) (i : ℕ) (k : List ℕ) (v : Version) : Type 0 where
+  pub tree : t ≡ replayed_tree r
+  pub leaf : i ≡ leaf_in r.config k
+  pub key : k ≡ e.key
+  pub version : v ≡ e.version
+
 -- the next entry can be offered to the tree of those before it
-pub next_is : (now r : Replayed) (e : Entry) (t : RangeTree) (leaf : ℕ) (key : List ℕ) (v : Version) → r ≡ now → IsReplay r → t ≡ replayed_tree r
-    → now.front < length now.entries → e ≡ get_or r.entries r.front e → leaf ≡ leaf_in now.config key → key ≡ e.key → v ≡ e.version
-    → IsNext t leaf key v
-next_is now r e t leaf key v view ok tree below is at same copy =
-    let before : r.front < length r.entries = subst (λ (x : Replayed). x.front < length x.entries) (sym view) below in
-    let own = next_own r e ok before is in
+pub next_is : (r : Replayed) (e : Entry) (t : RangeTree) (leaf : ℕ) (key : List ℕ) (v : Version) → IsReplay r → r.front < length r.entries
+    → e ≡ get_or r.entries r.front e → IsOffer r e t leaf key v → IsNext t leaf key v
+next_is r e t leaf key v ok below is offer =
+    let own = next_own r e ok below is in
     let here : IsNext (replayed_tree r) (leaf_in r.config e.key) e.key e.version = record {
       leaf = refl;
       here = own.here;
       key = own.key;
       value = own.value;
-      room = next_fits r e ok before is;
+      room = next_fits r e ok below is;
     } in
-    let place : leaf_in r.config e.key ≡ leaf = (λ i. leaf_in (view i).config (sym same i)) ∙ sym at in
-    subst (λ (x : RangeTree). IsNext x leaf key v) (sym tree)
-    (subst (λ (w : Version). IsNext (replayed_tree r) leaf key w) (sym copy)
-    (subst (λ (k : List ℕ). IsNext (replayed_tree r) leaf k e.version) (sym same)
+    let place : leaf_in r.config e.key ≡ leaf = ap (leaf_in r.config) (sym offer.key) ∙ sym offer.leaf in
+    subst (λ (x : RangeTree). IsNext x leaf key v) (sym offer.tree)
+    (subst (λ (w : Version). IsNext (replayed_tree r) leaf key w) (sym offer.version)
+    (subst (λ (k : List ℕ). IsNext (replayed_tree r) leaf k e.version) (sym offer.key)
     (subst (λ (n : ℕ). IsNext (replayed_tree r) n e.key e.version) place here)))
 
 -- the tree after it

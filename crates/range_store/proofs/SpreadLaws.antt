@@ -39,7 +39,7 @@ use Rattle.range_store.specs.Offers.{offers_of, accepted_in, crowded_in}
 use Rattle.range_store.specs.Store.{Store, IsSound, rows_now, tree_in, leaf_in, place_fault, entry_of, journaled, accept_step}
 use Rattle.range_store.specs.declared.store.loading.Loaded.{Loaded}
 use Rattle.range_store.specs.declared.store.format_loading.Spread.{Spread}
-use Rattle.range_store.proofs.BatchLaws.{Offers, alone, crowded-append, map_next, map_split, taken-append}
+use Rattle.range_store.proofs.BatchLaws.{Offers, alone, crowded-append, map_next, map_split, prepared_entry, taken-append}
 use Rattle.range_store.proofs.LoadLaws.{AreEntriesOf, placed}
 use Rattle.range_store.proofs.RowLaws.{versions_in-rows_of}
 use Rattle.range_store.proofs.StoreLaws.{knows_held, first_none, later_none, rows_after}
@@ -180,31 +180,28 @@ spread_known s seat xs key v a is known =
     }
 
 -- a version that is news
-pub spread_news : (s : Store) (seat : ℕ) (xs : Offers) (key : List ℕ) (v w : Version) (a b : Spread) (e : Entry) → IsSpread s seat xs a
-    → covered v (versions_in key a.tree.map.rows) ≡ false → offer_fault v (versions_in key a.tree.map.rows) ≡ None → w ≡ v
-    → e ≡ record { number = length s.entries + length a.entries.items; seat = seat; source = Copy; key = key; version = v }
-    → b.tree ≡ offered_to a.tree key w → b.entries.items ≡ a.entries.items ++ e ∷ [] → b.known ≡ a.known
-    → IsSpread s seat (xs ++ (key, v) ∷ []) b
-spread_news s seat xs key v w a b e is news fits copy made tree entries known =
+pub spread_news : (s : Store) (seat : ℕ) (xs : Offers) (key : List ℕ) (v : Version) (a b : Spread) → IsSpread s seat xs a
+    → covered v (versions_in key a.tree.map.rows) ≡ false → offer_fault v (versions_in key a.tree.map.rows) ≡ None
+    → b.tree ≡ offered_to a.tree key v → b.entries.items ≡ a.entries.items ++ prepared_entry s a.entries.items seat Copy key v ∷ []
+    → b.known ≡ a.known → IsSpread s seat (xs ++ (key, v) ∷ []) b
+spread_news s seat xs key v a b is news fits tree entries known =
     let t = accepted_in s seat Copy xs in
+    let e : Entry = prepared_entry s a.entries.items seat Copy key v in
     let here : covered v (held t.entries key) ≡ false = ap (covered v) (sym (spread_set s seat xs a key is)) ∙ news in
     let long : length t.entries ≡ length s.entries + length a.entries.items = sym (ap length is.entries) ∙ length-append s.entries a.entries.items in
-    let entry : entry_of t seat Copy key v ≡ e = ap (λ (n : ℕ). record { number = n; seat = seat; source = Copy; key = key; version = v }) long
-    ∙ sym made in
+    let entry : entry_of t seat Copy key v ≡ e = ap (λ (n : ℕ). record { number = n; seat = seat; source = Copy; key = key; version = v }) long in
     let step : accept_step t seat Copy key v ≡ journaled t e = rw (sym (knows_held t key v) ∙ here) (ap (journaled t) entry) in
     let whole : accepted_in s seat Copy (xs ++ (key, v) ∷ []) ≡ journaled t e = taken-append s seat Copy xs ((key, v) ∷ []) ∙ step in
-    let k : key ≡ e.key = ap (λ (y : Entry). y.key) (sym made) in
-    let ver : w ≡ e.version = copy ∙ ap (λ (y : Entry). y.version) (sym made) in
     record {
       tree =
-          tree ∙ (λ i. offered_to (is.tree i) (k i) (ver i)) ∙ (λ i. record { map = rows_after t e i; marks = (journaled t e).marks })
+          tree ∙ (λ i. offered_to (is.tree i) key v) ∙ (λ i. record { map = rows_after t e i; marks = (journaled t e).marks })
           ∙ ap tree_in (sym whole);
       entries =
           ap (λ (es : List Entry). s.entries ++ es) entries ∙ sym (append_assoc s.entries a.entries.items (e ∷ []))
           ∙ ap (λ (es : List Entry). es ++ e ∷ []) is.entries
           ∙ ap (λ (u : Store). u.entries) (sym whole);
       numbered = subst (AreNumberedFrom (length s.entries)) (sym entries)
-          (AreNumberedFrom-push (length s.entries) a.entries.items e is.numbered (ap (λ (y : Entry). y.number) made));
+          (AreNumberedFrom-push (length s.entries) a.entries.items e is.numbered refl);
       fits = spread_next s seat xs a key v is ∙ fits;
       count = omega (arith, is.count, known, ap length entries, length-append a.entries.items (e ∷ []), length-append xs ((key, v) ∷ []));
     }

@@ -218,20 +218,26 @@ pub record IsAdmitted (s : Store) (e : Entry) (t : Store) (tree : RangeTree) : T
   pub rows : tree.map ≡ rows_now t
   pub is : t ≡ journaled s e
 
-pub admitted : (s : Store) (e : Entry) (entries : List Entry) (was now : RangeTree) (key : List ℕ) (w : Version) → IsSound s → was ≡ tree_in s
-    → place_fault s.config e.key e.version.kind e.version.value ≡ None → knows s e.key e.version ≡ false → IsClock e.version.clock
-    → offer_fault e.version (held s.entries e.key) ≡ None → key ≡ e.key → w ≡ e.version → now ≡ offered_to was key w → entries ≡ s.entries ++ e ∷ []
-    → IsAdmitted s e (record { config = s.config; entries = entries; marks = now.marks }) now
-admitted s e entries was now key w ok tree here news clock fits k copy offer es =
-    let offered : now ≡ offered_to (tree_in s) e.key e.version = offer ∙ (λ i. offered_to (tree i) (k i) (copy i)) in
-    let back : record { config = s.config; entries = entries; marks = now.marks } ≡ journaled s e = λ i. record {
+-- an entry of this range whose version is news to it, and is not one too many for its key
+pub record IsNewEntry (s : Store) (e : Entry) : Type 0 where
+  pub here : place_fault s.config e.key e.version.kind e.version.value ≡ None
+  pub news : knows s e.key e.version ≡ false
+  pub clock : IsClock e.version.clock
+  pub fits : offer_fault e.version (held s.entries e.key) ≡ None
+
+pub admitted : (s : Store) (e : Entry) (entries : List Entry) (tree : RangeTree) → IsSound s → IsNewEntry s e
+    → tree ≡ offered_to (tree_in s) e.key e.version → entries ≡ s.entries ++ e ∷ []
+    → IsAdmitted s e (record { config = s.config; entries = entries; marks = tree.marks }) tree
+admitted s e entries tree ok new offer es =
+    let back : record { config = s.config; entries = entries; marks = tree.marks } ≡ journaled s e = λ i. record {
       config = s.config;
       entries = es i;
-      marks = (offered i).marks;
+      marks = (offer i).marks;
     } in
+    let unknown : covered e.version (held s.entries e.key) ≡ false = covered-maximal e.version (accepted s.entries e.key) ∙ new.news in
     record {
-      right = subst IsSound (sym back) (grown_sound s e ok here (covered-maximal e.version (accepted s.entries e.key) ∙ news) clock fits);
-      rows = ap (λ (t : RangeTree). t.map) offered ∙ rows_after s e ∙ ap rows_now (sym back);
+      right = subst IsSound (sym back) (grown_sound s e ok new.here unknown new.clock new.fits);
+      rows = ap (λ (t : RangeTree). t.map) offer ∙ rows_after s e ∙ ap rows_now (sym back);
       is = back;
     }
 

@@ -10,7 +10,6 @@ use Rattle.range_journal.specs.Journal.{held}
 use Rattle.key_ring.specs.Places.{range_at}
 use Rattle.row_bytes.specs.declared.row.Row.{Row}
 use Rattle.hash_tree.specs.Leaves.{versions_in}
-use Rattle.row_table.specs.declared.table.TableRow.{TableRow}
 use Rattle.row_table.specs.Tables.{Table, with_all}
 use Rattle.range_store.specs.Batches.{IsOfferFor, IsAcceptable}
 use Rattle.range_store.specs.FormatLoads.{IsSpreadable}
@@ -65,18 +64,16 @@ batch_sets : (s : Store) (seat : ℕ) (source : Source) (leaf : ℕ) (offers : O
 batch_sets s seat source leaf offers b is =
     All-weaker _ _ b.entries.items (λ e at. set_ahead s leaf b e.key is.batch.batch at) (batch_leaves s seat source leaf offers b is)
 
-pub table_batch : (s now : Store) (seat : ℕ) (source : Source) (leaf : ℕ) (offers : Offers) (b : Batch) (old rows : List TableRow) (t new : Table)
-    (entries : List Entry) → s ≡ now → IsTableOf s.config.bits s.config.range s.entries old → IsAcceptable now seat source leaf offers b
-    → t.rows ≡ old
-    → rows ≡ map (row_from s.config.bits b.leaf.rows) b.entries.items → new ≡ with_all t rows → entries ≡ now.entries ++ b.entries.items
+pub table_batch : (s now : Store) (seat : ℕ) (source : Source) (leaf : ℕ) (offers : Offers) (b : Batch) (t new : Table) (entries : List Entry)
+    → s ≡ now → IsTableOf s.config.bits s.config.range s.entries t.rows → IsAcceptable now seat source leaf offers b
+    → new ≡ with_all t (map (row_from s.config.bits b.leaf.rows) b.entries.items) → entries ≡ now.entries ++ b.entries.items
     → IsTableOf s.config.bits s.config.range entries new.rows
-table_batch s now seat source leaf offers b old rows t new entries view is acceptable same made put es =
+table_batch s now seat source leaf offers b t new entries view table acceptable put es =
     let ok = subst (λ (u : Store). IsAcceptable u seat source leaf offers b) (sym view) acceptable in
-    let table = table_same s.config.bits s.config.range s.entries s.entries old t.rows is refl same in
     let then = table_taken s.config.bits s.config.range s.entries b.entries.items t b.leaf.rows table (batch_here s seat source leaf offers b ok)
     (batch_sets s seat source leaf offers b ok) in
     table_same s.config.bits s.config.range (s.entries ++ b.entries.items) entries _ new.rows then (es
-    ∙ ap (λ (u : Store). u.entries ++ b.entries.items) (sym view)) (ap (λ (u : Table). u.rows) (put ∙ ap (with_all t) made))
+    ∙ ap (λ (u : Store). u.entries ++ b.entries.items) (sym view)) (ap (λ (u : Table). u.rows) put)
 
 -- ---- rows of any leaves
 
@@ -84,16 +81,15 @@ all_of : {X : Type 0} (P : X → Type 0) (xs : List X) → ((x : X) → P x) →
 all_of P [] f = tt
 all_of P (x ∷ xs) f = (f x, all_of P xs f)
 
-pub table_spread : (s now : Store) (seat : ℕ) (loaded : List Row) (sp : Spread) (old rows : List TableRow) (t new : Table) (entries : List Entry)
-    → s ≡ now → IsTableOf s.config.bits s.config.range s.entries old → IsSpreadable now seat loaded sp → t.rows ≡ old
-    → rows ≡ map (row_from s.config.bits sp.tree.map.rows) sp.entries.items → new ≡ with_all t rows → entries ≡ now.entries ++ sp.entries.items
+pub table_spread : (s now : Store) (seat : ℕ) (loaded : List Row) (sp : Spread) (t new : Table) (entries : List Entry)
+    → s ≡ now → IsTableOf s.config.bits s.config.range s.entries t.rows → IsSpreadable now seat loaded sp
+    → new ≡ with_all t (map (row_from s.config.bits sp.tree.map.rows) sp.entries.items) → entries ≡ now.entries ++ sp.entries.items
     → IsTableOf s.config.bits s.config.range entries new.rows
-table_spread s now seat loaded sp old rows t new entries view is spreadable same made put es =
+table_spread s now seat loaded sp t new entries view table spreadable put es =
     let ok = subst (λ (u : Store). IsSpreadable u seat loaded sp) (sym view) spreadable in
-    let table = table_same s.config.bits s.config.range s.entries s.entries old t.rows is refl same in
     let here = entries_here s seat Copy (offers_of loaded) sp.entries.items ok.spread_is.entries (spread_offers s seat loaded sp ok) in
     let sets = all_of (λ (e : Entry). versions_in e.key sp.tree.map.rows ≡ held (s.entries ++ sp.entries.items) e.key) sp.entries.items
     (λ e. spread_set s seat (offers_of loaded) sp e.key ok.spread_is ∙ ap (λ (xs : List Entry). held xs e.key) (sym ok.spread_is.entries)) in
     let then = table_taken s.config.bits s.config.range s.entries sp.entries.items t sp.tree.map.rows table here sets in
     table_same s.config.bits s.config.range (s.entries ++ sp.entries.items) entries _ new.rows then (es
-    ∙ ap (λ (u : Store). u.entries ++ sp.entries.items) (sym view)) (ap (λ (u : Table). u.rows) (put ∙ ap (with_all t) made))
+    ∙ ap (λ (u : Store). u.entries ++ sp.entries.items) (sym view)) (ap (λ (u : Table). u.rows) put)

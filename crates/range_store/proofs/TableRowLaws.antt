@@ -85,20 +85,18 @@ table_same bits range es now rows new is entries same =
     subst (λ (xs : List Entry). IsTableOf bits range xs new) (sym entries) (subst (λ (rs : List TableRow). IsTableOf bits range es rs) (sym same) is)
 
 -- a row with a version that fits is put
-pub table_grown : (s now : Store) (leaf : ℕ) (key : List ℕ) (e : Entry) (entries : List Entry) (old : List TableRow) (t new : Table) (row : TableRow)
-    → s ≡ now → IsTableOf s.config.bits s.config.range s.entries old → t.rows ≡ old → IsFitting now leaf key e.version → e.key ≡ key
-    → row ≡ record { key = e.key; leaf = leaf; set = offered e.version (set_in t.rows e.key) } → entries ≡ s.entries ++ e ∷ [] → new ≡ with_put t row
+pub table_grown : (s : Store) (leaf : ℕ) (e : Entry) (entries : List Entry) (t new : Table)
+    → IsTableOf s.config.bits s.config.range s.entries t.rows → IsFitting s leaf e.key e.version → entries ≡ s.entries ++ e ∷ []
+    → new ≡ with_put t (record { key = e.key; leaf = leaf; set = offered e.version (set_in t.rows e.key) })
     → IsTableOf s.config.bits s.config.range entries new.rows
-table_grown s now leaf key e entries old t new row view is same fits of made es put =
-    let table = table_same s.config.bits s.config.range s.entries s.entries old t.rows is refl same in
-    let here : range_at s.config.bits e.key ≡ s.config.range = (λ i. range_at (view i).config.bits (of i))
-    ∙ here_of now.config key e.version.kind e.version.value fits.here ∙ ap (λ (u : Store). u.config.range) (sym view) in
-    let leaf_is : leaf ≡ leaf_at Two s.config.bits e.key = fits.leaf_is ∙ (λ i. leaf_at Two (sym view i).config.bits (sym of i)) in
-    let home : IsHome s.config.bits s.config.range row.key row.leaf = subst (λ (r : TableRow). IsHome s.config.bits s.config.range r.key r.leaf)
-    (sym made) (record { leaf_is = leaf_is; here = here }) in
-    let set : row.set ≡ offered e.version (held s.entries e.key) = ap (λ (r : TableRow). r.set) made ∙ ap (offered e.version) (table.sets e.key) in
+table_grown s leaf e entries t new table fits es put =
+    let row : TableRow = record { key = e.key; leaf = leaf; set = offered e.version (set_in t.rows e.key) } in
+    let home : IsHome s.config.bits s.config.range row.key row.leaf = record {
+      leaf_is = fits.leaf_is;
+      here = here_of s.config e.key e.version.kind e.version.value fits.here;
+    } in
     table_same s.config.bits s.config.range (s.entries ++ e ∷ []) entries (with_put t row).rows new.rows
-    (table_admitted s.config.bits s.config.range s.entries e t row table (ap (λ (r : TableRow). r.key) made) set home) es
+    (table_admitted s.config.bits s.config.range s.entries e t row table refl (ap (offered e.version) (table.sets e.key)) home) es
     (ap (λ (u : Table). u.rows) put)
 
 -- ---- many more

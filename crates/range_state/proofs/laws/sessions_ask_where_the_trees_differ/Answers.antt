@@ -8,7 +8,8 @@ returns c = record {
   ordered = asked_ordered;
   only = asked_only;
   due = still_due;
-  all = asked_all;
+  all = λ s ok r has on other partner honest near.
+      asked_all s r other (record { right = ok; has = has; on = on; partner = partner; honest = honest; near = near });
   done = finished_done;
   ended = ended_done;
 }

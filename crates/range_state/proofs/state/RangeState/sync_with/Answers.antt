@@ -30,7 +30,7 @@ returns-in_err-node c = absurd (let known = known_session c.loop-node.invariant.
 next : (c : In-Some) → IsNext c.args.self.now c.loop-node.self c.args.seat c.len-place.result c.loop-node.known c.args.other.now
     c.loop-node.invariant.under c.in-Some.node
 next c = next_is c.loop-node.invariant.under c.loop-node.invariant.at c.outstanding_at.ensures.valid c.requires c.format-format.ensures.valid
-    c.in_ok-node.ensures.first.1 c.in-Some.is
+    (rw c.in-Some.is at c.in_ok-node.ensures.first.1)
 
 -- there is none
 done : (c : In_default) → IsDone c.args.self.now c.loop-node.self c.args.seat c.len-place.result c.loop-node.known c.args.other.now

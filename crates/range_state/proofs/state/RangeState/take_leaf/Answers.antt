@@ -19,9 +19,9 @@ use Rattle.range_store.proofs.BatchLaws.{Offers}
 use Rattle.range_state.specs.declared.«record».Record.{Record}
 use Rattle.range_state.specs.declared.event.AnswerTaken.{AnswerTaken}
 use Rattle.range_state.specs.State.{State, IsRight}
-use Rattle.range_state.specs.Sessions.{IsNewsRead, TakesFor}
+use Rattle.range_state.specs.Sessions.{IsNewsRead, TakesFor, TakesLeaf}
 use Rattle.range_state.proofs.AnswerLaws.{NewsRead, news_read, not_prepared, no_memory, not_accepted, AreTaken, are_taken, leaf_at, leaf_inside}
-use Rattle.range_state.proofs.AnswerLaws.{leaf_taken}
+use Rattle.range_state.proofs.AnswerLaws.{taken_to, leaf_taken}
 use Rattle.range_state.proofs.NewsLaws.{IsSame, news_stand, news_ready, news_homes}
 use Rattle.range_state.proofs.JudgementLaws.{whole}
 use Rattle.range_state.proofs.TakenLaws.{leaf_right}
@@ -250,8 +250,17 @@ returns-clause-answers c =
     let fault = whole c.self.inside.store c.args.seat read.rows c.args.news.now.rows.items c.args.news.now.known all.same ∙ all.is.fault in
     let known = ap (λ (es : List Entry). length es + (c.in_ok-loaded.loaded.known + c.args.news.now.known)) copies
     ∙ counted at.In_ok-loaded read.rows all in
-    let took = leaf_taken c.args.seat a leaf fault (all.is.is ∙ sym all.same.taken) receipts known
-    (c.state.ensures ∙ ap (λ (w : Walk). w.state) c.take_leaf.ensures) in
+    let r = c.index_mut.result.now in
+    let takes : TakesLeaf (state start) c.args.seat c.args.place r (text start) a
+    (taken_to (state start) c.args.place (text start) r c.accept_batch.new.self) = record {
+      rows = read.rows;
+      read = leaf.read;
+      fault = fault;
+      receipts = receipts;
+      known = known;
+      new_is = ap (taken_to (state start) c.args.place (text start) r) (all.is.is ∙ sym all.same.taken);
+    } in
+    let took = leaf_taken c.args.seat a leaf.here takes (c.state.ensures ∙ ap (λ (w : Walk). w.state) c.take_leaf.ensures) in
     let records : Walk → List Record = λ w. set c.self.inside.records.items c.args.place
     (record { number = c.index_mut.result.now.number; partner = c.index_mut.result.now.partner; session = w }) in
     subst (λ (u : State). TakesFor u c.args.seat c.args.place (slice_get u.records c.args.place) (text start) (Ok a)

@@ -15,10 +15,14 @@ next c =
     let r : Replayed = record { config = c.self.inside.config; entries = c.self.inside.entries.now; front = c.self.inside.front } in
     let e : Entry = c.index-self-self.result in
     let is = c.index-self-self.is in
-    let at = c.leaf_of-leaf.ensures ∙ ap (leaf_in c.args.self.now.config) c.as_slice.ensures in
-    next_is c.args.self.now r e c.self.inside.tree c.leaf_of-leaf.result _ c.in_ok-version.version c.self.view_is c.self.invariant.0
-    c.self.invariant.1 c.requires is at
-    (ap (λ (x : Entry). x.key) (sym is)) (c.in_ok-version.ensures.1 ∙ ap (λ (x : Entry). x.version) (sym is))
+    let below : r.front < length r.entries = subst (λ (x : Replayed). x.front < length x.entries) (sym c.self.view_is) c.requires in
+    next_is r e c.self.inside.tree c.leaf_of-leaf.result _ c.in_ok-version.version c.self.invariant.0 below is
+    (record {
+      tree = c.self.invariant.1;
+      leaf = c.leaf_of-leaf.ensures ∙ (λ i. leaf_in (sym c.self.view_is i).config (c.as_slice.ensures i));
+      key = ap (λ (x : Entry). x.key) (sym is);
+      version = c.in_ok-version.ensures.1 ∙ ap (λ (x : Entry). x.version) (sym is);
+    })
 
 pub offer-requires-clause-leaf : goal.offer-requires-clause-leaf
 offer-requires-clause-leaf c = (next (goal.at.offer-requires-clause-leaf c).After-leaf_of-leaf).leaf

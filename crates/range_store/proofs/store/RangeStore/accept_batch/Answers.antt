@@ -13,9 +13,9 @@ use Rattle.snapshot.specs.Snapshots.{leaves_of}
 use Rattle.range_tree.specs.Trees.{RangeTree, IsChange, with_rows}
 use Rattle.version_set.specs.declared.version.Version.{Version}
 use Rattle.range_journal.specs.declared.journal.Source.{Source}
-use Rattle.row_table.specs.Tables.{Table, with_room}
+use Rattle.row_table.specs.Tables.{Table, with_all, with_room}
 use Rattle.range_store.specs.Store.{Store, IsSound, leaf_in, rows_now, tree_in}
-use Rattle.range_store.specs.TableRows.{row_from}
+use Rattle.range_store.specs.TableRows.{IsTableOf, row_from}
 use Rattle.range_store.proofs.TableBatchLaws.{batch_leaves, table_batch}
 use Rattle.range_store.specs.Batches.{IsAcceptable}
 use Rattle.range_store.proofs.ChangeLaws.{kept_rows}
@@ -138,15 +138,17 @@ invariant_of-self-2 c =
     let config : c.self.inside.config ≡ now.config = ap (λ (u : Store). u.config) c.self.view_is in
     let given = c.in_ok-reserve-2.ensures in
     let reserved : c.reserve-2.new.self ≡ with_room c.self.inside.table c.len-taken.result = cc in
+    let i = c.self.inside in
+    let table = subst (λ (t : Table). IsTableOf i.config.bits i.config.range i.journal.entries t.rows) (sym reserved) c.self.invariant.3 in
     let rows = c.in_ok-rows.ensures.1 ∙ ap (map (row_from c.self.inside.config.bits b.leaf.rows)) c.deref.ensures.value in (
       subst (λ (u : Store). IsSound (record { config = u.config; entries = c.append_entries.new.self.entries; marks = c.keep_leaves.new.tree.marks }))
           (sym c.self.view_is) right,
       ap (λ (t : RangeTree). t.map) tree ∙ (λ i. rows_now (record now { config = sym config i; entries = sym is.entries_are i })),
       ap (λ (l : Log). l.limit) c.append_entries.ensures
           ∙ ap (λ (l : Log). l.limit) (reserve_ok c.self.inside.journal _ _ c.in_ok-reserve.ensures.reserves).is ∙ c.self.invariant.2,
-      table_batch (before at.After-self) now c.requires.0 c.requires.1 c.args.leaf c.requires.2 b c.self.inside.table.rows c.in_ok-rows.rows.items
-          c.reserve-2.new.self c.put_all.new.self c.append_entries.new.self.entries
-          c.self.view_is c.self.invariant.3 c.requires.3 (ap (λ (t : Table). t.rows) reserved) rows c.put_all.ensures is.entries_are,
+      table_batch (before at.After-self) now c.requires.0 c.requires.1 c.args.leaf c.requires.2 b c.reserve-2.new.self c.put_all.new.self
+          c.append_entries.new.self.entries
+          c.self.view_is table c.requires.3 (c.put_all.ensures ∙ ap (with_all c.reserve-2.new.self) rows) is.entries_are,
     )
 
 pub returns : goal.returns

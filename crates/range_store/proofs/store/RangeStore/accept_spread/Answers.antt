@@ -4,10 +4,10 @@ use Rattle.vclock.specs.Outcome.{gives}
 use Rattle.range_journal.specs.Log.{Log}
 use Rattle.range_journal.proofs.JournalLaws.{reserve_ok}
 use Rattle.range_journal.specs.declared.journal.Source.TheVariants.{Copy}
-use Rattle.row_table.specs.Tables.{Table, with_room}
+use Rattle.row_table.specs.Tables.{Table, with_all, with_room}
 use Rattle.snapshot.specs.RowMaps.{RowMap}
 use Rattle.range_store.specs.Store.{Store, IsSound, rows_now}
-use Rattle.range_store.specs.TableRows.{row_from}
+use Rattle.range_store.specs.TableRows.{IsTableOf, row_from}
 use Rattle.range_store.proofs.TableBatchLaws.{table_spread}
 use Rattle.range_store.specs.Offers.{offers_of}
 use Rattle.range_store.proofs.LoadLaws.{IsLogOf, log_of, room_in, load_given, load_refused}
@@ -76,14 +76,15 @@ invariant_of-self-2 c =
     let end = whole at.After-append_entries in
     let given = c.in_ok-reserve-2.ensures in
     let reserved : c.reserve-2.new.self ≡ with_room c.self.inside.table c.len-taken.result = cc in
+    let i = c.self.inside in
+    let table = subst (λ (t : Table). IsTableOf i.config.bits i.config.range i.journal.entries t.rows) (sym reserved) c.self.invariant.3 in
     let made = c.in_ok-rows.ensures.1 ∙ ap (map (row_from c.self.inside.config.bits c.args.spread.tree.map.rows)) c.deref.ensures.value in (
       subst IsSound (sym end) (spread_right now seat rows c.args.spread ok is),
       spread_rows now seat rows c.args.spread is ∙ ap rows_now (sym end),
       ap (λ (l : Log). l.limit) c.append_entries.ensures
           ∙ ap (λ (l : Log). l.limit) (reserve_ok c.self.inside.journal _ _ c.in_ok-reserve.ensures.reserves).is ∙ c.self.invariant.2,
-      table_spread (before at.After-self) now seat rows c.args.spread c.self.inside.table.rows c.in_ok-rows.rows.items c.reserve-2.new.self
-          c.put_all.new.self c.append_entries.new.self.entries
-          c.self.view_is c.self.invariant.3 is (ap (λ (t : Table). t.rows) reserved) made c.put_all.ensures (ap (λ (u : Store). u.entries) end),
+      table_spread (before at.After-self) now seat rows c.args.spread c.reserve-2.new.self c.put_all.new.self c.append_entries.new.self.entries
+          c.self.view_is table is (c.put_all.ensures ∙ ap (with_all c.reserve-2.new.self) made) (ap (λ (u : Store). u.entries) end),
     )
 
 pub returns : goal.returns

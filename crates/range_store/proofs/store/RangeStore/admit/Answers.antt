@@ -10,9 +10,10 @@ use Rattle.range_journal.specs.Journal.{held}
 use Rattle.hash_tree.specs.Leaves.{versions_in}
 use Rattle.snapshot.specs.RowMaps.{leaf_in}
 use Rattle.key_ring.specs.Places.{leaf_at, range_at}
-use Rattle.range_tree.specs.Trees.{RangeTree}
-use Rattle.row_table.specs.Tables.{place_of, set_in}
+use Rattle.range_tree.specs.Trees.{RangeTree, offered_to}
+use Rattle.row_table.specs.Tables.{place_of, set_in, with_put}
 use Rattle.vclock.specs.declared.format.Format.TheVariants.{Two}
+use Rattle.range_store.specs.Fitting.{IsFitting}
 use Rattle.range_store.specs.Store as store
 use Rattle.range_store.specs.Store.{Store, IsSound, tree_in, rows_now, place_fault, full_fault, entry_of, journaled, knows}
 use Rattle.range_journal.proofs.JournalLaws.{reserve_ok}
@@ -122,12 +123,15 @@ is_admitted c =
     let back : c.args.self.now ≡ s = sym c.self.view_is in
     let entries = ap (λ (t : Log). t.entries) c.append_reserved.ensures.added
     ∙ ap (λ (t : Log). t.entries ++ e ∷ []) (reserve_ok c.self.inside.journal _ 1 c.in_ok-reserve.ensures.reserves).is in
-    admitted s e c.append_reserved.new.self.entries c.self.inside.tree c.offer.new.self e.key c.in_ok-row_version.row_version c.self.invariant.0
-    (tree_is s s c.self.inside.tree refl c.self.invariant.1 refl)
-    (sym (λ i. place_fault (back i).config (key i) c.args.version.kind c.args.version.value) ∙ c.requires.here)
-    (sym (λ i. knows (back i) (key i) c.args.version) ∙ c.requires.news) c.pairs-valid.ensures.valid
-    (sym (λ i. offer_fault c.args.version (held (back i).entries (key i))) ∙ c.requires.fits) refl c.in_ok-row_version.ensures.1
-    (given _ _ _ _ c.in_ok-offer.ensures).1 entries
+    let tree = tree_is s s c.self.inside.tree refl c.self.invariant.1 refl in
+    admitted s e c.append_reserved.new.self.entries c.offer.new.self c.self.invariant.0
+    (record {
+      here = sym (λ i. place_fault (back i).config (key i) c.args.version.kind c.args.version.value) ∙ c.requires.here;
+      news = sym (λ i. knows (back i) (key i) c.args.version) ∙ c.requires.news;
+      clock = c.pairs-valid.ensures.valid;
+      fits = sym (λ i. offer_fault c.args.version (held (back i).entries (key i))) ∙ c.requires.fits;
+    })
+    ((given _ _ _ _ c.in_ok-offer.ensures).1 ∙ (λ i. offered_to (tree i) e.key (c.in_ok-row_version.ensures.1 i))) entries
 
 -- the entries afterwards
 entries_are : (c : After-append_reserved) → c.append_reserved.new.self.entries ≡ c.self.inside.journal.entries ++ entry c ∷ []
@@ -141,10 +145,13 @@ invariant_of-self-2 c =
     let log = c.append_reserved.ensures.added in
     let i = c.self.inside in
     let s : Store = record { config = i.config; entries = i.journal.entries; marks = i.tree.marks } in
-    let table = table_grown s c.args.self.now c.args.leaf c.args.key.now
-    (entry at.After-append_reserved) c.append_reserved.new.self.entries i.table.rows c.prepare_row.new.table c.put_at.new.self c.in_ok-row.row
-    c.self.view_is c.self.invariant.3 c.in_ok-row.ensures.same c.requires c.in_ok-key.ensures.1 c.in_ok-row.ensures.row.1.1
-    (entries_are at.After-append_reserved) c.put_at.ensures in (
+    let e : Entry = entry at.After-append_reserved in
+    let kept = table_same i.config.bits i.config.range i.journal.entries i.journal.entries i.table.rows c.prepare_row.new.table.rows
+    c.self.invariant.3 refl c.in_ok-row.ensures.same in
+    let fits = subst (λ (u : Store). IsFitting u c.args.leaf e.key e.version) (sym c.self.view_is)
+    (subst (λ (k : List ℕ). IsFitting c.args.self.now c.args.leaf k e.version) (sym c.in_ok-key.ensures.1) c.requires) in
+    let table = table_grown s c.args.leaf e c.append_reserved.new.self.entries c.prepare_row.new.table c.put_at.new.self kept fits
+    (entries_are at.After-append_reserved) (c.put_at.ensures ∙ ap (with_put c.prepare_row.new.table) c.in_ok-row.ensures.row.1.1) in (
       is.right,
       is.rows,
       ap (λ (t : Log). t.limit) log

@@ -18,5 +18,13 @@ returns-clause-made c =
     let passes = subst (λ (S : List Version). context_fault c.args.test S c.args.at c.args.context.now ≡ None) c.look_up-known.ensures.held
     c.in_ok-check_context.ensures.0 in
     let fits : offer_fault v (held s.entries key) ≡ None = rw (c.look_up-known.ensures.held, c.if-crowds.false) at c.crowds.ensures in
-    fitting_put c.args.test s c.in_ok-leaf.leaf c.args.at key c.args.context.now c.args.kind c.args.value v c.in_ok-leaf.ensures.1 here
-    c.in_ok-clock.ensures.answers.0 is c.pairs-valid.ensures.valid passes fits
+    fitting_put c.args.test s c.in_ok-leaf.leaf c.args.at key c.args.context.now c.args.kind c.args.value v
+    (record {
+      leaf_is = c.in_ok-leaf.ensures.1;
+      here = here;
+      raise = c.in_ok-clock.ensures.answers.0;
+      version_is = is;
+      clock = c.pairs-valid.ensures.valid;
+      passes = passes;
+      fits = fits;
+    })

@@ -1,8 +1,8 @@
-use Rattle.std.proofs.Common.{◌≡◌, ℕ, ◌+◌, None, Some, true, false, List, [], ◌∷◌, length, ap, ◌∙◌, refl, inr, arith}
+use Rattle.std.proofs.Common.{◌≡◌, ℕ, ◌+◌, None, Some, true, false, List, [], ◌∷◌, ◌++◌, length, ap, ◌∙◌, refl, inr, arith}
 use Rattle.vclock.specs.declared.refusal.Refusal.TheVariants.{Crowded}
 use Rattle.version_set.specs.declared.version.Version.{Version}
 use Rattle.version_set.specs.Version.{covered, offer_fault}
-use Rattle.hash_tree.specs.Leaves.{versions_in}
+use Rattle.hash_tree.specs.Leaves.{versions_in, with_offer}
 use Rattle.hash_tree.proofs.OutcomeLaws.{given}
 use Rattle.range_store.specs.declared.store.batch.Batch.{Batch}
 use Rattle.range_store.specs.Store.{Store}
@@ -60,15 +60,17 @@ added c =
     let fits : offer_fault c.args.version.now (versions_in c.args.key.now a.leaf.rows) ≡ None = rw (set, c.if-crowds.false) at c.crowds.ensures in
     let number : c.len.result + c.len-2.result ≡ length s.entries + length a.entries.items = omega
     (arith, c.len.ensures.count, c.len-2.ensures, ap (λ (t : Store). length t.entries) c.self.view_is) in
-    news_next s c.args.seat c.args.source c.args.leaf c.args.key.now c.args.version.now c.in_ok-row_version.row_version a b _ c.requires.batch
-    c.requires.leaf fresh fits c.in_ok-row_version.ensures.1
-    (λ i. record {
+    let leaf = (given _ _ _ _ c.in_ok-offer.ensures).1
+    ∙ (λ i. record { format = a.leaf.format; rows = with_offer c.args.key.now (c.in_ok-row_version.ensures.1 i) a.leaf.rows }) in
+    let entries = c.in_ok-push.ensures.items ∙ (λ i. a.entries.items ++ record {
       number = number i;
       seat = c.args.seat;
       source = c.args.source;
       key = c.in_ok-try_clone.ensures.1 i;
       version = c.in_ok-try_clone-2.ensures.1 i;
-    }) (given _ _ _ _ c.in_ok-offer.ensures).1 c.in_ok-push.ensures.items refl
+    } ∷ []) in
+    news_next s c.args.seat c.args.source c.args.leaf c.args.key.now c.args.version.now a b
+    (record { batch = c.requires.batch; leaf_is = c.requires.leaf; fresh = fresh; fits = fits }) leaf entries refl
 
 pub returns-clause-answers : goal.returns-clause-answers
 returns-clause-answers c = ((added (goal.at.returns-clause-answers c).In_ok-push).0, tt)

@@ -1,10 +1,10 @@
-use Rattle.std.proofs.Common.{◌≡◌, ◌+◌, List, [], ◌∷◌, ◌++◌, None, Some, true, false, length, ap, ◌∙◌, inr, arith}
+use Rattle.std.proofs.Common.{◌≡◌, ◌+◌, [], ◌∷◌, ◌++◌, None, Some, true, false, length, ap, ◌∙◌, inr, arith}
 use Rattle.vclock.specs.declared.refusal.Refusal.TheVariants.{Crowded}
 use Rattle.version_set.specs.Version.{covered, offer_fault}
-use Rattle.range_journal.specs.declared.journal.Entry.{Entry}
 use Rattle.range_journal.specs.declared.journal.Source.TheVariants.{Copy}
 use Rattle.hash_tree.specs.Leaves.{versions_in}
 use Rattle.hash_tree.proofs.OutcomeLaws.{given}
+use Rattle.range_tree.specs.Trees.{offered_to}
 use Rattle.range_store.specs.declared.store.format_loading.Spread.{Spread}
 use Rattle.range_store.specs.Store.{Store}
 use Rattle.range_store.proofs.SpreadLaws.{spread_leaf, spread_place, spread_known, spread_crowded, spread_news}
@@ -60,22 +60,13 @@ returns c =
     (c.find-held.ensures, c.as_slice.ensures, c.if-crowds.false) at c.crowds.ensures in
     let number : c.len.result + c.len-2.result ≡ length s.entries + length a.entries.items = omega
     (arith, c.len.ensures.count, c.len-2.ensures, ap (λ (t : Store). length t.entries) c.self.view_is) in
-    let e : Entry = record {
-      number = c.len.result + c.len-2.result;
-      seat = c.args.seat;
-      source = Copy;
-      key = c.in_ok-try_clone.field-0;
-      version = c.in_ok-try_clone-2.field-0;
-    } in
-    let made : e ≡ record { number = length s.entries + length a.entries.items; seat = c.args.seat; source = Copy; key = key; version = v } =
-    λ i. record {
+    let tree = (given _ _ _ _ c.in_ok-offer.ensures).1 ∙ ap (offered_to a.tree key) c.in_ok-row_version.ensures.1 in
+    let entries = c.push_reserved.ensures.items ∙ (λ i. c.in_ok-reserve.ensures.items i ++ record {
       number = number i;
       seat = c.args.seat;
       source = Copy;
       key = c.in_ok-try_clone.ensures.1 i;
       version = c.in_ok-try_clone-2.ensures.1 i;
-    } in
-    let next = spread_news s c.args.seat offers key v c.in_ok-row_version.row_version a b e is fresh fits c.in_ok-row_version.ensures.1 made
-    (given _ _ _ _ c.in_ok-offer.ensures).1 (c.push_reserved.ensures.items ∙ ap (λ (es : List Entry). es ++ e ∷ []) c.in_ok-reserve.ensures.items)
-    (λ i. a.known) in
+    } ∷ []) in
+    let next = spread_news s c.args.seat offers key v a b is fresh fits tree entries (λ i. a.known) in
     (next.fits, next)
