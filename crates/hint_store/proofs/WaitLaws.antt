@@ -216,23 +216,32 @@ no_due hints index o after p a at other =
       ]
     ]))
 
+-- an owner's entry that stands at the place after all entries up to an id
+record IsNextOf (index : List Waiting) (o after p : ℕ) (w : Waiting) : Type 0 where
+  pub place_is : IsPartitionPoint (λ v. is_up_to o after v ≡ true) (λ v. is_up_to o after v ≡ false) index p
+  pub within : p < length index
+  pub stands : get_or index p w ≡ w
+  pub same_owner : w.owner ≡ o
+  pub over : after < w.id
+
 -- if an entry of the owner stands at the place, its hint is the first that is due
 one_due : (hints : List Kept) (index : List Waiting) (o after p : ℕ) (w : Waiting) → HaveIdsFrom 1 hints → AreWaiting hints index
-    → IsPartitionPoint (λ v. is_up_to o after v ≡ true) (λ v. is_up_to o after v ≡ false) index p
-    → p < length index → get_or index p w ≡ w → w.owner ≡ o → after < w.id → ids (find (is_due (o ∷ []) after) hints) ≡ Some w.id
-one_due hints index o after p w numbered a at here is same over =
+    → IsNextOf index o after p w → ids (find (is_due (o ∷ []) after) hints) ≡ Some w.id
+one_due hints index o after p w numbered a next =
+    let here = next.within in
+    let is = next.stands in
     let kept = pending_of hints index p w a here in
-    let owner : kept.kept.hint.owner ≡ o = kept.same_owner ∙ (ap (λ (u : Waiting). u.owner) is ∙ same) in
+    let owner : kept.kept.hint.owner ≡ o = kept.same_owner ∙ (ap (λ (u : Waiting). u.owner) is ∙ next.same_owner) in
     let id : kept.kept.hint.id ≡ w.id = kept.same_id ∙ ap (λ (u : Waiting). u.id) is in
     let number : kept.kept.hint.id ≡ 1 + kept.place = ap (λ (x : Kept). x.hint.id) (sym kept.stands)
     ∙ id_at 1 hints kept.place kept.kept numbered kept.inside in
     let due : is_due (o ∷ []) after kept.kept ≡ true = due_from o after kept.kept
-    (record { pending = kept.pending; over = omega (arith, id, over); same_owner = owner }) in
+    (record { pending = kept.pending; over = omega (arith, id, next.over); same_owner = owner }) in
     let first = find_first (is_due (o ∷ []) after) hints kept.place kept.kept kept.inside
     (subst (λ x. is_due (o ∷ []) after x ≡ true) (sym kept.stands) due)
     (λ k less. false_from_ne_true (is_due (o ∷ []) after (get_or hints k kept.kept)) (λ t.
     let inside : k < length hints = omega (arith, kept.inside) in
-    let found = due_entry hints index o after p k kept.kept a at inside t in
+    let found = due_entry hints index o after p k kept.kept a next.place_is inside t in
     let v = found.0 in
     let earlier : (get_or hints k kept.kept).hint.id ≡ 1 + k = id_at 1 hints k kept.kept numbered inside in
     elim (cases_eq p v.place) [
@@ -242,7 +251,7 @@ one_due hints index o after p w numbered a at here is same over =
           omega (arith, alike, v.same_id, earlier, id, number)
       | inr apart ↦ elim (subst (λ u. IsBefore u v.entry) (get_or_same index p v.entry w here ∙ is)
           (subst (IsBefore (get_or index p v.entry)) v.stands (a.ascending p v.place v.entry (omega (arith, found.1)) v.inside))) [
-            | inl before ↦ omega (arith, before, same, v.same_owner)
+            | inl before ↦ omega (arith, before, next.same_owner, v.same_owner)
             | inr later ↦ omega (arith, later.1, v.same_id, earlier, id, number)
           ]
     ])) in
@@ -262,7 +271,8 @@ first_due hints index o after p numbered a at = elim (slice_get_cases index p).1
             ∙ ap ids (sym (no_due hints index o after p a at
             (λ v here is. subst (λ u. o < u.owner) (sym there.3 ∙ (get_or_same index p w v here ∙ is)) over)))
         | inr later ↦ ap (λ b. cond b (Some w.id) None) (eq-eqb w.owner o later.0)
-            ∙ sym (one_due hints index o after p w numbered a at there.1 there.3 later.0 later.1)
+            ∙ sym (one_due hints index o after p w numbered a
+            (record { place_is = at; within = there.1; stands = there.3; same_owner = later.0; over = later.1 }))
       ]
 ]
 
