@@ -155,18 +155,30 @@ search_finds seed size rs key next place r s one at same = ap before (
     ∙ ap (λ b. cond b (suc place) (last_with (is_of key) rs place)) (ap (is_with (is_of key)) at ∙ same)
     )
 
+-- the next row of a search, which is of another key, and the row that its link leads to
+pub record IsPassed (rs : List TableRow) (earlier : List ℕ) (key : List ℕ) (next new : ℕ) : Type 0 where
+  pub place : ℕ
+  pub row : TableRow
+  pub one : next ≡ suc place
+  pub at : slice_get rs place ≡ Some row
+  pub differs : bytes_eq row.key key ≡ false
+  pub linked : slice_get earlier place ≡ Some new
+
 -- the next row is of another key
-pub search_goes_on : (seed : Seed) (rs : List TableRow) (size : ℕ) (last earlier : List ℕ) (key : List ℕ) (next place : ℕ) (r : TableRow) (new : ℕ)
+pub search_goes_on : (seed : Seed) (rs : List TableRow) (size : ℕ) (last earlier : List ℕ) (key : List ℕ) (next new : ℕ)
     → IsIndex seed rs size last earlier → length earlier ≡ length rs
-    → IsSearched seed size rs key next → next ≡ suc place → slice_get rs place ≡ Some r → bytes_eq r.key key ≡ false
-    → slice_get earlier place ≡ Some new → IsSearched seed size rs key new × (new < next)
-search_goes_on seed rs size last earlier key next place r new is all s one at differ linked =
+    → IsSearched seed size rs key next → IsPassed rs earlier key next new → IsSearched seed size rs key new × (new < next)
+search_goes_on seed rs size last earlier key next new is all s passed =
     let bucket = bucket_of seed size key in
+    let place = passed.place in
+    let r = passed.row in
+    let one = passed.one in
+    let at = passed.at in
     let here = last_has (is_in seed size bucket) rs s.from place (sym s.next_is ∙ one) in
     let of_bucket : bucket_of seed size r.key ≡ bucket = eqb-true (bucket_of seed size r.key) bucket
     (ap (is_with (is_in seed size bucket)) (sym at) ∙ here.1) in
     let below = slice_get_within rs place r at in
-    let known : Some new ≡ Some (last_with (is_in seed size (bucket_of seed size r.key)) rs place) = sym linked
+    let known : Some new ≡ Some (last_with (is_in seed size (bucket_of seed size r.key)) rs place) = sym passed.linked
     ∙ is.earlier_is place r (omega (arith, below, all)) at in
     let same : new ≡ last_with (is_in seed size (bucket_of seed size r.key)) rs place = cc in
     let next_is : new ≡ last_with (is_in seed size bucket) rs place = same ∙ ap (λ b. last_with (is_in seed size b) rs place) of_bucket in (
@@ -175,7 +187,7 @@ search_goes_on seed rs size last earlier key next place r new is all s one at di
         within = omega (arith, below);
         next_is = next_is;
         among = up_to_next seed size rs key next s ∙ ap (last_with (is_of key) rs) one
-            ∙ ap (λ b. cond b (suc place) (last_with (is_of key) rs place)) (ap (is_with (is_of key)) at ∙ differ);
+            ∙ ap (λ b. cond b (suc place) (last_with (is_of key) rs place)) (ap (is_with (is_of key)) at ∙ passed.differs);
       },
       omega (arith, next_is, one, last_within (is_in seed size bucket) rs place),
     )

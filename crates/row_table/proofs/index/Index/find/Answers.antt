@@ -75,8 +75,8 @@ step c =
     (length s.earlier.items) place c.index-next.result.now refl (omega (arith, below, c.requires.all)) c.index-next.ensures in
     let key : c.as_slice.result.now ≡ r.key = c.as_slice.ensures ∙ ap (λ (x : TableRow). x.key) (sym c.index-rows-place.is) in
     let differ : bytes_eq r.key c.args.key.now ≡ false = sym (c.eq.ensures ∙ ap (λ k. bytes_eq k c.args.key.now) key) ∙ c.if-eq.false in
-    search_goes_on c.args.seed rs s.size s.last.items s.earlier.items c.args.key.now c.loop-next.next place r c.index-next.result.now c.requires.index
-    c.requires.all c.loop-next.invariant one at differ linked
+    search_goes_on c.args.seed rs s.size s.last.items s.earlier.items c.args.key.now c.loop-next.next c.index-next.result.now c.requires.index
+    c.requires.all c.loop-next.invariant (record { place = place; row = r; one = one; at = at; differs = differ; linked = linked })
 
 pub loop-next-smaller : goal.loop-next-smaller
 loop-next-smaller c = (step c).1
