@@ -151,28 +151,46 @@ set_in format bytes len key count versions fits l k n e =
     let range = and_parts (leb 1 count.0) (leb count.0 64) field.passed in
     set_read format count.0 count.1 versions field.takes.rest_fits (leb-true count.0 64 range.1) e
 
+-- the parts of a row, read one after another: its key's length, its key, the count of its versions, and those
+record ReadParts (format : Format) (bytes key : List ℕ) (vs : List Version) (rest : List ℕ) : Type 0 where
+  pub len : ℕ
+  pub after_len : List ℕ
+  pub after_key : List ℕ
+  pub count : ℕ
+  pub after_count : List ℕ
+  pub len_takes : Takes bytes (to_be_bytes w16 len) after_len
+  pub len_fits : (leb 1 len ≡ true) × (leb len 255 ≡ true)
+  pub key_takes : Takes after_len key after_key
+  pub key_len : length key ≡ len
+  pub count_takes : Takes after_key (to_be_bytes w16 count) after_count
+  pub count_fits : (leb 1 count ≡ true) × (leb count 64 ≡ true)
+  pub read : ReadVersions format count [] [] after_count vs rest
+
 -- the parts of a row that were read, put together
-made_row : (format : Format) (bytes : List ℕ) (len : ℕ) (r1 key r2 : List ℕ) (count : ℕ) (r3 : List ℕ) (vs : List Version) (rest : List ℕ)
-    → Takes bytes (to_be_bytes w16 len) r1 → (leb 1 len ≡ true) × (leb len 255 ≡ true) → Takes r1 key r2 → length key ≡ len
-    → Takes r2 (to_be_bytes w16 count) r3 → (leb 1 count ≡ true) × (leb count 64 ≡ true)
-    → ReadVersions format count [] [] r3 vs rest → Takes bytes (row_text format (record { key = key; versions = vs })) rest
-    × IsRow format (record { key = key; versions = vs })
+made_row : (format : Format) (bytes key : List ℕ) (vs : List Version) (rest : List ℕ) → ReadParts format bytes key vs rest
+    → Takes bytes (row_text format (record { key = key; versions = vs })) rest × IsRow format (record { key = key; versions = vs })
 unfolding row_text
-made_row format bytes len r1 key r2 count r3 vs rest t1 len_fits t2 key_len t3 count_fits read =
+made_row format bytes key vs rest parts =
+    let r1 = parts.after_len in
+    let r2 = parts.after_key in
+    let r3 = parts.after_count in
+    let read = parts.read in
+    let key_len = parts.key_len in
     let same : read.new ≡ vs = sym read.all_is in
-    let many : length vs ≡ count = subst (λ (ws : List Version). length ws ≡ count) same read.count in
-    let len_field : Takes bytes (to_be_bytes w16 (length key)) r1 = subst (λ (n : ℕ). Takes bytes (to_be_bytes w16 n) r1) (sym key_len) t1 in
-    let count_field : Takes r2 (to_be_bytes w16 (length vs)) r3 = subst (λ (n : ℕ). Takes r2 (to_be_bytes w16 n) r3) (sym many) t3 in
+    let many : length vs ≡ parts.count = subst (λ (ws : List Version). length ws ≡ parts.count) same read.count in
+    let len_field : Takes bytes (to_be_bytes w16 (length key)) r1 =
+    subst (λ (n : ℕ). Takes bytes (to_be_bytes w16 n) r1) (sym key_len) parts.len_takes in
+    let count_field : Takes r2 (to_be_bytes w16 (length vs)) r3 = subst (λ (n : ℕ). Takes r2 (to_be_bytes w16 n) r3) (sym many) parts.count_takes in
     let versions : Takes r3 (flat_map (version_text format) vs) rest = subst
     (λ (ws : List Version). Takes r3 (flat_map (version_text format) ws) rest) same read.takes in
-    let front = Takes-then bytes (to_be_bytes w16 (length key)) r1 key r2 len_field t2 in
+    let front = Takes-then bytes (to_be_bytes w16 (length key)) r1 key r2 len_field parts.key_takes in
     let more = Takes-then bytes (to_be_bytes w16 (length key) ++ key) r2 (to_be_bytes w16 (length vs)) r3 front count_field in (
       Takes-then bytes ((to_be_bytes w16 (length key) ++ key) ++ to_be_bytes w16 (length vs)) r3
           (flat_map (version_text format) vs) rest more versions,
       record {
-        key = key_of key (rw key_len (leb-true _ _ len_fits.0)) (rw key_len (leb-true _ _ len_fits.1));
-        some = rw many (leb-true _ _ count_fits.0);
-        few = rw many (leb-true _ _ count_fits.1);
+        key = key_of key (rw key_len (leb-true _ _ parts.len_fits.0)) (rw key_len (leb-true _ _ parts.len_fits.1));
+        some = rw many (leb-true _ _ parts.count_fits.0);
+        few = rw many (leb-true _ _ parts.count_fits.1);
         each = subst (λ (ws : List Version). AllByRecursion (IsVersion format) ws) same read.each;
         ascending = subst (λ (ws : List Version). AreAscending format [] ws) same read.ascending;
         apart = read.apart tt;
@@ -199,8 +217,20 @@ row_takes format bytes x fits e =
     let versions = versions_takes format c.0.0 [] [] c.0.1 d.0 count.takes.rest_fits d.1 in
     subst (λ (y : Row × List ℕ). Takes bytes (row_text format y.0) y.1 × IsRow format y.0)
     (ok_is (record { key = b.0.0; versions = d.0.0 }, d.0.1) x d.2)
-    (made_row format bytes a.0.0 a.0.1 b.0.0 b.0.1 c.0.0 c.0.1 d.0.0 d.0.1 len.takes (and_parts _ _ len.passed) key.0 key.1 count.takes
-    (and_parts _ _ count.passed) versions)
+    (made_row format bytes b.0.0 d.0.0 d.0.1 (record {
+      len = a.0.0;
+      after_len = a.0.1;
+      after_key = b.0.1;
+      count = c.0.0;
+      after_count = c.0.1;
+      len_takes = len.takes;
+      len_fits = and_parts _ _ len.passed;
+      key_takes = key.0;
+      key_len = key.1;
+      count_takes = count.takes;
+      count_fits = and_parts _ _ count.passed;
+      read = versions;
+    }))
 
 -- a row that is spelled so is read
 pub row_again : (format : Format) (r : Row) (rest : List ℕ) → IsRow format r → row_at format (row_text format r ++ rest) ≡ Ok (r, rest)
