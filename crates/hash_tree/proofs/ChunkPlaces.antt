@@ -259,11 +259,26 @@ split_back (c ∷ chunks) (suc i) a b h =
     let next : suc i + 1 ≡ suc (i + 1) = omega arith in
     rw next (split_back chunks i a b (omega arith))
 
-pub is_split : (chunks : List Bucket) (i cut : ℕ) (old a b : Bucket) → i < length chunks → length chunks < 2 ^ 56 → 1 ≤ cut → cut < 15
-    → old ≡ get_or chunks i old → length old.rows ≡ 15
-    → a ≡ record { format = old.format; rows = take cut old.rows } → b ≡ record { format = old.format; rows = drop cut old.rows }
+-- a full chunk that was cut into its front and its back
+pub record IsCut (chunks : List Bucket) (i cut : ℕ) (old a b : Bucket) : Type 0 where
+  pub within : i < length chunks
+  pub room : length chunks < 2 ^ 56
+  pub some : 1 ≤ cut
+  pub less : cut < 15
+  pub is : old ≡ get_or chunks i old
+  pub full : length old.rows ≡ 15
+  pub front : a ≡ record { format = old.format; rows = take cut old.rows }
+  pub back : b ≡ record { format = old.format; rows = drop cut old.rows }
+
+-- the parts of a chunk that was cut stand in its place
+pub is_split : (chunks : List Bucket) (i cut : ℕ) (old a b : Bucket) → IsCut chunks i cut old a b
     → IsSplit chunks i cut (insert (set chunks i a) (i + 1) b)
-is_split chunks i cut old a b h few some less is full front back =
+is_split chunks i cut old a b halves =
+    let h = halves.within in
+    let less = halves.less in
+    let full = halves.full in
+    let front = halves.front in
+    let back = halves.back in
     let parts = insert (set chunks i a) (i + 1) b in
     let is_a = ap (λ (x : Bucket). x.rows) front in
     let is_b = ap (λ (x : Bucket). x.rows) back in
@@ -275,23 +290,23 @@ is_split chunks i cut old a b h few some less is full front back =
     (arith, length-insert (set chunks i a) (i + 1) b (omega (arith, h, length-set chunks i a)), length-set chunks i a) in
     let at = split_front chunks i a b h in
     record {
-      rows = split_rows chunks i a b h (whole ∙ rows_read chunks i old h is);
+      rows = split_rows chunks i a b h (whole ∙ rows_read chunks i old h halves.is);
       more = many;
       before = split_before chunks i a b h;
       front = ap (λ (rows : List Row). length rows) at ∙ long_a;
       first = rows_more parts i (omega (arith, many, h)) ∙ ap (λ (cs : List Bucket). all_rows cs ++ chunk_rows parts i) (split_before chunks i a b h);
       back = omega (arith, ap (λ (rows : List Row). length rows) (split_back chunks i a b h), long_b);
       each = λ format are.
-          let was : IsChunk format old = subst (IsChunk format) (sym is) (all_get (IsChunk format) chunks i old are.each h) in
+          let was : IsChunk format old = subst (IsChunk format) (sym halves.is) (all_get (IsChunk format) chunks i old are.each h) in
           record {
             each = all-insert (IsChunk format) (set chunks i a) (i + 1) b
                 (record { same = ap (λ (x : Bucket). x.format) back ∙ was.same; some = omega (arith, long_b, less); few = omega (arith, long_b) })
                 (all-set (IsChunk format) chunks i a
                 (record {
                   same = ap (λ (x : Bucket). x.format) front ∙ was.same;
-                  some = omega (arith, long_a, some);
+                  some = omega (arith, long_a, halves.some);
                   few = omega (arith, long_a, less);
                 }) are.each);
-            few = omega (arith, many, few);
+            few = omega (arith, many, halves.room);
           };
     }

@@ -23,6 +23,14 @@ returns-clause-split c =
     let parts = given _ _ _ _ c.in_ok-back.ensures in
     rw now (
       refl,
-      is_split chunks i c.args.cut old c.split.new.self c.in_ok-back.back c.requires.within few c.requires.some c.requires.less is
-          (omega (arith, c.requires.full, ap (λ (rs : List Row). length rs) (rows_read chunks i old c.requires.within is))) parts.1 parts.0,
+      is_split chunks i c.args.cut old c.split.new.self c.in_ok-back.back (record {
+        within = c.requires.within;
+        room = few;
+        some = c.requires.some;
+        less = c.requires.less;
+        is = is;
+        full = omega (arith, c.requires.full, ap (λ (rs : List Row). length rs) (rows_read chunks i old c.requires.within is));
+        front = parts.1;
+        back = parts.0;
+      }),
     )
