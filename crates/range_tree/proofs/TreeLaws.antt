@@ -209,17 +209,24 @@ keys_offered P k v (r ∷ rows) here all =
       | Greater ↦ (all.0, keys_offered P k v rows here all.1)
     ]
 
+-- a version that is offered to a key of the range, whose rows have room for it
+pub record IsOffer (m : RowMap) (k : List ℕ) (v : Version) : Type 0 where
+  pub here : range_at m.bits k ≡ m.range
+  pub key : key_fault k ≡ None
+  pub value : value_fault m.format v.kind v.value ≡ None
+  pub clock : IsClock v.clock
+  pub room : offer_fault v (versions_in k m.rows) ≡ None
+
 -- rows after an offer differ in the leaf of its key
-pub offer_changes : (m : RowMap) (leaf : ℕ) (key : List ℕ) (v : Version) → IsRowMap m → leaf ≡ leaf_in m key → range_at m.bits key ≡ m.range
-    → key_fault key ≡ None → value_fault m.format v.kind v.value ≡ None → IsClock v.clock → offer_fault v (versions_in key m.rows) ≡ None
+pub offer_changes : (m : RowMap) (leaf : ℕ) (key : List ℕ) (v : Version) → IsRowMap m → leaf ≡ leaf_in m key → IsOffer m key v
     → IsChange m leaf (set (leaves_of m) leaf (leaf_with_offer key v (bucket_of m leaf))) (record m { rows = with_offer key v m.rows })
-offer_changes m leaf key v ok at here k value clock room = record {
+offer_changes m leaf key v ok at offer = record {
   rows = record {
     few = ok.few;
     range = ok.range;
     ascending = AscendByKey-with_offer key v m.rows ok.ascending;
-    each = rows_offered m.format key v m.rows k value clock room ok.each;
-    here = keys_offered (λ (x : List ℕ). range_at m.bits x ≡ m.range) key v m.rows here ok.here;
+    each = rows_offered m.format key v m.rows offer.key offer.value offer.clock offer.room ok.each;
+    here = keys_offered (λ (x : List ℕ). range_at m.bits x ≡ m.range) key v m.rows offer.here ok.here;
   };
   same = refl;
   within = omega (arith, at, leaf_below m.format m.bits key);
@@ -237,7 +244,8 @@ pub offered_right : (t : RangeTree) (key : List ℕ) (v : Version) → IsRangeTr
 offered_right t key v ok here k value clock room =
     let leaf = leaf_in t.map key in
     changed_right t leaf (set (leaves_of t.map) leaf (leaf_with_offer key v (bucket_of t.map leaf)))
-    (record t.map { rows = with_offer key v t.map.rows }) ok (offer_changes t.map leaf key v ok.rows refl here k value clock room)
+    (record t.map { rows = with_offer key v t.map.rows }) ok
+    (offer_changes t.map leaf key v ok.rows refl (record { here = here; key = k; value = value; clock = clock; room = room }))
 
 -- ---- fields after a change
 
@@ -268,18 +276,16 @@ change_makes now format bits range leaves marks leaf m others dirty fields chang
 -- fields after an offer
 pub offer_makes : (now : RangeTree) (format : Format) (bits range : ℕ) (leaves : List Bucket) (marks : Tree) (leaf : ℕ) (key : List ℕ) (v : Version)
     (others : List Bucket) (dirty : Tree) → AreFields now format bits range leaves marks → leaf ≡ leaf_in now.map key
-    → range_at now.map.bits key ≡ now.map.range → key_fault key ≡ None → value_fault now.map.format v.kind v.value ≡ None → IsClock v.clock
-    → offer_fault v (versions_in key now.map.rows) ≡ None
-    → others ≡ set leaves leaf (leaf_with_offer key v (nth_leaf leaves leaf))
+    → IsOffer now.map key v → others ≡ set leaves leaf (leaf_with_offer key v (nth_leaf leaves leaf))
     → dirty ≡ record { format = marks.format; digests = dirtied marks.format leaf marks.digests }
     → Makes (offered_to now key v) format bits range others dirty
-offer_makes now format bits range leaves marks leaf key v others dirty fields at here k value clock room all path =
+offer_makes now format bits range leaves marks leaf key v others dirty fields at offer all path =
     let ok = subst IsRangeTree fields.view fields.right in
     let are = subst (λ (t : RangeTree). AreLeaves t.map leaves) fields.view fields.leaves_are in
     let m : RowMap = record now.map { rows = with_offer key v now.map.rows } in
     let is : others ≡ set (leaves_of now.map) leaf (leaf_with_offer key v (bucket_of now.map leaf)) =
     all ∙ (λ i. set (leaves_are now.map leaves are i) leaf (leaf_with_offer key v (nth_is now.map leaves leaf key are at i))) in
     let change : IsChange now.map leaf others m = subst (λ (xs : List Bucket). IsChange now.map leaf xs m) (sym is)
-    (offer_changes now.map leaf key v ok.rows at here k value clock room) in
+    (offer_changes now.map leaf key v ok.rows at offer) in
     subst (λ (n : ℕ). Makes (with_rows now n m) format bits range others dirty) at
     (change_makes now format bits range leaves marks leaf m others dirty fields change path)

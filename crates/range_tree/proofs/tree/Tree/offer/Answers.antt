@@ -51,7 +51,13 @@ makes c =
     let i = c.self.inside in
     offer_makes c.args.self.now i.format i.bits i.range i.leaves i.marks c.args.leaf c.args.key.now c.args.version c.offer.new.self c.dirty.new.self
     (record { view = c.self.view_is; right = c.self.invariant.0; leaves_are = c.self.invariant.1; format_is = c.self.invariant.2 })
-    c.requires.leaf c.requires.here c.requires.key c.requires.value c.pairs-valid.ensures.valid c.requires.room
+    c.requires.leaf (record {
+      here = c.requires.here;
+      key = c.requires.key;
+      value = c.requires.value;
+      clock = c.pairs-valid.ensures.valid;
+      room = c.requires.room;
+    })
     (given _ _ _ _ c.in_ok-offer.ensures).1 c.dirty.ensures.path
 
 pub invariant_of-self-2 : goal.invariant_of-self-2
