@@ -151,26 +151,50 @@ none_left : (l : Option (List ℕ)) → IsAtEnd l → (rest : List ℕ) → l �
 none_left None h rest e = cc
 none_left (Some l) h rest e = let same : l ≡ rest = cc in sym same ∙ h
 
--- the input came to its end
-pub runs_finished : (found left left' before after after' after'' : Option (List ℕ)) (p q : Place) (some : List ℕ) (end : Option ScriptEnd)
-    (result : ScriptEnd) → Progress found left before after p → Consumes left left' [] → IsAtEnd left' → Appends after after' some
-    → Finishes end q (to_come p []) some → Keeps after' after'' → (result ≡ end_of end) ⊎ (result ≡ Device) → Runs result found left' before after''
-runs_finished found left left' before after after' after'' p q some end result old reads at_end wrote last kept ended =
-    runs result found left' before after'' old.bytes (old.written ++ some)
-    (rw (append-nil old.bytes) at (consumes_both found left left' old.bytes [] old.reads reads))
-    (appends_none before after' after'' (old.written ++ some) (appends_both before after after' old.written some old.writes wrote) kept)
-    (λ rest e. flushed_right (end_of end) result old.bytes rest (old.written ++ some) ended (by_end end last rest (none_left left' at_end rest e)))
-  where
-    whole : script_outcome old.bytes ≡ preceded old.written (to_come p [])
-    whole = at_end_of found left before after p old
+-- a run that came to the end of its input, what was written then, and the flush after it
+pub record HasFinished (found left' before after'' : Option (List ℕ)) (result : ScriptEnd) : Type 0 where
+  pub left : Option (List ℕ)
+  pub after : Option (List ℕ)
+  pub after' : Option (List ℕ)
+  pub p : Place
+  pub q : Place
+  pub some : List ℕ
+  pub end : Option ScriptEnd
+  pub old : Progress found left before after p
+  pub reads : Consumes left left' []
+  pub at_end : IsAtEnd left'
+  pub wrote : Appends after after' some
+  pub last : Finishes end q (to_come p []) some
+  pub kept : Keeps after' after''
+  pub ended : (result ≡ end_of end) ⊎ (result ≡ Device)
 
-    by_end : (f : Option ScriptEnd) → Finishes f q (to_come p []) some → (rest : List ℕ) → rest ≡ []
+-- the input came to its end
+pub runs_finished : (found left' before after'' : Option (List ℕ)) (result : ScriptEnd) → HasFinished found left' before after'' result
+    → Runs result found left' before after''
+runs_finished found left' before after'' result r =
+    runs result found left' before after'' old.bytes (old.written ++ some)
+    (rw (append-nil old.bytes) at (consumes_both found r.left left' old.bytes [] old.reads r.reads))
+    (appends_none before r.after' after'' (old.written ++ some)
+    (appends_both before r.after r.after' old.written some old.writes r.wrote) r.kept)
+    (λ rest e. flushed_right (end_of r.end) result old.bytes rest (old.written ++ some) r.ended
+    (by_end r.end r.last rest (none_left left' r.at_end rest e)))
+  where
+    old : Progress found r.left before r.after r.p
+    old = r.old
+
+    some : List ℕ
+    some = r.some
+
+    whole : script_outcome old.bytes ≡ preceded old.written (to_come r.p [])
+    whole = at_end_of found r.left before r.after r.p old
+
+    by_end : (f : Option ScriptEnd) → Finishes f r.q (to_come r.p []) some → (rest : List ℕ) → rest ≡ []
         → IsRightEnd (end_of f) old.bytes rest (old.written ++ some)
     by_end None e rest none =
         let is : script_outcome old.bytes ≡ record { text = old.written ++ some; bad = None; spoiled = None } = whole ∙ ap (preceded old.written) e in
         (none, record { text = ap (λ o. o.text) is; bad = ap (λ o. o.bad) is })
     by_end (Some f) e rest none =
-        let ends : Ends f (script_outcome old.bytes) (old.written ++ some) = rw whole (ends_later f (to_come p []) some old.written e.0) in
+        let ends : Ends f (script_outcome old.bytes) (old.written ++ some) = rw whole (ends_later f (to_come r.p []) some old.written e.0) in
         rw none (right_of f old.bytes [] (old.written ++ some) ends (rw (append-nil old.bytes) ends))
 
 -- ---- the bad line that a run ended at

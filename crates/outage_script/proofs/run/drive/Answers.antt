@@ -23,9 +23,23 @@ returns-in-Ok-eq0 g c =
     let ended : (c.flushed.result ≡ unwrap_or c.finish-last.result Done) ⊎
     (c.flushed.result ≡ Device) = rw c.unwrap_or.ensures at c.flushed.ensures.end in
     record {
-      runs = runs_finished (remaining c.args.reader.now) (remaining c.loop-calls.reader) (remaining c.read.new.self)
-          (contents c.args.writer.now) (contents c.loop-calls.writer) (contents c.finish-last.new.writer) (contents c.flushed.new.writer)
-          p q last.0 c.finish-last.result c.flushed.result c.loop-calls.invariant.run reads at_end last.1 last.2 c.flushed.ensures.kept ended;
+      runs = runs_finished (remaining c.args.reader.now) (remaining c.read.new.self) (contents c.args.writer.now) (contents c.flushed.new.writer)
+          c.flushed.result (record {
+            left = remaining c.loop-calls.reader;
+            after = contents c.loop-calls.writer;
+            after' = contents c.finish-last.new.writer;
+            p = p;
+            q = q;
+            some = last.0;
+            end = c.finish-last.result;
+            old = c.loop-calls.invariant.run;
+            reads = reads;
+            at_end = at_end;
+            wrote = last.1;
+            last = last.2;
+            kept = c.flushed.ensures.kept;
+            ended = ended;
+          });
       holds = holds_finished (remaining c.args.reader.now) (remaining c.loop-calls.reader) (remaining c.read.new.self)
           (contents c.args.writer.now) (contents c.loop-calls.writer)
           p q last.0 c.finish-last.result c.flushed.result c.loop-calls.invariant.run reads at_end last.2 ended;
