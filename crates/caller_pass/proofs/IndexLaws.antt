@@ -190,20 +190,31 @@ falls es index place e earlier is below at before =
     let same : earlier ≡ last_of es (key_hash e.key) place = cc in
     omega (arith, last_of_within es (key_hash e.key) place)
 
+-- a step of a walk: its next entry, whether that is missing, and the link from it
+pub record IsWalkStep (es : List Entry) (index : ByKey) (key : List ℕ) (vs : List Version) (next : ℕ) (found : Option ℕ) (earlier : ℕ)
+    (now : Option ℕ) : Type 0 where
+  pub entry : Entry
+  pub missing : Bool
+  pub more : 0 < next
+  pub at : slice_get es (next - 1) ≡ Some entry
+  pub before : slice_get index.earlier.items (next - 1) ≡ Some earlier
+  pub tested : missing ≡ is_missing entry key vs
+  pub now_is : now ≡ cond missing (Some entry.number) found
+
 -- the walk after its next entry
-pub walk_goes_on : (es : List Entry) (index : ByKey) (key : List ℕ) (vs : List Version) (next : ℕ) (found : Option ℕ) (e : Entry) (missing : Bool)
-    (earlier : ℕ) (now : Option ℕ)
-    → IsIndex es index → IsWalked es index key vs next found → 0 < next → slice_get es (next - 1) ≡ Some e
-    → slice_get index.earlier.items (next - 1) ≡ Some earlier
-    → missing ≡ is_missing e key vs → now ≡ cond missing (Some e.number) found → IsWalked es index key vs earlier now
-walk_goes_on es index key vs next found e missing earlier now is w more at before tested now_is =
+pub walk_goes_on : (es : List Entry) (index : ByKey) (key : List ℕ) (vs : List Version) (next : ℕ) (found : Option ℕ) (earlier : ℕ) (now : Option ℕ)
+    → IsIndex es index → IsWalked es index key vs next found → IsWalkStep es index key vs next found earlier now
+    → IsWalked es index key vs earlier now
+walk_goes_on es index key vs next found earlier now is w step =
+    let e = step.entry in
+    let at = step.at in
     let place = next - 1 in
-    let one : next ≡ suc place = omega arith in
+    let one : next ≡ suc place = omega (arith, step.more) in
     let here = last_is_of es (key_hash key) w.from place (sym w.next_is ∙ one) in
     let below : place < length index.earlier.items = omega (arith, w.below) in
     let of_front : key_hash e.key ≡ key_hash key = eqb-true (key_hash e.key) (key_hash key)
     (ap (λ o. is_entry_of o (key_hash key)) (sym at) ∙ here.1) in
-    let known : Some earlier ≡ Some (last_of es (key_hash e.key) place) = sym before ∙ is.earlier place e below at in
+    let known : Some earlier ≡ Some (last_of es (key_hash e.key) place) = sym step.before ∙ is.earlier place e below at in
     let same : earlier ≡ last_of es (key_hash e.key) place = cc in
     let was : found ≡ first_missing (drop (suc place) es) key vs =
     w.found_is ∙ sym (first_from_last es key vs w.from w.within) ∙ ap (λ n. first_missing (drop n es) key vs) (sym w.next_is ∙ one) in
@@ -213,7 +224,7 @@ walk_goes_on es index key vs next found e missing earlier now is w more at befor
       below = omega (arith, last_of_within es (key_hash e.key) place);
       next_is = same ∙ ap (λ f. last_of es f place) of_front;
       found_is =
-          now_is
-          ∙ (λ i. cond (tested i) (Some e.number) (was i))
+          step.now_is
+          ∙ (λ i. cond (step.tested i) (Some e.number) (was i))
           ∙ ap (λ xs. first_missing xs key vs) (sym (drop_at es place e at));
     }

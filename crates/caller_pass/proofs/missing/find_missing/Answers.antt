@@ -39,9 +39,16 @@ loop-next-preserved c =
       | then-is_missing w ↦ w.found-is ∙ ap (λ b. cond b (Some e.number) was) (sym w.if-is_missing.true)
       | else-is_missing w ↦ w.found-is ∙ ap (λ b. cond b (Some e.number) was) (sym w.if-is_missing.false)
     ] in
-    walk_goes_on es c.args.by_key.now key vs c.loop-next.next was e c.is_missing.result c.earlier-next.result c.if-is_missing.found c.requires
-    c.loop-next.invariant c.loop-next-test.true at c.earlier-next.ensures
-    (c.is_missing.ensures ∙ ap (λ (k : List ℕ). is_missing e k vs) c.bytes-bytes.ensures) now
+    walk_goes_on es c.args.by_key.now key vs c.loop-next.next was c.earlier-next.result c.if-is_missing.found c.requires
+    c.loop-next.invariant (record {
+      entry = e;
+      missing = c.is_missing.result;
+      more = c.loop-next-test.true;
+      at = at;
+      before = c.earlier-next.ensures;
+      tested = c.is_missing.ensures ∙ ap (λ (k : List ℕ). is_missing e k vs) c.bytes-bytes.ensures;
+      now_is = now;
+    })
 
 pub returns : goal.returns
 returns c =
