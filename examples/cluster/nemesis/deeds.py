@@ -22,8 +22,9 @@ REST_S = 30.0
 #: Maximum number of lives before no more disks are lost: a key's clock can have 32, and each life may put the key.
 MOST_LIVES = 28
 
-#: Seconds that a node may take to serve, or to end, after a fault of its disk, and seconds between two looks.
-PATIENT_S, LOOK_S, LOOK_SOON_S = 15.0, 0.2, 0.05
+#: Seconds that a node may take to serve, or to end, after a fault of its disk, on a busy machine, and seconds between
+#: two looks.
+PATIENT_S, LOOK_S, LOOK_SOON_S = 300.0, 0.2, 0.05
 
 #: Seconds that an episode waits for nodes to serve. Nodes that are cut off may serve only later.
 START_S = 3.0
@@ -118,7 +119,7 @@ class Deeds:
 
     def come_to_rest(self) -> None:
         """Waits a short time until all replicas are equal and no hint is pending."""
-        rest.settle(self.nodes.base, PATIENT_S)
+        rest.settle(self.nodes.base, REST_S)
 
     # ---- disks
 
@@ -185,15 +186,16 @@ class Deeds:
 
     # ---- what must hold meanwhile
 
-    def expect(self, what: str, holds: Callable[[], bool]) -> None:
-        """Waits until a condition holds, and logs the outcome."""
+    def expect(self, what: str, holds: Callable[[], bool]) -> bool:
+        """Waits until a condition holds, and logs and returns the outcome."""
         until = time.monotonic() + PATIENT_S
         while not holds():
             if time.monotonic() > until:
                 self.log.write(op="expect", what=what, met=False)
-                return
+                return False
             time.sleep(LOOK_S)
         self.log.write(op="expect", what=what, met=True)
+        return True
 
     def status(self, place: int) -> dict:
         """Returns a node's status. If it doesn't respond, returns one of an empty node with a full disk."""

@@ -19,8 +19,8 @@ COPIES = 3
 #: Seconds between two looks.
 LOOK_S = 0.25
 
-#: Seconds that a whole dump may take.
-DUMP_S = 20.0
+#: Seconds that a whole dump may take, on a busy machine.
+DUMP_S = 300.0
 
 
 def settle(base: int, most_s: float, mode: Mode = ALL) -> Optional[float]:
