@@ -34,6 +34,7 @@ class LinkTest(unittest.TestCase):
                 "late": ("answered", 1),
                 "too_late": ("timeout", 1),
                 "repeated": ("answered", 2),
+                "late_with_a_limit": ("answered", 1),
             },
         )
         for name, least_ms in {"request_dropped": LIMIT_MS, "answer_dropped": LIMIT_MS, "late": 100}.items():

@@ -41,7 +41,8 @@ faults() ->
         {refused, "drop 1 2\ninstant\n", ?LONG_MS},
         {late, "late 1 2 60 60\nlate 2 1 40 40\n", ?LONG_MS},
         {too_late, "late 1 2 5000 5000\n", ?LIMIT_MS},
-        {repeated, "repeat 1000\n", ?LONG_MS}
+        {repeated, "repeat 1000\n", ?LONG_MS},
+        {late_with_a_limit, "late 1 2 200 200\nlimit 3600000\n", 50}
     ].
 
 call(Name, Faults, LimitMs) ->
