@@ -318,13 +318,19 @@ read_repair_test_() ->
     Version = #{clock => #{34 => 1}, value => <<"other">>},
     Other = fun
         (2, cluster_range, row, [_, Key]) ->
+            true = ets:insert(?DEEDS, {process, self()}),
             {ok, row(Version, Key)};
         (3, cluster_range, row, _) ->
+            true = ets:insert(?DEEDS, {process, self()}),
             ok = room:until(fun() -> ets:member(?DEEDS, answered) end),
             {ok, <<>>};
         (Place, cluster_range, take_row, [?RANGE, Key, Row]) ->
-            true = ets:insert(?DEEDS, {Place, Key, Row}),
+            true = ets:insert(?DEEDS, {repaired, {Place, Key, Row}, make_ref()}),
             {ok, Row}
+    end,
+    HaveEnded = fun(Count) ->
+        Processes = [Process || {process, Process} <- ets:lookup(?DEEDS, process)],
+        length(Processes) =:= Count andalso not lists:any(fun is_process_alive/1, Processes)
     end,
     as_place(1, Other, fun() ->
         Key = room:key(1),
@@ -332,13 +338,15 @@ read_repair_test_() ->
         Patience = fun([_, _]) -> ?NEVER_MS end,
         with_times(Patience, ?NEVER_MS, fun() ->
             ?assertEqual({ok, #{coordinator => 1, versions => [Version]}}, Get()),
-            true = ets:insert(?DEEDS, {answered, 1}),
-            ok = room:until(fun() -> ets:match_object(?DEEDS, {'_', '_', '_'}) =:= [{3, Key, row(Version, Key)}] end),
+            true = ets:insert(?DEEDS, {answered, true}),
+            ok = room:until(fun() -> HaveEnded(2) end),
+            [{repaired, Repaired, _}] = ets:lookup(?DEEDS, repaired),
+            ?assertEqual({3, Key, row(Version, Key)}, Repaired),
             ok = application:set_env(cluster, read_repair, off),
             {ok, _} = Get(),
-            timer:sleep(100),
+            ok = room:until(fun() -> HaveEnded(4) end),
             ok = application:set_env(cluster, read_repair, on),
-            ?assertMatch([_], ets:match_object(?DEEDS, {'_', '_', '_'}))
+            ?assertMatch([_], ets:lookup(?DEEDS, repaired))
         end)
     end).
 

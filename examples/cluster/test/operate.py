@@ -54,7 +54,8 @@ TICKS_S = 5.0
 #: Seconds in which nodes find out what has changed: a node that was late for another one is called again.
 NOTICED_S = 3.0
 
-#: Seconds after a partition until each host has all puts, unless the machine is late, and the number of keys that a host misses over a slow link.
+#: Seconds after a partition until each host has all puts, unless the machine is late; the number of keys that a host
+#: misses over a slow link, and that of the clients that put them.
 JOINED_S, MISSED, PUTTERS = 10.0, 1000, 8
 DELAY_MS = 50
 

@@ -1,8 +1,8 @@
 %% @doc A folder for a test, and the settings of a node in it.
 -module(room).
 
--export([test/2, full_test/2, plain/1, hosts/1, stop/1, kill/1, until/1, all_at_once/2, folder/1, flip/1, elsewhere/2, key/1]).
--export([free_port/0, defaults/1]).
+-export([test/2, full_test/2, plain/1, hosts/1, stop/1, kill/1, until/1, all_at_once/2, folder/1, flip/1]).
+-export([elsewhere/2, key/1, free_port/0, defaults/1]).
 
 %% A test that hangs ends after this time. A machine that is busy with other work doesn't make a test fail.
 -define(SECONDS, 600).
