@@ -2,9 +2,9 @@
 
 from __future__ import annotations
 
+import hashlib
 import os
 import threading
-import time
 from contextlib import contextmanager
 from pathlib import Path
 from typing import Callable, Iterator
@@ -14,8 +14,8 @@ from .log import Log
 #: Seconds between two works, and the seconds by which one may be late.
 EACH_S, LATE_S = 0.2, 0.25
 
-#: Seconds of a processor that a work takes: some requests need as much.
-WORK_S = 0.004
+#: Bytes of which a work takes a digest: some milliseconds of a processor, as some requests do.
+WORK = bytes(2_000_000)
 
 #: Seconds that the last works may take.
 END_S = 120.0
@@ -63,9 +63,7 @@ class Machine:
         while not self._ended.is_set():
             with self.in_time():
                 self._ended.wait(EACH_S)
-                until = time.thread_time() + WORK_S
-                while time.thread_time() < until:
-                    pass
+                hashlib.sha256(WORK)
 
     @contextmanager
     def in_time(self) -> Iterator[None]:
