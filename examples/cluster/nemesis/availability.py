@@ -17,8 +17,12 @@ BEFORE_S, AFTER_S = 3.0, 0.5
 #: One of this number of requests may be refused, and this number in all: the machine is busy.
 ONE_OF, LEAST = 100, 5
 
-#: One of this number of requests at least could be served, in a run with so many, while the machine isn't late.
+#: One of this number of requests at least could be served, in a run with so many.
 JUDGED_OF, MANY = 5, 1000
+
+#: The share of the requests that must have been made while the machine wasn't late. Otherwise they may all have been
+#: made during faults.
+TIMELY = 0.75
 
 #: Statuses with which a node isn't able to do what it was asked for. No answer has the status 0.
 NOT_SERVED = (0, 500, 503)
@@ -123,14 +127,14 @@ def requests_are_served(case: Case) -> Iterator[Breach]:
 
 
 def enough_requests_are_judged(case: Case) -> Iterator[Breach]:
-    """Of the requests of a run one in five at least could be served, as far as the machine wasn't late.
+    """Of the requests of a run one in five at least could be served, so that they are judged.
 
-    If it was late for most requests, a note says so.
+    If the machine was late for many of them, a note says so instead.
     """
     judged, requests = _judged(case), len(case.history.requests)
     if requests < MANY or not any(event.op == "run" and event.members.get("seconds") for event in case.history.events):
         return
-    if 2 * judged.timely < requests:
+    if judged.timely < TIMELY * requests:
         case.notes.append(f"note: the machine was late: only {judged.timely} of {requests} requests were in good time")
     elif JUDGED_OF * judged.count < judged.timely:
         yield Breach(f"only {judged.count} of {judged.timely} requests could be served")

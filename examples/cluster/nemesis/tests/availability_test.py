@@ -61,11 +61,11 @@ class Counts(AvailabilityCase):
 
 
 class Enough(AvailabilityCase):
-    def assert_enough(self, enough, *events, judged=100, others=900):
+    def assert_enough(self, enough, *events, judged=100, others=900, seconds=45):
         """Some requests can be served, and others can't, since nobody holds their key."""
         answered = [{**get(MILK, t=5.0), "place": 1}] * judged
         missed = [{**get(t=5.0, key="l"), "place": 1}] * others
-        whole = event("run", 0.0, seconds=45, mode="all")
+        whole = event("run", 0.0, seconds=seconds, mode="all")
         run = Run(put(*MILK), *answered, *missed, everywhere=[MILK], events=[whole, *events])
         self.assertEqual(run.broken(), [] if enough else [ENOUGH])
 
@@ -77,9 +77,12 @@ class Enough(AvailabilityCase):
     def test_few_are_made(self):
         self.assert_enough(True, judged=1, others=700)
 
-    def test_a_machine_that_is_late_for_most_of_the_time(self):
+    def test_a_machine_that_is_late_for_most_requests(self):
         self.assert_enough(True, event("late", 4.0, seconds=1.5))
         self.assert_enough(False, event("late", 9.0, seconds=1.5))
+
+    def test_a_run_without_a_duration(self):
+        self.assert_enough(True, seconds=0)
 
 
 class Places(AvailabilityCase):
