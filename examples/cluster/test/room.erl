@@ -56,7 +56,7 @@ run(Settings, Test, Mount, Unmount) ->
         ok = file:del_dir_r(Folder)
     end.
 
-%% @doc Returns the settings of a test: five places of one host, and four ranges.
+%% @doc Returns the settings of a test: five places of one host, and four ranges. No round of repair begins by itself.
 defaults(Folder) ->
     [
         {place, 1},
@@ -67,6 +67,7 @@ defaults(Folder) ->
         {limit, 1000},
         {checkpoint_entries, 1000},
         {hint_bytes, 16777216},
+        {round_ms, 3600000},
         {http_token, none}
     ].
 
