@@ -17,8 +17,8 @@ from .modes import ALL, MODES
 from .nodes import Nodes, build
 from .schedule import Nemesis
 
-#: Seconds that the cluster may take to be at rest in the end.
-REST_S = 60.0
+#: Seconds that the cluster may take to be at rest in the end, on a busy machine.
+REST_S = 300.0
 
 #: Few entries per range and log, and short rounds, so that a run has renewals, checkpoints and syncs.
 SETTINGS = {"limit": "4000", "checkpoint_entries": "200", "round_ms": "400"}

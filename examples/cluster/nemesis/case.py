@@ -17,7 +17,8 @@ LOSSES = ("destroy", "damage", "old")
 
 FOREVER = float("inf")
 
-#: Maximum delay in seconds until a node and the log show that its disk is full, or has space again.
+#: Maximum delay in seconds until a node and the log show that its disk is full, or has space again. (A busy node may be
+#: later: the log says when it takes puts again.)
 LATE_S = 5.0
 
 
@@ -181,6 +182,9 @@ def _full(events: Sequence[Event]) -> Dict[int, List[Tuple[float, float]]]:
             for place in [event.place] if event.op == "free" else list(since):
                 if place in since:
                     full.setdefault(place, []).append((since.pop(place), event.at))
+        elif event.op == "room" and event.place not in since and event.place in full:
+            begin, _ = full[event.place].pop()
+            full[event.place].append((begin, event.at))
     for place, at in since.items():
         full.setdefault(place, []).append((at, FOREVER))
     return full

@@ -38,8 +38,8 @@ OWN_KEYS = 50
 #: Minimum and maximum number of seconds for which a client avoids a place that didn't respond.
 SHUNNED_S = (1.0, 3.0)
 
-#: Seconds that clients may take to end.
-END_S = 10.0
+#: Seconds that clients may take to end, on a busy machine.
+END_S = 60.0
 
 
 @dataclass(frozen=True)

@@ -22,10 +22,12 @@ REST_S = 30.0
 #: Maximum number of lives before no more disks are lost: a key's clock can have 32, and each life may put the key.
 MOST_LIVES = 28
 
-#: Seconds that a node may take to serve, or to end, after a fault of its disk, and seconds between two looks.
-PATIENT_S, LOOK_S, LOOK_SOON_S = 15.0, 0.2, 0.05
+#: Seconds that a node may take to serve, or to end, after a fault of its disk, on a busy machine, and seconds between
+#: two looks.
+PATIENT_S, LOOK_S, LOOK_SOON_S = 300.0, 0.2, 0.05
 
-#: Seconds that an episode waits for nodes to serve. Nodes that are cut off may serve only later.
+#: Seconds that an episode waits for nodes to serve. Nodes that are cut off may serve only later. They are counted in
+#: looks: time may pass while the machine does nothing.
 START_S = 3.0
 
 #: Number of keys that are read at a node whose disk is full.
@@ -92,9 +94,7 @@ class Deeds:
     def restart(self) -> None:
         """Starts the nodes that are down, and waits a while until they serve."""
         self.nodes.start(self.nodes.down())
-        until = time.monotonic() + START_S
-        while len(self.nodes.up()) < len(PLACES) and time.monotonic() < until:
-            time.sleep(LOOK_SOON_S)
+        self._wait_for(lambda: len(self.nodes.up()) == len(PLACES))
 
     def heal(self) -> None:
         """Ends all faults, waits until all nodes serve, and after a lost disk until the cluster is at rest."""
@@ -118,7 +118,7 @@ class Deeds:
 
     def come_to_rest(self) -> None:
         """Waits a short time until all replicas are equal and no hint is pending."""
-        rest.settle(self.nodes.base, PATIENT_S)
+        rest.settle(self.nodes.base, REST_S)
 
     # ---- disks
 
@@ -162,15 +162,18 @@ class Deeds:
         self.wait(0.1, 0.3)
         asides = self.nodes.asides(place)
         self.nodes.start(self.nodes.down())
-        until = time.monotonic() + START_S
-        while not (place in self.nodes.up() or self.nodes.asides(place) > asides) and time.monotonic() < until:
-            time.sleep(LOOK_SOON_S)
+        self._wait_for(lambda: place in self.nodes.up() or self.nodes.asides(place) > asides)
 
     def await_life(self, place: int) -> None:
         """Waits a while until a node gives up the life of its lost disk."""
         before = max((life for lost, _, life in self._lost if lost == place), default=0)
-        until = time.monotonic() + START_S
-        while self.nodes.life(place) <= before and time.monotonic() < until:
+        self._wait_for(lambda: self.nodes.life(place) > before)
+
+    def _wait_for(self, holds: Callable[[], bool]) -> None:
+        """Waits a while until a condition holds."""
+        for _ in range(int(START_S / LOOK_SOON_S)):
+            if holds():
+                return
             time.sleep(LOOK_SOON_S)
 
     def _check_lost(self) -> None:
@@ -185,15 +188,16 @@ class Deeds:
 
     # ---- what must hold meanwhile
 
-    def expect(self, what: str, holds: Callable[[], bool]) -> None:
-        """Waits until a condition holds, and logs the outcome."""
+    def expect(self, what: str, holds: Callable[[], bool]) -> bool:
+        """Waits until a condition holds, and logs and returns the outcome."""
         until = time.monotonic() + PATIENT_S
         while not holds():
             if time.monotonic() > until:
                 self.log.write(op="expect", what=what, met=False)
-                return
+                return False
             time.sleep(LOOK_S)
         self.log.write(op="expect", what=what, met=True)
+        return True
 
     def status(self, place: int) -> dict:
         """Returns a node's status. If it doesn't respond, returns one of an empty node with a full disk."""

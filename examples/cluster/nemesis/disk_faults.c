@@ -41,6 +41,7 @@ struct control {
     _Atomic int64_t synced;  /* syncs that succeeded */
     _Atomic int64_t failed;  /* syncs that failed */
     _Atomic int64_t refused; /* writes and new names that found no room */
+    _Atomic int64_t begun;   /* syncs that have begun */
 };
 
 enum kind { WRITTEN = 1, RESIZED, SYNCED, CREATED, MADE, REMOVED, REMOVED_FOLDER, RENAMED };
@@ -498,6 +499,7 @@ static int sync_file(int descriptor, int (*sync)(int))
     off_t position = file->folder ? names_recorded : file->recorded;
     long dropped = file->dropped;
     pthread_mutex_unlock(file->folder ? &lock : &file->lock);
+    atomic_fetch_add(&control->begun, 1);
     wait_ms(atomic_load(&control->sync_ms));
     if (is_failing()) {
         atomic_fetch_add(&control->failed, 1);

@@ -13,7 +13,7 @@ from pathlib import Path
 from typing import Dict, List, Sequence, Tuple
 
 from . import rules_of_lives, rules_of_nodes, rules_of_requests, rules_of_versions
-from .availability import requests_are_served
+from .availability import enough_requests_are_judged, requests_are_served
 from .case import Breach, Case, Rule
 from .history import BadLog, History, read
 
@@ -41,6 +41,7 @@ RULES: Tuple[Rule, ...] = (
     rules_of_requests.puts_are_on_two_nodes,
     rules_of_requests.reads_see_what_was_acknowledged,
     requests_are_served,
+    enough_requests_are_judged,
 )
 
 

@@ -39,6 +39,7 @@ class Links:
         self._slow: Dict[int, int] = {}
         self._late: Dict[Link, Tuple[int, int]] = {}
         self._repeat = 0
+        self._limit_ms = 0
         self._write()
 
     def environment(self) -> Dict[str, str]:
@@ -74,6 +75,11 @@ class Links:
         self._repeat = per_mille
         self._change()
 
+    def limit(self, least_ms: int) -> None:
+        """Gives each call at least this time from now on. This is no fault: `heal` leaves it."""
+        self._limit_ms = least_ms
+        self._write()
+
     def heal(self) -> None:
         """Ends all faults."""
         if self._drops or self._slow or self._late or self._repeat:
@@ -106,6 +112,7 @@ class Links:
         lines = [f"drop {source} {target}" for source, target in sorted(self._drops)]
         lines += [f"late {source} {target} {least} {most}" for (source, target), (least, most) in sorted(late.items())]
         lines += [f"repeat {self._repeat}"] if self._repeat else []
+        lines += [f"limit {self._limit_ms}"] if self._limit_ms else []
         lines += ["instant"] if self._is_instant else []
         new = self._file.with_suffix(".new")
         new.write_text("".join(f"{line}\n" for line in lines))

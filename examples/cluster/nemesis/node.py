@@ -9,8 +9,8 @@ from typing import Mapping, Optional, Sequence
 
 from .log import Log
 
-#: Seconds that a process may take to end after it was killed.
-END_S = 5.0
+#: Seconds that a process may take to end after it was killed, on a busy machine.
+END_S = 120.0
 
 
 class Node:

@@ -38,10 +38,10 @@ SYS_CONFIG = """[{{cluster, [
 """
 
 #: Seconds that a process may take to start, on a busy machine, and that epmd may take to end.
-START_S, END_S = 120.0, 5.0
+START_S, END_S = 300.0, 5.0
 
-#: Seconds that all nodes may take to serve again.
-AGAIN_S = 60.0
+#: Seconds that all nodes may take to serve again, on a busy machine.
+AGAIN_S = 300.0
 
 #: Seconds between two looks at processes that start.
 LOOK_S = 0.05

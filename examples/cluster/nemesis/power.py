@@ -32,9 +32,10 @@ FLAGS = ("-shared", "-fPIC", "-std=c11", "-O2", "-Wall", "-Wextra", "-Werror")
 WRITTEN, RESIZED, SYNCED, CREATED, MADE, REMOVED, REMOVED_FOLDER, RENAMED = range(1, 9)
 HEAD = struct.Struct("=5q")
 
-#: The file `control`: the space, the syncs that fail and their delay; the counts of syncs, failed ones and refusals.
-CONTROL = struct.Struct("=6q")
-NO_FAULTS = (-1, 0, 0)
+#: The file `control`: the space, the syncs that fail and their delay; the counts of syncs, failed ones, refusals, and
+#: syncs that have begun.
+CONTROL = struct.Struct("=7q")
+NO_FAULTS, NO_COUNTS = (-1, 0, 0), (0, 0, 0, 0)
 
 #: Number of bytes that a disk writes at once.
 SECTOR = 512
@@ -66,6 +67,7 @@ class Counts(NamedTuple):
     synced: int
     failed: int
     refused: int
+    begun: int
 
 
 def build(folder: Path) -> Optional[Path]:
@@ -87,7 +89,7 @@ class Power:
         self._shadow = (shadow or folder.with_name(folder.name + ".shadow")).resolve()
         self._shadow.mkdir(parents=True, exist_ok=True)
         self._control = self._shadow / "control"
-        self._control.write_bytes(CONTROL.pack(*NO_FAULTS, 0, 0, 0))
+        self._control.write_bytes(CONTROL.pack(*NO_FAULTS, *NO_COUNTS))
 
     def environment(self, base: Optional[Mapping[str, str]] = None) -> Dict[str, str]:
         """Returns the environment of the program: this process's or a given one, with the library."""
@@ -118,7 +120,7 @@ class Power:
 
     def heal(self) -> None:
         """Ends all faults, and resets the counts to 0."""
-        for index, value in enumerate((*NO_FAULTS, 0, 0, 0)):
+        for index, value in enumerate((*NO_FAULTS, *NO_COUNTS)):
             self._set(index, value)
 
     def counts(self) -> Counts:

@@ -27,8 +27,8 @@ from .places import PLACES
 #: Number of keys of each writer, which nobody else puts.
 KEYS_EACH = 40
 
-#: Seconds that the cluster may take to be at rest in the end.
-REST_S = 60.0
+#: Seconds that the cluster may take to be at rest in the end, on a busy machine.
+REST_S = 300.0
 
 #: Few entries per log, so that a run has checkpoints.
 SETTINGS = {"limit": "4000", "checkpoint_entries": "200", "round_ms": "400"}

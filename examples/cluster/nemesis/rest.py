@@ -19,19 +19,24 @@ COPIES = 3
 #: Seconds between two looks.
 LOOK_S = 0.25
 
-#: Seconds that a whole dump may take.
-DUMP_S = 20.0
+#: Seconds that a whole dump may take, on a busy machine.
+DUMP_S = 300.0
 
 
 def settle(base: int, most_s: float, mode: Mode = ALL) -> Optional[float]:
-    """Waits until the cluster is at rest, and returns the seconds that it took, or None if it took too long."""
+    """Waits until the cluster is at rest, and returns the seconds that it took, or None if it took too long.
+
+    The time for which it must be at rest is counted in looks: it may pass while the machine does nothing.
+    """
     front, began = Front(base), time.monotonic()
     since: Optional[float] = None
+    looks = 0
     try:
         while True:
             now = time.monotonic()
             since = (now if since is None else since) if is_at_rest(front, mode) else None
-            if since is not None and now - since >= mode.steady_s:
+            looks = 0 if since is None else looks + 1
+            if since is not None and looks > mode.steady_s / LOOK_S:
                 return since - began
             if now - began > most_s:
                 return None

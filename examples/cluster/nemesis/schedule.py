@@ -369,8 +369,8 @@ class Nemesis(Deeds):
         places = self.some(self.chance.choice((1, 1, 2, 3)))
         for place in places:
             room = self.chance.choice((0, self.chance.randrange(MOST_ROOM)))
-            self.nodes.powers[place].fill(room)
             self.log.write(op="full", place=place, room=room)
+            self.nodes.powers[place].fill(room)
         self.wait(1.0, 3.0)
         if self.chance.random() < 0.5:
             self.stop(places[:1])
@@ -382,7 +382,8 @@ class Nemesis(Deeds):
             self.nodes.powers[place].heal()
             self.log.write(op="free", place=place, refused=refused)
         for place in places:
-            self.expect(f"place {place} takes puts after there is room", lambda it=place: self._writes(it))
+            if self.expect(f"place {place} takes puts after there is room", lambda it=place: self._writes(it)):
+                self.log.write(op="room", place=place)
 
     def _writes(self, place: int) -> bool:
         """Returns true if a node takes a put, or refuses a stale one."""

@@ -58,10 +58,12 @@ lost_table_test_() ->
 %% Old claims are removed, and the others are kept.
 sweep_test_() ->
     room:test([], fun(_) ->
-        {1, Old} = given(?HOLDER),
-        Long = erlang:monotonic_time(microsecond) - 11000000,
-        [true = ets:update_element(cluster_claims, Key, {3, Long}) || Key <- [Old, {Old, ?HOLDER}]],
-        {1, New} = given(?HOLDER),
+        Now = erlang:monotonic_time(microsecond),
+        [{1, Old}, {1, New}] = [given(?HOLDER) || _ <- [1, 2]],
+        [
+            true = ets:update_element(cluster_claims, Key, {3, Now + Seconds * 1000000})
+         || {Claim, Seconds} <- [{Old, -11}, {New, 600}], Key <- [Claim, {Claim, ?HOLDER}]
+        ],
         cluster_claims ! sweep,
         _ = sys:get_state(cluster_claims),
         ?assertNot(cluster_claims:take(Old, ?HOLDER)),

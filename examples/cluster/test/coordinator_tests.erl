@@ -7,6 +7,8 @@
 -define(RANGE, 0).
 %% The table with the deeds of the other places.
 -define(DEEDS, ?MODULE).
+%% A time that no test takes, and that no test waits for, in milliseconds.
+-define(NEVER_MS, 3600000).
 
 %% ---- a put that place 4 forwards
 
@@ -14,7 +16,7 @@
 handed_on_test_() ->
     Cases = [
         {"a holder puts", [puts], {ok, 1}, [1]},
-        {"one that is silent doesn't put later", [{late, 150}, puts], {ok, 2}, [2]},
+        {"one that is silent doesn't put later", [silent, puts], {ok, 2}, [2]},
         {"one that is down", [down, puts], {ok, 2}, [2]},
         {"a message that is repeated", [repeated], {ok, 1}, [1]},
         {"a holder that is late after its claim", [slow, puts], {ok, 1}, [1]},
@@ -23,31 +25,48 @@ handed_on_test_() ->
         {"some refuse", [{refused, stale_context}, {refused, disk_full}, puts], {ok, 3}, [3]},
         {"a put that may have happened", [{perhaps, down}, puts], {perhaps, down}, []},
         {"all refuse", [{refused, starting}, {refused, stale_context}, down], {refused, stale_context}, []},
-        {"one that is late, if no other puts", [{late, 250}, down, down], {ok, 1}, [1]},
-        {"all are silent, and don't put later", [{late, 800}, {late, 800}, {late, 800}], {refused, down}, []},
+        {"one that is late, if no other puts", [last, down, down], {ok, 1}, [1]},
+        {"all are silent, and don't put later", [silent, silent, silent], {refused, down}, []},
         {"all are down", [down, down, down], {refused, down}, []},
         {"bad input", [{refused, bad_value}, puts], {refused, bad_value}, []}
     ],
     [
-        {Name, as_place(4, fun hold/4, fun() -> handed_on(Deeds, {Outcome, Places}, 3) end)}
+        {Name, as_place(4, fun hold/4, fun() -> handed_on(Deeds, {Outcome, Places}) end)}
      || {Name, Deeds, Outcome, Places} <- Cases
     ].
 
-%% A busy machine may be later than a late holder. The put is then tried again, if its outcome is true.
-handed_on(Deeds, Wanted, Tries) ->
-    true = ets:delete_all_objects(cluster_patience),
-    Value = integer_to_binary(Tries),
-    Outcome = put_with(Value, Deeds),
-    timer:sleep(150),
-    case {Outcome, places(Value)} of
-        Wanted ->
-            ok;
-        {_, Places} when Tries > 1 ->
-            ?assert(is_true(Outcome, Places)),
-            handed_on(Deeds, Wanted, Tries - 1);
-        Other ->
-            ?assertEqual(Wanted, Other)
-    end.
+%% Place 4 has endless patience with each holder that does something, and a short one with the others. A call has a time
+%% limit only if all holders are silent.
+handed_on(Deeds, Wanted) ->
+    Patience = fun
+        ([4, _]) -> 1;
+        ([Place, _]) -> patience_ms(lists:nth(Place, Deeds))
+    end,
+    LimitMs =
+        case lists:usort(Deeds) of
+            [silent] -> 50;
+            _ -> ?NEVER_MS
+        end,
+    Outcome = with_times(Patience, LimitMs, fun() ->
+        Put = put_with(<<"value">>, Deeds),
+        true = ets:insert(?DEEDS, {over, true}),
+        ok = room:until(fun all_have_ended/0),
+        Put
+    end),
+    ?assertEqual(Wanted, {Outcome, places(<<"value">>)}).
+
+patience_ms(slow) ->
+    ok = room:until(fun() -> ets:member(?DEEDS, claimed) end),
+    20;
+patience_ms(Deed) when Deed =:= silent; Deed =:= last; Deed =:= down ->
+    20;
+patience_ms(_) ->
+    ?NEVER_MS.
+
+with_times(Patience, LimitMs, Test) ->
+    replaced:with({cluster_wire, limit_ms, 0}, fun([]) -> LimitMs end, fun() ->
+        replaced:with({cluster_patience, ms, 2}, Patience, Test)
+    end).
 
 %% Whatever happens to each of many concurrent puts, none is done twice, and each has a true outcome.
 at_most_once_test_() ->
@@ -58,7 +77,7 @@ at_most_once_test_() ->
             {Value, put_with(Value, [lists:nth(rand:uniform(length(Deeds)), Deeds) || _ <- [1, 2, 3]])}
         end,
         Outcomes = room:all_at_once(Put, lists:seq(1, 500)),
-        timer:sleep(800),
+        ok = room:until(fun all_have_ended/0),
         ?assertEqual([], [Wrong || {Value, Outcome} = Wrong <- Outcomes, not is_true(Outcome, places(Value))])
     end).
 
@@ -81,16 +100,35 @@ places(Value) ->
 %% A holder, which calls the place 4 for its claim.
 hold(Place, cluster_coordinator, put_claimed, [{4, Reference}, ?RANGE, _, Value, _, 2]) ->
     [{_, Deeds}] = ets:lookup(?DEEDS, {deeds, Value}),
+    Call = {Place, make_ref()},
+    true = ets:insert(?DEEDS, {begun, Call}),
     Claim = fun() -> cluster_claims:take(Reference, Place) end,
     Put = fun() ->
         true = ets:insert(?DEEDS, {{put, Value}, Place}),
         {ok, #{coordinator => Place}}
     end,
-    do(lists:nth(Place, Deeds), Claim, Put);
+    try
+        do(lists:nth(Place, Deeds), Claim, Put)
+    after
+        true = ets:insert(?DEEDS, {ended, Call})
+    end;
 hold(_, cluster_ring, here, []) ->
     error({erpc, timeout}).
 
+%% Returns the calls of holders that have begun, or have ended.
+calls(Word) ->
+    lists:sort([Call || {_, Call} <- ets:lookup(?DEEDS, Word)]).
+
+all_have_ended() ->
+    calls(begun) =:= calls(ended).
+
 do(puts, Claim, Put) ->
+    put_if(Claim(), Put);
+do(silent, Claim, Put) ->
+    ok = room:until(fun() -> ets:member(?DEEDS, over) end),
+    put_if(Claim(), Put);
+do(last, Claim, Put) ->
+    ok = room:until(fun() -> length(calls(ended)) =:= 2 end),
     put_if(Claim(), Put);
 do({late, Ms}, Claim, Put) ->
     timer:sleep(Ms),
@@ -102,6 +140,7 @@ do(repeated, Claim, Put) ->
     Answer;
 do(slow, Claim, Put) ->
     IsMine = Claim(),
+    true = ets:insert(?DEEDS, {claimed, true}),
     timer:sleep(150),
     put_if(IsMine, Put);
 do(claim_lost, Claim, _) ->
@@ -194,6 +233,7 @@ unchecked_test_() ->
     end,
     as_place(1, Other, fun() ->
         {ok, _} = cluster_coordinator:put(room:key(1), <<"value">>, #{}, 2),
+        ok = room:until(fun() -> lists:sort(ets:tab2list(?DEEDS)) =:= [{asked, 2}, {asked, 3}] end),
         ?assertEqual([], Asked()),
         ok = room:kill(cluster_range_0),
         {ok, Range} = cluster_range:start_link(?RANGE),
@@ -265,9 +305,12 @@ handed_on_get_test_() ->
             {refused, down}
     end,
     as_place(4, Other, fun() ->
-        ?assertMatch({ok, #{coordinator := 2}}, cluster_coordinator:get(room:key(1), 2)),
-        true = ets:insert(?DEEDS, {answered, true}),
-        ?assertMatch({ok, #{coordinator := 1}}, cluster_coordinator:get(room:key(2), 2))
+        Patience = fun([Place, _]) -> maps:get(Place, #{1 => 20, 2 => ?NEVER_MS, 3 => ?NEVER_MS}) end,
+        with_times(Patience, ?NEVER_MS, fun() ->
+            ?assertMatch({ok, #{coordinator := 2}}, cluster_coordinator:get(room:key(1), 2)),
+            true = ets:insert(?DEEDS, {answered, true}),
+            ?assertMatch({ok, #{coordinator := 1}}, cluster_coordinator:get(room:key(2), 2))
+        end)
     end).
 
 %% A holder whose row is behind gets its missing versions. Equal rows are written nowhere.
@@ -275,24 +318,36 @@ read_repair_test_() ->
     Version = #{clock => #{34 => 1}, value => <<"other">>},
     Other = fun
         (2, cluster_range, row, [_, Key]) ->
+            true = ets:insert(?DEEDS, {process, self()}),
             {ok, row(Version, Key)};
         (3, cluster_range, row, _) ->
-            timer:sleep(50),
+            true = ets:insert(?DEEDS, {process, self()}),
+            ok = room:until(fun() -> ets:member(?DEEDS, answered) end),
             {ok, <<>>};
         (Place, cluster_range, take_row, [?RANGE, Key, Row]) ->
-            true = ets:insert(?DEEDS, {Place, Key, Row}),
+            true = ets:insert(?DEEDS, {repaired, {Place, Key, Row}, make_ref()}),
             {ok, Row}
+    end,
+    HaveEnded = fun(Count) ->
+        Processes = [Process || {process, Process} <- ets:lookup(?DEEDS, process)],
+        length(Processes) =:= Count andalso not lists:any(fun is_process_alive/1, Processes)
     end,
     as_place(1, Other, fun() ->
         Key = room:key(1),
         Get = fun() -> cluster_coordinator:get(Key, 2) end,
-        ?assertEqual({ok, #{coordinator => 1, versions => [Version]}}, Get()),
-        ok = room:until(fun() -> ets:tab2list(?DEEDS) =:= [{3, Key, row(Version, Key)}] end),
-        ok = application:set_env(cluster, read_repair, off),
-        {ok, _} = Get(),
-        timer:sleep(100),
-        ok = application:set_env(cluster, read_repair, on),
-        ?assertMatch([_], ets:tab2list(?DEEDS))
+        Patience = fun([_, _]) -> ?NEVER_MS end,
+        with_times(Patience, ?NEVER_MS, fun() ->
+            ?assertEqual({ok, #{coordinator => 1, versions => [Version]}}, Get()),
+            true = ets:insert(?DEEDS, {answered, true}),
+            ok = room:until(fun() -> HaveEnded(2) end),
+            [{repaired, Repaired, _}] = ets:lookup(?DEEDS, repaired),
+            ?assertEqual({3, Key, row(Version, Key)}, Repaired),
+            ok = application:set_env(cluster, read_repair, off),
+            {ok, _} = Get(),
+            ok = room:until(fun() -> HaveEnded(4) end),
+            ok = application:set_env(cluster, read_repair, on),
+            ?assertMatch([_], ets:lookup(?DEEDS, repaired))
+        end)
     end).
 
 row(Version, Key) ->
@@ -321,9 +376,11 @@ last_resort_test_() ->
         ?assertEqual([{row, 2}], ets:tab2list(?DEEDS))
     end).
 
-%% Runs a test as a place. Calls of other places are calls of a function. Place 1 has its range.
+%% Runs a test as a place. Calls of other places are calls of a function. No place is called again by itself. Place 1
+%% has its range.
 as_place(Place, Other, Test) ->
     room:test([{place, Place}], fun(_) ->
+        ok = room:kill(cluster_wire),
         ?DEEDS = ets:new(?DEEDS, [named_table, public, bag]),
         try
             Place =:= 1 andalso joined_range(),

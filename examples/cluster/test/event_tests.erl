@@ -7,16 +7,20 @@
 -define(RANGE, 0).
 -define(VERSION, #{clock => #{34 => 1}, value => <<"value">>}).
 
-line_test() ->
+line_test_() ->
     Line = fun(Name, Fields) -> lists:flatten(unicode:characters_to_list(cluster_event:line(Name, Fields))) end,
-    ?assertEqual("event down place=3", Line(down, [{place, 3}])),
-    Quoted = "event sync_failed cause=bad why=\"a \\\"b\\\"\\n\"",
-    ?assertEqual(Quoted, Line(sync_failed, [{cause, bad}, {why, "a \"b\"\n"}])).
+    room:plain(fun() ->
+        ?assertEqual("event down place=3", Line(down, [{place, 3}])),
+        Quoted = "event sync_failed cause=bad why=\"a \\\"b\\\"\\n\"",
+        ?assertEqual(Quoted, Line(sync_failed, [{cause, bad}, {why, "a \"b\"\n"}]))
+    end).
 
 %% An event is a line of the log, with the level and nothing else.
-format_test() ->
+format_test_() ->
     Event = #{level => notice, msg => {report, #{event => up, fields => [{place, 2}]}}, meta => #{}},
-    ?assertEqual("notice: event up place=2\n", lists:flatten(cluster_report:format(Event, #{}))).
+    room:plain(fun() ->
+        ?assertEqual("notice: event up place=2\n", lists:flatten(cluster_report:format(Event, #{})))
+    end).
 
 %% A place is reported down or up once, however many calls show it.
 down_test_() ->
@@ -55,10 +59,12 @@ range_test_() ->
             {ok, #{clock := Clock}} = cluster_range:put(?RANGE, room:key(1), <<"value">>, Context),
             Clock
         end,
+        Begun = erlang:system_time(second),
         _ = lists:foldl(Put, #{}, lists:seq(1, 40)),
         room:until(fun() -> events() =:= #{checkpoint => 1, renewal => 1} end),
         [{[{range, ?RANGE}], Saved}] = cluster_metrics:values(snapshot_saved),
-        ?assert(abs(erlang:system_time(second) - Saved) < 60),
+        %% (A file system's clock may be behind by a part of a second.)
+        ?assert(Begun - 1 =< Saved andalso Saved =< erlang:system_time(second)),
         %% It is known after a start, too.
         ok = room:kill(cluster_range_0),
         true = ets:delete_all_objects(cluster_metrics),
@@ -101,21 +107,23 @@ late_test_() ->
     room:test([], fun(_) ->
         {ok, Range} = cluster_range:start_link(?RANGE),
         true = unlink(Range),
-        ?assert(has_line("cluster_entries{range=\"0\"} 0")),
+        ok = room:until(fun() -> has_line("cluster_entries{range=\"0\"} 0") end),
         ok = sys:suspend(Range),
-        {Micros, _} = timer:tc(fun() -> ?assert(has_line("cluster_late{process=\"range\",range=\"0\"} 1")) end),
-        ?assert(Micros < 5000000),
+        ?assert(has_line("cluster_late{process=\"range\",range=\"0\"} 1")),
         ?assertMatch({200, _, _}, cluster_http:health()),
         ok = sys:resume(Range),
-        ?assert(has_line("cluster_late{process=\"range\",range=\"0\"} 0"))
+        ok = room:until(fun() -> has_line("cluster_late{process=\"range\",range=\"0\"} 0") end)
     end).
 
 has_line(Line) ->
     lists:member(Line, string:lexemes(unicode:characters_to_list(cluster_prometheus:text()), "\n")).
 
-%% Runs a test, in which calls of other places are calls of a function.
+%% Runs a test, in which calls of other places are calls of a function. No place is called again by itself.
 with(Other, Test) ->
-    room:test([], fun(_) -> links:with(Other, Test) end).
+    room:test([], fun(_) ->
+        ok = room:kill(cluster_wire),
+        links:with(Other, Test)
+    end).
 
 events() ->
     maps:from_list([{Event, Count} || {[{event, Event}], Count} <- cluster_metrics:values(events)]).

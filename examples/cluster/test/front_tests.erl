@@ -31,9 +31,7 @@ killed_test_() ->
 killed(Supervisor) ->
     Front = child(Supervisor),
     true = exit(Front, kill),
-    timer:sleep(20),
-    Next = child(Supervisor),
-    ?assert(is_pid(Next) andalso Next =/= Front),
+    ok = room:until(fun() -> is_pid(child(Supervisor)) andalso child(Supervisor) =/= Front end),
     element(1, request(get, {url("/none"), []})).
 
 child(Supervisor) ->
@@ -48,7 +46,7 @@ odd_test_() ->
     test([], fun(_) ->
         ok = cluster_life:enter(none),
         Begin = fun(Request) -> lists:sublist(lists:flatten(Request), 60) end,
-        Ask = fun({Request, Wanted}) -> {Begin(Request), Wanted, answered(Request)} end,
+        Ask = fun({Request, Wanted}) -> {Begin(Request), Wanted, answered(Request, length(Wanted))} end,
         Answers = room:all_at_once(Ask, odd()),
         ?assertEqual([], [Wrong || {_, Wanted, Found} = Wrong <- Answers, Wanted =/= Found]),
         ?assertEqual(?STARTING, request(get, {url("/keys/cart"), []}))
@@ -121,10 +119,10 @@ odd() ->
     ].
 
 %% Sends bytes, and returns the statuses of the responses.
-answered(Request) ->
+answered(Request, Count) ->
     Socket = connected(),
     ok = gen_tcp:send(Socket, Request),
-    Received = received(Socket, <<>>),
+    Received = received(Socket, Count, <<>>),
     ok = gen_tcp:close(Socket),
     statuses(Received).
 
@@ -139,10 +137,15 @@ statuses(Received) ->
         nomatch -> []
     end.
 
-%% (A connection that is kept open sends nothing more.)
-received(Socket, Before) ->
-    case gen_tcp:recv(Socket, 0, 500) of
-        {ok, Bytes} -> received(Socket, <<Before/binary, Bytes/binary>>);
+%% Waits for some responses, and half a second for more. (A connection that is kept open sends nothing more.)
+received(Socket, Count, Before) ->
+    LimitMs =
+        case length(statuses(Before)) < Count of
+            true -> infinity;
+            false -> 500
+        end,
+    case gen_tcp:recv(Socket, 0, LimitMs) of
+        {ok, Bytes} -> received(Socket, Count, <<Before/binary, Bytes/binary>>);
         {error, _} -> Before
     end.
 
@@ -172,7 +175,7 @@ large_test_() ->
 put_large(Length) ->
     Socket = connected(),
     ok = gen_tcp:send(Socket, ["PUT /keys/a HTTP/1.1\r\nhost: a\r\n", Length, "\r\n\r\n"]),
-    Statuses = statuses(received(Socket, <<>>)),
+    Statuses = statuses(received(Socket, 1, <<>>)),
     Chunk = ["186a0\r\n", binary:copy(<<"x">>, 100000), "\r\n"],
     Sent = lists:takewhile(fun(_) -> gen_tcp:send(Socket, Chunk) =:= ok end, lists:seq(1, 1000)),
     ?assert(length(Sent) < 1000),

@@ -21,7 +21,7 @@ judge_test_() ->
         {"no version", unseen, [], [?PUT], 1}
     ],
     [
-        {Name, ?_assertEqual(Judged, cluster_known:judge(?PUT, Row, Own, 33, Top))}
+        {Name, room:plain(fun() -> ?assertEqual(Judged, cluster_known:judge(?PUT, Row, Own, 33, Top)) end)}
      || {Name, Judged, Row, Own, Top} <- Cases
     ].
 

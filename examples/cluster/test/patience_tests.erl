@@ -25,7 +25,9 @@ patience_test_() ->
         ?assertEqual(100, cluster_patience:ms(2, {cluster_range, row}))
     end).
 
-refusal_test() ->
+refusal_test_() -> room:plain(fun refusals/0).
+
+refusals() ->
     First = fun(Names) -> lists:foldl(fun cluster_refusal:first/2, down, Names) end,
     ?assertEqual(stale_context, First([down, stale_context, disk_full])),
     ?assertEqual(stale_context, First([stale_context, clock_full])),

@@ -11,14 +11,13 @@
 slots_test_() ->
     with_slots({1, 1, 20000}, fun() ->
         [First, Second, Third] = [borrower(Name) || Name <- [first, second, third]],
-        ?assertEqual({lent, first}, next()),
-        ?assertEqual(none, next()),
+        ?assertEqual(first, next()),
         ?assertMatch(#{lent := 1, waiting := 2}, cluster_slots:count()),
         ?assertEqual([First], cluster_slots:holders()),
         First ! give_back,
-        ?assertEqual({lent, second}, next()),
+        ?assertEqual(second, next()),
         true = exit(Second, kill),
-        ?assertEqual({lent, third}, next()),
+        ?assertEqual(third, next()),
         Third ! give_back,
         room:until(fun() -> maps:with([lent, waiting], cluster_slots:count()) =:= #{lent => 0, waiting => 0} end)
     end).
@@ -27,11 +26,11 @@ slots_test_() ->
 waiting_end_test_() ->
     with_slots({1, 1, 20000}, fun() ->
         [First, Second, _] = [borrower(Name) || Name <- [first, second, third]],
-        ?assertEqual({lent, first}, next()),
+        ?assertEqual(first, next()),
         true = exit(Second, kill),
         room:until(fun() -> maps:get(waiting, cluster_slots:count()) =:= 1 end),
         First ! give_back,
-        ?assertEqual({lent, third}, next())
+        ?assertEqual(third, next())
     end).
 
 %% A process may have two slots. A slot that nobody borrowed here is given back without harm.
@@ -50,11 +49,11 @@ twice_test_() ->
 restarted_test_() ->
     with_slots({5, 5, 20000}, fun() ->
         Borrowers = [borrower(Number) || Number <- lists:seq(1, 5)],
-        [{lent, _} = next() || _ <- Borrowers],
+        [_ = next() || _ <- Borrowers],
         ok = room:kill(cluster_slots),
         {ok, Slots} = cluster_slots:start_link(),
         [Borrower ! give_back || Borrower <- Borrowers],
-        [?assertEqual(gave_back, next()) || _ <- Borrowers],
+        [ok = gave_back() || _ <- Borrowers],
         ?assertEqual(Slots, whereis(cluster_slots))
     end).
 
@@ -66,9 +65,10 @@ with_slots(Slots, Test) ->
         ok = application:set_env(cluster, slots, {1, 4, 20000})
     end).
 
-%% A process that borrows a slot, and gives it back on a message.
+%% A process that borrows a slot, and gives it back on a message. (The calls are in this order.)
 borrower(Name) ->
     Test = self(),
+    Before = calls(),
     Borrower = spawn(fun() ->
         ok = cluster_slots:lend(),
         Test ! {lent, Name},
@@ -79,21 +79,24 @@ borrower(Name) ->
         Test ! gave_back,
         timer:sleep(infinity)
     end),
-    %% (The calls are in this order.)
-    timer:sleep(10),
+    ok = room:until(fun() -> calls() > Before end),
     Borrower.
 
+%% Returns the number of slots that processes have or wait for.
+calls() ->
+    #{lent := Lent, waiting := Waiting} = cluster_slots:count(),
+    Lent + Waiting.
+
+%% Waits for the next process that gets a slot.
 next() ->
     receive
-        {lent, Name} -> {lent, Name};
-        gave_back -> next_after_gave_back()
-    after 100 -> none
+        {lent, Name} -> Name
     end.
 
-next_after_gave_back() ->
+%% Waits for a process that gave one back.
+gave_back() ->
     receive
-        {lent, Name} -> {lent, Name}
-    after 50 -> gave_back
+        gave_back -> ok
     end.
 
 %% ---- unknown messages
@@ -127,7 +130,9 @@ stray_test_() ->
 %% ---- tasks
 
 %% A task has a result, or it crashed. A waiting process sees its end in the same way.
-task_test() ->
+task_test_() -> room:plain(fun tasks/0).
+
+tasks() ->
     Result = fun({_, Monitor}) ->
         receive
             {'DOWN', Monitor, process, _, Reason} -> cluster_task:result(test, Reason)
@@ -138,7 +143,9 @@ task_test() ->
     ?assertEqual([{ok, done}, crashed, crashed, crashed], [Result(cluster_task:start_link(Task)) || Task <- Tasks]).
 
 %% A linked task ends with its process.
-linked_test() ->
+linked_test_() -> room:plain(fun linked/0).
+
+linked() ->
     Test = self(),
     Owner = spawn(fun() ->
         {Task, _} = cluster_task:start_link(fun() -> timer:sleep(infinity) end),

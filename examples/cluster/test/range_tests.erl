@@ -115,7 +115,7 @@ renewal_refused_test_() ->
     with_maker(fun crashed_then_refused/1, [{limit, 100}], fun(_) ->
         start(),
         Clock = rewrite(key(1), #{}, 90),
-        room:until(fun() -> events(renewal_refused) =:= 1 end),
+        room:until(fun() -> events(renewal_refused) >= 1 end),
         Later = rewrite(key(1), Clock, 5),
         Before = dump(),
         room:until(fun() -> events(renewal) =:= 1 end),

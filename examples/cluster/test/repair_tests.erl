@@ -75,7 +75,6 @@ outlines_without_a_text(Change) ->
         ?assertMatch(#{entries := 80, sessions := 0}, cluster_range:counts(?RANGE)),
         receive
             outlined -> ok
-        after 0 -> error(no_outline)
         end
     end).
 

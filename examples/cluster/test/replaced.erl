@@ -2,15 +2,16 @@
 -module(replaced).
 
 -export([with/3]).
--export([call/1]).
+-export([call/3]).
 
-%% @doc Runs a test with another function in place of a module's, whose arguments it gets as a list.
+%% @doc Runs a test with another function in place of a module's, whose arguments it gets as a list. Tests of other
+%% functions may be in this one.
 with({Module, Name, Arity}, Function, Test) ->
-    ok = persistent_term:put(?MODULE, Function),
+    ok = persistent_term:put({?MODULE, Module, Name}, Function),
     {module, Module} = code:ensure_loaded(Module),
     File = code:which(Module),
     {ok, {Module, [{abstract_code, {raw_abstract_v1, Forms}}]}} = beam_lib:chunks(File, [abstract_code]),
-    {ok, Module, Code} = compile:forms([with_call(Form, Name, Arity) || Form <- Forms]),
+    {ok, Module, Code} = compile:forms([with_call(Form, Module, Name, Arity) || Form <- Forms]),
     {module, Module} = code:load_binary(Module, File, Code),
     try
         Test()
@@ -20,13 +21,14 @@ with({Module, Name, Arity}, Function, Test) ->
     end.
 
 %% @private
-call(Arguments) ->
-    (persistent_term:get(?MODULE))(Arguments).
+call(Module, Name, Arguments) ->
+    (persistent_term:get({?MODULE, Module, Name}))(Arguments).
 
-with_call({function, At, Name, Arity, _}, Name, Arity) ->
+with_call({function, At, Name, Arity, _}, Module, Name, Arity) ->
     Arguments = [{var, At, list_to_atom("A" ++ integer_to_list(Number))} || Number <- lists:seq(1, Arity)],
     List = lists:foldr(fun(Argument, Rest) -> {cons, At, Argument, Rest} end, {nil, At}, Arguments),
-    Call = {call, At, {remote, At, {atom, At, ?MODULE}, {atom, At, call}}, [List]},
+    Names = [{atom, At, Module}, {atom, At, Name}],
+    Call = {call, At, {remote, At, {atom, At, ?MODULE}, {atom, At, call}}, Names ++ [List]},
     {function, At, Name, Arity, [{clause, At, Arguments, [], [Call]}]};
-with_call(Form, _, _) ->
+with_call(Form, _, _, _) ->
     Form.

@@ -3,7 +3,9 @@
 
 -include_lib("eunit/include/eunit.hrl").
 
-text_test() ->
+text_test_() -> room:plain(fun texts/0).
+
+texts() ->
     Text = fun(Term) -> lists:flatten(unicode:characters_to_list(cluster_report:text(Term))) end,
     ?assertEqual("{put,<<5 bytes>>,<<6 bytes>>,#{33=>1}}", Text({put, <<"value">>, "secret", #{33 => 1}})),
     ?assertEqual("[{a,<<3 bytes>>}|<<2 bytes>>]", Text([{a, "abc"} | <<"xy">>])),
@@ -13,7 +15,9 @@ text_test() ->
 crash_test_() ->
     room:test([], fun(_) ->
         Crash = "{ok, Range} = cluster_range:start_link(0), unlink(Range), "
-            "catch gen_server:call(cluster_range_0, {copies, [{<<\"key\">>, <<\"se\", \"cret\">>}]}), timer:sleep(200)",
+            "Monitor = monitor(process, Range), "
+            "catch gen_server:call(cluster_range_0, {copies, [{<<\"key\">>, <<\"se\", \"cret\">>}]}), "
+            "receive {'DOWN', Monitor, process, _, _} -> ok = logger_std_h:filesync(default) end",
         {0, Output} = room:elsewhere([], Crash),
         ?assertMatch({match, _}, re:run(Output, "cluster_range")),
         ?assertMatch({match, _}, re:run(Output, "<<6 bytes>>")),

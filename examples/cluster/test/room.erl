@@ -1,11 +1,11 @@
 %% @doc A folder for a test, and the settings of a node in it.
 -module(room).
 
--export([test/2, full_test/2, hosts/1, stop/1, kill/1, until/1, all_at_once/2, folder/1, flip/1, elsewhere/2, key/1]).
--export([free_port/0, defaults/1]).
+-export([test/2, full_test/2, plain/1, hosts/1, stop/1, kill/1, until/1, all_at_once/2, folder/1, flip/1]).
+-export([elsewhere/2, key/1, free_port/0, defaults/1]).
 
-%% A disk may be slow.
--define(SECONDS, 60).
+%% A test that hangs ends after this time. A machine that is busy with other work doesn't make a test fail.
+-define(SECONDS, 600).
 
 -define(LIFE, 33).
 -define(STARTED, [cluster_space, cluster_lives, cluster_claims, cluster_wire]).
@@ -23,6 +23,10 @@ full_test(Settings, Test) ->
         true -> {timeout, ?SECONDS, fun() -> run(Settings, Test, Mount, Unmount) end};
         false -> []
     end.
+
+%% @doc Returns a test that needs no folder. (EUnit would give it five seconds.)
+plain(Test) ->
+    {timeout, ?SECONDS, Test}.
 
 can_mount() ->
     Folder = folder("mount"),
@@ -52,7 +56,7 @@ run(Settings, Test, Mount, Unmount) ->
         ok = file:del_dir_r(Folder)
     end.
 
-%% @doc Returns the settings of a test: five places of one host, and four ranges.
+%% @doc Returns the settings of a test: five places of one host, and four ranges. No round of repair begins by itself.
 defaults(Folder) ->
     [
         {place, 1},
@@ -63,6 +67,7 @@ defaults(Folder) ->
         {limit, 1000},
         {checkpoint_entries, 1000},
         {hint_bytes, 16777216},
+        {round_ms, 3600000},
         {http_token, none}
     ].
 

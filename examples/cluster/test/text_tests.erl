@@ -80,7 +80,9 @@ settings_test_() ->
     end).
 
 %% A client sends back a context that it got: nothing else is a context, nor is another key's.
-context_test() ->
+context_test_() -> room:plain(fun contexts/0).
+
+contexts() ->
     Clock = #{33 => 3, 65535 => 1 bsl 64 - 1},
     Context = cluster_clock:context(<<"key">>, Clock),
     ?assertEqual({ok, maps:to_list(Clock)}, cluster_clock:read_context(<<"key">>, Context)),

@@ -7,6 +7,7 @@
 %%     instant                   a dropped message is an error at once, as on a link that is known to be down
 %%     late FROM TO LEAST MOST   a message is late by a random time, in milliseconds, mostly a short one
 %%     repeat MANY               MANY of 1,000 calls are served again in the next second, and that answer is dropped
+%%     limit MS                  a call has at least this time, on a busy machine
 %%
 %% Without `instant' a dropped message is silence: its call waits for its limit. Late messages overtake each other, and
 %% a call may be served after its caller has given up.
@@ -34,14 +35,17 @@
     drop := [link()],
     late := #{link() => {Least :: ms(), Most :: ms()}},
     repeat := 0..1000,
+    limit := ms(),
     instant := boolean()
 }.
 
 %% @doc Calls a function at another place, and raises as {@link erpc:call/5} does. A message is dropped before its call
 %% is served, and an answer before it is used.
 -spec call(cluster_ring:place(), module(), Function :: atom(), Arguments :: [term()], LimitMs :: ms()) -> term().
-call(Place, Module, Function, Arguments, LimitMs) ->
+call(Place, Module, Function, Arguments, ItsLimitMs) ->
     Here = cluster_ring:here(),
+    #{limit := LeastMs} = faults(),
+    LimitMs = max(ItsLimitMs, LeastMs),
     Until = erlang:monotonic_time(millisecond) + LimitMs,
     ok = note_unslotted(Here, Module, Function),
     ok = pass({Here, Place}, Until),
@@ -133,7 +137,8 @@ read({Before, Faults, Looked}, Now) ->
         {ok, Before} ->
             Faults;
         {ok, Text} ->
-            New = lists:foldl(fun add/2, #{drop => [], late => #{}, repeat => 0, instant => false}, lines(Text)),
+            None = #{drop => [], late => #{}, repeat => 0, limit => 0, instant => false},
+            New = lists:foldl(fun add/2, None, lines(Text)),
             ok = persistent_term:put(?MODULE, {Text, New, Looked}),
             New
     end.
@@ -147,6 +152,8 @@ add(["late", From, To, Least, Most], #{late := Late} = Faults) ->
     Faults#{late := Late#{link(From, To) => {list_to_integer(Least), list_to_integer(Most)}}};
 add(["repeat", Many], Faults) ->
     Faults#{repeat := list_to_integer(Many)};
+add(["limit", LeastMs], Faults) ->
+    Faults#{limit := list_to_integer(LeastMs)};
 add(["instant"], Faults) ->
     Faults#{instant := true}.
 

@@ -5,6 +5,7 @@ import unittest
 from .written import Run, event, get, put, refused
 
 SERVED = "requests are served"
+ENOUGH = "enough requests are judged"
 MILK = ("milk", "33:1")
 
 
@@ -49,9 +50,39 @@ class Counts(AvailabilityCase):
         self.assert_served(False, 1, event("late", 1.0, seconds=0.5), event("late", 5.4, seconds=2.0))
         self.assert_served(True, 1, event("late", 1.0, seconds=0.5), event("late", 9.0, seconds=2.0))
 
+    def test_processors_that_are_late_at_the_same_time(self):
+        late = [event("late", 0.5, seconds=1.6), event("late", 0.6, seconds=0.5), event("late", 0.7, seconds=0.3)]
+        self.assert_served(False, 1, *late)
+        self.assert_served(True, 1, *late[1:])
+
     def test_a_stale_put(self):
         requests = [{**put("eggs", None, status=409, t=5.0), "place": 1, "refused": "StaleContext"}] * 6
         self.assertEqual(Run(put(*MILK), *requests, everywhere=[MILK]).broken(), [])
+
+
+class Enough(AvailabilityCase):
+    def assert_enough(self, enough, *events, judged=100, others=900, seconds=45):
+        """Some requests can be served, and others can't, since nobody holds their key."""
+        answered = [{**get(MILK, t=5.0), "place": 1}] * judged
+        missed = [{**get(t=5.0, key="l"), "place": 1}] * others
+        whole = event("run", 0.0, seconds=seconds, mode="all")
+        run = Run(put(*MILK), *answered, *missed, everywhere=[MILK], events=[whole, *events])
+        self.assertEqual(run.broken(), [] if enough else [ENOUGH])
+
+    def test_few_are_judged(self):
+        self.assert_enough(False)
+        self.assert_enough(False, judged=199, others=801)
+        self.assert_enough(True, judged=201, others=799)
+
+    def test_few_are_made(self):
+        self.assert_enough(True, judged=1, others=700)
+
+    def test_a_machine_that_is_late_for_most_requests(self):
+        self.assert_enough(True, event("late", 4.0, seconds=1.5))
+        self.assert_enough(False, event("late", 9.0, seconds=1.5))
+
+    def test_a_run_without_a_duration(self):
+        self.assert_enough(True, seconds=0)
 
 
 class Places(AvailabilityCase):

@@ -15,8 +15,8 @@ from nemesis.log import Watch
 
 COUNT = 5
 
-#: Seconds that clients may take for their first requests.
-PATIENT_S = 30.0
+#: Seconds that clients may take for their first requests, on a busy machine.
+PATIENT_S = 600.0
 
 
 class ClientsTest(unittest.TestCase):
@@ -45,7 +45,7 @@ class ClientsTest(unittest.TestCase):
         with Clients(COUNT, 1, self._base, self._logs, Watch(), places=[1]) as clients:
             clients.skew(["k001"])
             clients.work()
-            self._await({*range(1, COUNT + 1)})
+            self._await_that(lambda: len(self._lines()) > 200)
             clients.rest()
             keys = [line["key"] for line in self._lines()]
         self.assertGreater(keys.count("k001"), len(keys) // 2)

@@ -13,8 +13,11 @@ from nemesis.links import SOURCE
 
 PROBE = sorted(map(str, (Path(__file__).with_name("erlang")).glob("*.erl")))
 
-#: The limit of the probe's calls, and the time that a call may take in addition to its fault, in milliseconds.
-LIMIT_MS, SPARE_MS = 2_000, 10_000
+#: The limit of the probe's calls that have no answer in time, in milliseconds. The others have one of an hour.
+LIMIT_MS = 2_000
+
+#: Seconds that the probe may take on a busy machine.
+HANG_S = 600.0
 
 
 class LinkTest(unittest.TestCase):
@@ -31,11 +34,12 @@ class LinkTest(unittest.TestCase):
                 "late": ("answered", 1),
                 "too_late": ("timeout", 1),
                 "repeated": ("answered", 2),
+                "late_with_a_limit": ("answered", 1),
             },
         )
-        for name, least_ms in {"none": 0, "request_dropped": LIMIT_MS, "answer_dropped": LIMIT_MS, "late": 100}.items():
+        for name, least_ms in {"request_dropped": LIMIT_MS, "answer_dropped": LIMIT_MS, "late": 100}.items():
             with self.subTest(name):
-                self.assertIn(found[name][1], range(least_ms, least_ms + SPARE_MS))
+                self.assertGreaterEqual(found[name][1], least_ms)
 
 
 def probe() -> Dict[str, Tuple[str, int, int]]:
@@ -46,7 +50,8 @@ def probe() -> Dict[str, Tuple[str, int, int]]:
         subprocess.run(["erlc", "-Wall", "-Werror", "-o", room, *PROBE, str(SOURCE)], check=True)
         words = ["erl", "-noinput", "-kernel", "logger_level", "critical", "-pa", room, "-s", "link_probe", "main"]
         environment = {**os.environ, "NEMESIS_LINKS": f"{room}/links", "ERL_CRASH_DUMP_BYTES": "0"}
-        said = subprocess.run(words, env=environment, stdout=subprocess.PIPE, text=True, check=True).stdout
+        pipe = {"stdout": subprocess.PIPE, "text": True, "timeout": HANG_S}
+        said = subprocess.run(words, env=environment, check=True, **pipe).stdout
     lines = (line.split() for line in said.splitlines())
     return {name: (outcome, int(took), int(served)) for name, outcome, took, served in lines}
 

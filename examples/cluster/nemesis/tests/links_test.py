@@ -48,6 +48,13 @@ class LinksTest(unittest.TestCase):
         self.assertEqual(self._file(), [])
         self.assertEqual([len(it["late"]) for it in self._logged()], [20, 0])
 
+    def test_the_limit_of_calls_is_no_fault(self) -> None:
+        self._links.limit(60000)
+        self._links.repeat(50)
+        self.assertEqual(self._file(), ["repeat 50", "limit 60000"])
+        self._links.heal()
+        self.assertEqual(self._file(), ["limit 60000"])
+
     def test_calls_without_a_slot_are_counted(self) -> None:
         (self._room / "unslotted-3").write_text("offer\ncopies\noffer\n")
         self.assertEqual(self._links.unslotted(), {(3, "offer"): 2, (3, "copies"): 1})

@@ -37,6 +37,8 @@ def refused(call, *words):
     except OSError as fault:
         print(errno.errorcode[fault.errno])
 """
+#: Seconds that a program may take on a busy machine.
+HANG_S = 600.0
 END = "\nsys.stdout.flush()\nos.kill(os.getpid(), signal.SIGKILL)\n"
 
 
@@ -62,7 +64,7 @@ class PowerCase(unittest.TestCase):
 
     def end(self, child):
         """Waits until a program has killed itself, and returns its output."""
-        said, complaints = child.communicate(timeout=60)
+        said, complaints = child.communicate(timeout=HANG_S)
         self.assertEqual((child.returncode, complaints.decode()), (-signal.SIGKILL, ""))
         return said.decode().split()
 
@@ -138,10 +140,14 @@ class Bytes(PowerCase):
 
     def test_what_is_written_during_a_sync_is_not_synced(self):
         self.power.slow_syncs(300)
-        self.run_program(
+        child = self.begin(
             "file = write('a', b'one'); it = threading.Thread(target=os.fsync, args=(file,)); it.start()\n"
-            "time.sleep(0.1); os.write(file, b'two'); it.join(); sync()"
+            "sys.stdin.readline(); os.write(file, b'two'); it.join(); sync()"
         )
+        while self.power.counts().begun == 0 and child.poll() is None:
+            time.sleep(0.01)
+        child.stdin.write(b"\n")
+        self.end(child)
         self.power.cut()
         self.assertEqual(self.held(), {"a": b"one"})
 
@@ -398,15 +404,17 @@ class Faults(PowerCase):
 
     def test_a_slow_sync_that_is_healed_at_once(self):
         self.power.slow_syncs(250)
-        child = self.begin(
-            "file = write('a', b'one'); os.fsync(file); print('done', flush=True); time.sleep(0.5); os.fsync(file)"
-        )
         begun = time.monotonic()
+        child = self.begin(
+            "file = write('a', b'one'); os.fsync(file); print('done', flush=True); sys.stdin.readline(); os.fsync(file)"
+        )
         self.assertEqual(child.stdout.readline(), b"done\n")
         self.assertGreater(time.monotonic() - begun, 0.25)
+        # (longer than this test waits for the program)
+        self.power.slow_syncs(int(2000 * HANG_S))
         self.power.heal()
+        child.stdin.write(b"\n")
         self.end(child)
-        self.assertLess(time.monotonic() - begun, 5.0)
 
     def test_other_files_have_no_faults(self):
         self.power.fill()
