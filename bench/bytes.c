@@ -39,7 +39,8 @@ static void put(unsigned long number, bool copied)
     must("put", antientropy_put(&there, 2, key, len, &clock, copied ? 0 : 1, ANTIENTROPY_LIVE, value, shape.value_bytes,
                                 &receipt));
     if (copied)
-        must("accept", antientropy_accept(&here, key, len, &clock, 1, ANTIENTROPY_LIVE, value, shape.value_bytes, &taken));
+        must("accept",
+            antientropy_accept(&here, key, len, &clock, 1, ANTIENTROPY_LIVE, value, shape.value_bytes, &taken));
 }
 
 /* Rewrites different keys at node 2. */
@@ -111,6 +112,7 @@ int main(int count, char **words)
         fprintf(stderr, "the exchange is not finished\n");
         return 1;
     }
-    printf("%" PRIu64 " %" PRIu64 " %u %" PRIu64 " %" PRIu64 " %.2f\n", asked, answered, rounds, progress.asks, patches, took);
+    printf("%" PRIu64 " %" PRIu64 " %u %" PRIu64 " %" PRIu64 " %.2f\n", asked, answered, rounds, progress.asks, patches,
+        took);
     return 0;
 }

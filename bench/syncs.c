@@ -53,7 +53,8 @@ static void put(struct antientropy_replica *at, unsigned node, struct antientrop
     uint64_t taken;
     size_t len = key_of(number, key), pairs = clock_of(number, clock);
     value_of(number + counters[number][0] + counters[number][1], value);
-    must("put", antientropy_put(at, node, key, len, clock, pairs, ANTIENTROPY_LIVE, value, shape.value_bytes, &receipt));
+    must("put",
+        antientropy_put(at, node, key, len, clock, pairs, ANTIENTROPY_LIVE, value, shape.value_bytes, &receipt));
     counters[number][node - 1] = receipt.counter;
     if (to == NULL)
         return;

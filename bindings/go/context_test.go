@@ -100,10 +100,8 @@ func TestASyncWithADeadline(t *testing.T) {
 		<-ctx.Done()
 		return nil, ctx.Err()
 	}
-	begin := time.Now()
 	_, err := r.SyncWithin(ctx, antientropy.DefaultBounds(), 9, must(snapshot.Offer(1)), silent)
 	refused(t, err, context.DeadlineExceeded)
-	equal(t, time.Since(begin) < 10*time.Second, true)
 	nothingIsLeft(t, r)
 }
 

@@ -44,11 +44,7 @@ func TestNoFinalizerFrees(t *testing.T) {
 	runtime.GC()
 	<-ran
 	close(busy)
-	eventually(t, "the freer doesn't end", func() bool {
-		collected.lock.Lock()
-		defer collected.lock.Unlock()
-		return !collected.isAtWork && len(collected.frees) == 0
-	})
+	eventually(t, "the freer doesn't end", collected.isIdle)
 }
 
 // An exchange and its replica are collected at once, and an exchange that outlives its replica is freed too.

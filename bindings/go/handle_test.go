@@ -113,19 +113,23 @@ func TestEachMethodOfAHandleThatHoldsNothing(t *testing.T) {
 	}
 }
 
-// started calls a method in another goroutine. It returns a channel that is closed when the method has returned, and
-// true if it has already.
-func started(method reflect.Value) (done chan bool, ended bool) {
+// started calls a method in another goroutine. It returns a channel that is closed when the method has returned.
+func started(method reflect.Value) (done chan bool) {
 	done = make(chan bool)
 	go func() {
 		callMethod(method)
 		close(done)
 	}()
+	return done
+}
+
+// endsWithin returns true if a channel is closed within a time.
+func endsWithin(limit time.Duration, done chan bool) bool {
 	select {
 	case <-done:
-		return done, true
-	case <-time.After(5 * time.Millisecond):
-		return done, false
+		return true
+	case <-time.After(limit):
+		return false
 	}
 }
 
@@ -133,8 +137,8 @@ func started(method reflect.Value) (done chan bool, ended bool) {
 func TestEachMethodTakesTheLock(t *testing.T) {
 	eachMethod(emptyHandles(), func(name string, method reflect.Value, lock locker) {
 		lock.Lock()
-		done, ended := started(method)
-		if ended {
+		done := started(method)
+		if endsWithin(5*time.Millisecond, done) {
 			t.Errorf("%s doesn't take the lock", name)
 		}
 		lock.Unlock()
@@ -155,14 +159,17 @@ func TestReadsAreMadeAtOnce(t *testing.T) {
 			return
 		}
 		shared.RLock()
-		done, ended := started(method)
+		done := started(method)
+		if !changes[name] && !endsWithin(2*time.Minute, done) {
+			t.Errorf("%s waits for a read", name)
+		}
+		if changes[name] && endsWithin(5*time.Millisecond, done) {
+			t.Errorf("%s waits for no read", name)
+		}
 		shared.RUnlock()
 		<-done
 		if changes[name] {
 			count++
-		}
-		if ended == changes[name] {
-			t.Errorf("%s waits for a read: %v", name, !ended)
 		}
 	})
 	if count != len(changes) {

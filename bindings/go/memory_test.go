@@ -67,7 +67,7 @@ var makers = map[string]maker{
 	}},
 }
 
-// collect waits until the collector has finalized the objects that were dropped.
+// collect waits until the objects that were dropped are freed.
 func collect() {
 	for n := 0; n < 2; n++ { // finalizers of the first collection run in any order
 		done := make(chan bool)
@@ -75,6 +75,7 @@ func collect() {
 		runtime.GC()
 		<-done
 	}
+	antientropy.AwaitFreed()
 }
 
 // freed makes 128 MiB of handles, and checks that the process grows by less than 64 MiB. All are made by one thread,
@@ -109,8 +110,8 @@ func TestTheCollectorFrees(t *testing.T) {
 	}
 }
 
-// smallReplicas makes replicas of 100 values of 1,000 bytes, and drops them. It returns the greatest memory of the
-// process meanwhile.
+// smallReplicas makes replicas of 100 values of 1,000 bytes, drops them, and waits for collections that have begun. It
+// returns the greatest memory of the process meanwhile.
 func smallReplicas(replicas int) (most int) {
 	value := bytes.Repeat([]byte("v"), 1_000)
 	for n := 0; n < replicas; n++ {
@@ -120,6 +121,9 @@ func smallReplicas(replicas int) (most int) {
 		}
 		if now := resident(); now > most {
 			most = now
+		}
+		if n%100 == 0 {
+			antientropy.AwaitFreed()
 		}
 	}
 	return most
@@ -136,8 +140,8 @@ func TestDroppedReplicasAreCollected(t *testing.T) {
 	}
 }
 
-// peaks makes a number of replicas, each with four snapshots and an exchange, and closes them or drops them. It returns
-// the greatest memory of the process in the first third, and later.
+// peaks makes a number of replicas, each with four snapshots and an exchange, and closes them or has them collected. It
+// returns the greatest memory of the process in the first third, and later.
 func peaks(number int, close bool) (first, later int) {
 	snapshot := must(must(antientropy.NewReplica(antientropy.Config{Format: 1, Limit: 10})).Snapshot())
 	defer snapshot.Close()
@@ -153,6 +157,8 @@ func peaks(number int, close bool) (first, later int) {
 				check(share.Close())
 			}
 			check(r.Close())
+		} else if n%100 == 99 {
+			collect()
 		}
 		if now := resident(); n < number/3 && now > first {
 			first = now

@@ -5,7 +5,6 @@ import (
 	"fmt"
 	"math/rand"
 	"testing"
-	"time"
 
 	antientropy "example.org/antientropy/go"
 )
@@ -119,17 +118,10 @@ func TestSnapshotsAndSyncsBesidePuts(t *testing.T) {
 		putUntil(stop, busy, keys)
 		ended <- true
 	}()
-	end := func() {
-		select {
-		case <-ended:
-		case <-time.After(time.Minute):
-			t.Fatal("a goroutine doesn't end")
-		}
-	}
-	end()
-	end()
+	<-ended
+	<-ended
 	close(stop)
-	end()
+	<-ended
 	for i, other := range others {
 		root := must(taken[i].Root())
 		want := []antientropy.Root{must(other.Root()), must(copyOf(busy, taken[i].Entries()).Root())}

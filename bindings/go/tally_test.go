@@ -29,6 +29,7 @@ func TestWhenTheCollectorRuns(t *testing.T) {
 	for _, test := range []struct{ left, most int64 }{{0, 32 << 20}, {1 << 20, 34 << 20}, {1 << 30, 2<<30 + 32<<20}} {
 		var tally tally
 		tally.left.Store(test.left)
+		AwaitFreed()
 		before := forced()
 		tally.add(test.most)
 		if forced() != before || tally.isCollecting.Load() {
@@ -46,6 +47,7 @@ func TestWhenTheCollectorRuns(t *testing.T) {
 func TestOneCollectionAtOnce(t *testing.T) {
 	var tally tally
 	tally.isCollecting.Store(true)
+	AwaitFreed()
 	before := forced()
 	tally.add(1 << 40)
 	time.Sleep(10 * time.Millisecond)

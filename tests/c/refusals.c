@@ -832,7 +832,8 @@ static void exchanges(void)
     ask[4] = OFFER;
     OK(antientropy_exchange_lose(&exchange, ask, sizeof ask));
     OK(antientropy_exchange_report(&exchange, &replica, &progress));
-    is("the root is lost", progress.lost == 1 && progress.in_flight == 0 && progress.report == ANTIENTROPY_REPORT_WAITING);
+    is("the root is lost",
+        progress.lost == 1 && progress.in_flight == 0 && progress.report == ANTIENTROPY_REPORT_WAITING);
     SEE(exchange_go_on, EMPTY, antientropy_exchange_go_on(&empty));
     OK(antientropy_exchange_go_on(&exchange));
     SEE(exchange_left, EMPTY, antientropy_exchange_left(&empty, &replica, 0, &node));

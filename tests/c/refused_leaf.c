@@ -113,7 +113,8 @@ static void refuse(struct antientropy_replica *replica, const struct antientropy
         number = antientropy_take(replica, session, OFFER, answer, len, &taken);
     }
     want("take", number, cause);
-    printf("%s: %s twice the message's bytes\n", antientropy_strerror(cause), most <= 2 * (long)len ? "at most" : "over");
+    printf("%s: %s twice the message's bytes\n", antientropy_strerror(cause),
+        most <= 2 * (long)len ? "at most" : "over");
 }
 
 int main(void)

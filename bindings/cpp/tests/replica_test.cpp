@@ -288,7 +288,8 @@ void rows() {
 }
 
 void rows_of_a_format() {
-    Replica replica = sure(Replica::make(format_1)), first = sure(Replica::make(format_1)), into = sure(Replica::make());
+    Replica replica = sure(Replica::make(format_1)), first = sure(Replica::make(format_1));
+    Replica into = sure(Replica::make());
     for (const char *key : {"a", "b", "c"}) sure(replica.put(1, key, key));
     std::string rows;
     for (const char *key : {"a", "b", "c"}) rows += sure(replica.row(key));

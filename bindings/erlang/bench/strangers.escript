@@ -5,8 +5,8 @@
 %%
 %% The callers make calls without pause, and one more process makes a long call. Prints its milliseconds, and of the
 %% stranger's file:read_file meanwhile the median, the 99th percentile and the maximum in microseconds, and their
-%% number; then the same of the callers' calls. The goal is a 99th percentile of 20,000 with 50 callers, on a quiet machine of 4
-%% processors. ERL_LIBS is the folder that has the application.
+%% number; then the same of the callers' calls. The goal is a 99th percentile of 20,000 with 50 callers, on a quiet
+%% machine of 4 processors. ERL_LIBS is the folder that has the application.
 -mode(compile).
 
 main([KeysWord, CallersWord, Call, Long]) ->

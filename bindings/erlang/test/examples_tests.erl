@@ -54,17 +54,13 @@ start_epmd() ->
     Epmd = open_port({spawn_executable, os:find_executable("epmd")}, [
         {args, ["-port", Port, "-address", "127.0.0.1"]}, stderr_to_stdout, binary
     ]),
-    ok = wait_for(Number, 50),
+    true = support:until(fun() -> is_open(Number) end),
     {Epmd, [{"ERL_EPMD_PORT", Port}, {"ERL_EPMD_ADDRESS", "127.0.0.1"}]}.
 
-%% Waits until a port is open, at most this number of tenths of a second.
-wait_for(Number, Tenths) when Tenths > 0 ->
+is_open(Number) ->
     case gen_tcp:connect({127, 0, 0, 1}, Number, []) of
-        {ok, Socket} ->
-            gen_tcp:close(Socket);
-        {error, _} ->
-            timer:sleep(100),
-            wait_for(Number, Tenths - 1)
+        {ok, Socket} -> ok =:= gen_tcp:close(Socket);
+        {error, _} -> false
     end.
 
 stop_epmd({Epmd, _}) ->

@@ -69,6 +69,7 @@ beside_writers_test_() ->
             end
          || Count <- lists:seq(1, ?RENEWALS)
         ],
+        until(fun() -> length(element(2, antientropy:keys(Replica))) =:= ?WRITERS * ?KEYS end),
         Puts = [stop(Writer) || Writer <- Writers],
         Logged = stop(Log),
         [
@@ -172,13 +173,20 @@ large_test_() ->
     {timeout, 120, fun() ->
         Replica = fill(replica(#{limit => 100_000}), 50_000),
         rewrite(Replica, 1_000),
-        Renewing = async(fun() -> antientropy:renew_in_place(Replica, 100_000) end),
-        Puts = puts_while(Renewing, Replica, 1_000),
-        ?assertEqual(ok, await(Renewing)),
-        ?assert(Puts > 1_100),
+        Puts = renewed_beside_puts(Replica, 1_000),
         ?assertMatch({ok, #{first := First}} when First >= 999, antientropy:count(Replica)),
         ?assertEqual({ok, [live(#{1 => Puts}, <<>>)]}, antientropy:get(Replica, <<"k">>))
     end}.
+
+%% Renews a replica until it takes a hundred puts meanwhile. Returns the counter of the last one.
+renewed_beside_puts(Replica, Counter) ->
+    Renewing = async(fun() -> antientropy:renew_in_place(Replica, 100_000) end),
+    Puts = puts_while(Renewing, Replica, Counter),
+    ?assertEqual(ok, await(Renewing)),
+    case Puts > Counter + 100 of
+        true -> Puts;
+        false -> renewed_beside_puts(Replica, Puts)
+    end.
 
 %% Processes that are killed while they renew a replica leave it unchanged, or renewed, and no call waits for them.
 killed_test_() ->

@@ -1,10 +1,12 @@
 %% @doc Runs all tests in the folder of this module, and prints a line for each that failed. The last line is
-%% 'N passed, M failed'.
+%% 'N passed, M failed'. Each test may take twenty minutes, since EUnit's five seconds are few on a busy machine.
 -module(report).
 -behaviour(eunit_listener).
 
 -export([main/0, main/1]).
 -export([start/0, start/1, init/1, handle_begin/3, handle_end/3, handle_cancel/3, terminate/2]).
+
+-define(SECONDS, 1200).
 
 %% @doc Runs all tests, and ends the node.
 main() ->
@@ -22,11 +24,38 @@ main(Modules) ->
 run([], Counts) ->
     Counts;
 run([Module | Modules], {Passed, Failed}) ->
-    eunit:test(Module, [no_tty, {report, {?MODULE, [{main, self()}]}}]),
+    eunit:test(tests(Module), [no_tty, {report, {?MODULE, [{main, self()}]}}]),
     receive
         {counts, 0, 0} -> run(Modules, {Passed, Failed + 1});
         {counts, MorePassed, MoreFailed} -> run(Modules, {Passed + MorePassed, Failed + MoreFailed})
     end.
+
+%% Returns the tests of a module.
+tests(Module) ->
+    [
+        {generator, fun() -> patient(made(Module, Name)) end}
+     || {Name, 0} <- Module:module_info(exports), lists:suffix("_test", string:trim(atom_to_list(Name), trailing, "_"))
+    ].
+
+%% Returns the test of a name, or the tests that a generator makes, whose name ends with `_'.
+made(Module, Name) ->
+    case lists:last(atom_to_list(Name)) of
+        $_ -> Module:Name();
+        _ -> fun Module:Name/0
+    end.
+
+%% Returns tests with the time that each may take.
+patient(Tests) when is_list(Tests) -> [patient(Test) || Test <- Tests];
+patient({timeout, _, Tests}) -> patient(Tests);
+patient({inorder, Tests}) -> {inorder, patient(Tests)};
+patient({setup, Setup, Tests}) -> {setup, Setup, patient(Tests)};
+patient({setup, Setup, Cleanup, Tests}) -> {setup, Setup, Cleanup, patient(Tests)};
+patient({foreach, Setup, Tests}) -> {foreach, Setup, patient(Tests)};
+patient({foreach, Setup, Cleanup, Tests}) -> {foreach, Setup, Cleanup, patient(Tests)};
+patient({with, Tests}) -> fun(Made) -> [patient(fun() -> Test(Made) end) || Test <- Tests] end;
+patient({Title, Tests}) -> {Title, patient(Tests)};
+patient(Tests) when is_function(Tests, 1) -> fun(Made) -> patient(Tests(Made)) end;
+patient(Test) when is_function(Test, 0) -> {timeout, ?SECONDS, Test}.
 
 start() ->
     start([]).

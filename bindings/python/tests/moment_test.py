@@ -9,7 +9,7 @@ from antientropy import BadClockError, Replica
 
 from tests.support import Hashing, ReplicaCase, reach, sync
 
-KEYS, ROUNDS, LONG = 500, 4, 60
+KEYS, ROUNDS, LONG = 500, 4, 600
 
 
 class MomentTest(ReplicaCase):

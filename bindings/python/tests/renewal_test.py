@@ -9,7 +9,7 @@ from antientropy import BadPositionError, DirtyError, JournalFullError, Replica,
 
 from tests.support import ReplicaCase, sync
 
-KEYS, RENEWALS, LONG = 100, 5, 60
+KEYS, RENEWALS, LONG = 100, 5, 600
 
 
 class Built:

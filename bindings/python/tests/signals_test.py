@@ -54,7 +54,7 @@ def use(replica, hints):
 
 class SignalsTest(unittest.TestCase):
     def setUp(self):
-        faulthandler.dump_traceback_later(120, exit=True)
+        faulthandler.dump_traceback_later(1200, exit=True)
         self.addCleanup(faulthandler.cancel_dump_traceback_later)
 
     def interrupt_by(self, number, handler):

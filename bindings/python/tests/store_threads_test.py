@@ -9,7 +9,7 @@ from antientropy import Replica, Version
 from tests.store_case import SqliteStore, StoreCase, rows_of
 from tests.support import Hashing, reach
 
-THREADS, LONG = 20, 10
+THREADS, LONG = 20, 600
 
 
 class Disk:

@@ -6,15 +6,17 @@ import time
 import unittest
 from array import array
 from collections import UserDict
+from contextlib import suppress
 from importlib import import_module
 from importlib.util import find_spec
+from itertools import count
 
 import antientropy
 from antientropy import Replica
 
 from tests.support import crowd
 
-SECONDS = 0.5
+LONG = 600
 
 
 class VersionsTest(unittest.TestCase):
@@ -74,40 +76,50 @@ class VersionsTest(unittest.TestCase):
                 call()
 
     def test_a_replica_is_closed_meanwhile(self):
-        replica, ended = Replica(), []
-        calls = [lambda n: replica.put(1, b"%d" % n, b""), lambda n: replica.get(b"%d" % n), lambda n: replica.count(),
-                 lambda n: replica.row(b"%d" % n), lambda n: replica.accept(b"%d" % n, {2: 1}, b"")]
+        replica, begun, ended = Replica(), threading.Barrier(6), []
+
+        def put(key):
+            with suppress(antientropy.StaleContextError): # (the key was put before)
+                replica.put(1, key, b"")
+
+        calls = [put, replica.get, replica.row, lambda _: replica.count(), lambda key: replica.accept(key, {2: 1}, b"")]
 
         def repeat(call):
+            begun.wait()
             with self.assertRaises(antientropy.EmptyError):
-                for n in range(1_000_000):
-                    call(n)
+                for n in count():
+                    call(b"%d" % (n % 1_000))
             ended.append(call)
 
         threads = [threading.Thread(target=repeat, args=(call,)) for call in calls]
         for thread in threads:
             thread.start()
-        time.sleep(SECONDS / 10)
+        begun.wait()
+        time.sleep(0.05)
         replica.close()
         for thread in threads:
             thread.join()
         self.assertCountEqual(ended, calls)
 
     def test_a_handler_runs_while_a_call_waits(self):
-        taken, ran = threading.Event(), []
+        taken, handled, ran = threading.Event(), threading.Event(), []
 
         def take(lock):
             with lock:
                 taken.set()
-                time.sleep(SECONDS)
+                handled.wait(LONG)
                 ran.append("another thread")
 
-        self.addCleanup(signal.signal, signal.SIGALRM, signal.signal(signal.SIGALRM, lambda *_: ran.append("handler")))
+        def handle(*_):
+            ran.append("handler")
+            handled.set()
+
+        self.addCleanup(signal.signal, signal.SIGALRM, signal.signal(signal.SIGALRM, handle))
         with Replica() as replica:
             thread = threading.Thread(target=take, args=(replica._lock,))
             thread.start()
             taken.wait()
-            signal.setitimer(signal.ITIMER_REAL, SECONDS / 10)
+            signal.setitimer(signal.ITIMER_REAL, 0.05)
             replica.put(1, b"key", b"")
             ran.append("put")
             thread.join()

@@ -395,12 +395,12 @@ fn ask(node: u16, kind: u8, body: &[u8]) -> Outcome<Vec<u8>> {
     Ok(request(node, kind, body, CLIENT_TIMEOUT)??)
 }
 
-/// Waits until a condition holds, for at most a minute.
+/// Waits until a condition holds, for at most ten minutes.
 fn wait_until(mut condition: impl FnMut() -> Outcome<bool>) -> Outcome<()> {
-    let end = Instant::now() + Duration::from_secs(60);
+    let end = Instant::now() + Duration::from_secs(600);
     while !condition()? {
         if Instant::now() > end {
-            return Err("nothing has changed for a minute".into());
+            return Err("nothing has changed for ten minutes".into());
         }
         thread::sleep(PAUSE);
     }

@@ -49,7 +49,8 @@ go_on(#errand{calls = Calls, unasked = Unasked, wait_ms = WaitMs} = Errand) ->
         _ ->
             receive
                 {'DOWN', Call, process, _, Reason} when is_map_key(Call, Calls) ->
-                    answered(result(cluster_task:result(errand, Reason)), Errand#errand{calls = maps:remove(Call, Calls)})
+                    Left = Errand#errand{calls = maps:remove(Call, Calls)},
+                    answered(result(cluster_task:result(errand, Reason)), Left)
             after WaitMs -> late(Errand)
             end
     end.

@@ -60,7 +60,8 @@ damage_test_() ->
     room:test([], fun(Folder) ->
         start(),
         [{ok, _} = Kept || Kept <- keep_all(1010)],
-        ok = cluster_hints:confirm(2, 0, [{Number, new} || #{number := Number} <- cluster_hints:pending(2, 0, 0, 1000)]),
+        Pending = cluster_hints:pending(2, 0, 0, 1000),
+        ok = cluster_hints:confirm(2, 0, [{Number, new} || #{number := Number} <- Pending]),
         {ok, _} = cluster_hints:keep(3, 0, key(1), ?VERSION),
         ok = room:kill(cluster_hints),
         ?assertEqual({whole, 1}, cluster_folder:state()),

@@ -311,7 +311,7 @@ func dial(id antientropy.Node, deadline time.Duration) (*rpc.Client, error) {
 
 // call makes one call of a node.
 func call(id antientropy.Node, method string, args, reply any) error {
-	link, err := dial(id, 100*patience)
+	link, err := dial(id, time.Minute)
 	if err != nil {
 		return err
 	}
@@ -359,7 +359,7 @@ func main() {
 		run(antientropy.Node(must(strconv.Atoi(os.Args[2]))), os.Args[1] == "first")
 		return
 	}
-	time.AfterFunc(2*time.Minute, func() { log.Fatal("the nodes didn't become equal") })
+	time.AfterFunc(20*time.Minute, func() { log.Fatal("the nodes didn't become equal") })
 	folder := must(os.MkdirTemp("", "host"))
 	defer os.RemoveAll(folder)
 	check(os.Chdir(folder))

@@ -28,7 +28,8 @@ func must[T any](result T, err error) T {
 func sync(replica, partner *antientropy.Replica, node antientropy.Node) antientropy.Synced {
 	snapshot := must(partner.Snapshot())
 	defer snapshot.Close()
-	return must(replica.Sync(context.Background(), node, must(snapshot.Offer(1)), func(_ context.Context, asks [][]byte) ([][]byte, error) {
+	offer := must(snapshot.Offer(1))
+	return must(replica.Sync(context.Background(), node, offer, func(_ context.Context, asks [][]byte) ([][]byte, error) {
 		answers := make([][]byte, len(asks))
 		for i, ask := range asks {
 			answers[i], _ = snapshot.Serve(1, ask) // nil if it is refused

@@ -5,7 +5,6 @@ mod exchange;
 mod functions;
 mod header;
 mod hints;
-mod memory;
 mod moments;
 mod renewals;
 mod replica;
