@@ -6,6 +6,7 @@ import (
 	"fmt"
 	"os"
 	"runtime"
+	"strconv"
 	"strings"
 	"testing"
 
@@ -141,7 +142,7 @@ func TestDroppedReplicasAreCollected(t *testing.T) {
 }
 
 // peaks makes a number of replicas, each with four snapshots and an exchange, and closes them or has them collected. It
-// returns the greatest memory of the process in the first third, and later.
+// returns the greatest memory of the process while it makes the first thousand, and later.
 func peaks(number int, close bool) (first, later int) {
 	snapshot := must(must(antientropy.NewReplica(antientropy.Config{Format: 1, Limit: 10})).Snapshot())
 	defer snapshot.Close()
@@ -160,9 +161,9 @@ func peaks(number int, close bool) (first, later int) {
 		} else if n%100 == 99 {
 			collect()
 		}
-		if now := resident(); n < number/3 && now > first {
+		if now := resident(); n < 1_000 && now > first {
 			first = now
-		} else if n >= number/3 && now > later {
+		} else if n >= 1_000 && now > later {
 			later = now
 		}
 	}
@@ -176,13 +177,17 @@ func forced() uint32 {
 	return stats.NumForcedGC
 }
 
-// The process stops growing in the first third of 1,500 replicas with their snapshots and exchanges. A program that
-// closes them causes no collection.
+// The process stops growing in the first thousand replicas with their snapshots and exchanges, of as many as
+// MEMORY_ROUNDS says: 10,000, or 1,500 in the gate. A program that closes them causes no collection.
 func TestManyHandles(t *testing.T) {
+	number, err := strconv.Atoi(os.Getenv("MEMORY_ROUNDS"))
+	if err != nil {
+		number = 1_500
+	}
 	for _, close := range []bool{true, false} {
 		collect()
 		before := forced()
-		first, later := peaks(1_500, close)
+		first, later := peaks(number, close)
 		t.Logf("closed: %v: the process has at most %d MiB at first, and %d later", close, first/mebibyte, later/mebibyte)
 		if 10*later > 11*first {
 			t.Error("the process grows")
