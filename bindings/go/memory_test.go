@@ -6,6 +6,7 @@ import (
 	"fmt"
 	"os"
 	"runtime"
+	"runtime/debug"
 	"strconv"
 	"strings"
 	"testing"
@@ -141,12 +142,13 @@ func TestDroppedReplicasAreCollected(t *testing.T) {
 	}
 }
 
-// peaks makes a number of replicas, each with four snapshots and an exchange, and closes them or has them collected. It
-// returns the greatest memory of the process while it makes the first thousand, and later.
-func peaks(number int, close bool) (first, later int) {
+// handled makes a number of replicas, each with four snapshots and an exchange, and closes them or has them collected.
+// It returns the memory of the process when nothing of them is left.
+func handled(t *testing.T, number int, close bool) int {
 	snapshot := must(must(antientropy.NewReplica(antientropy.Config{Format: 1, Limit: 10})).Snapshot())
-	defer snapshot.Close()
 	offer, value := must(snapshot.Offer(7)), strings.Repeat("v", antientropy.ValueMax1)
+	collect()
+	before := forced()
 	for n := 0; n < number; n++ {
 		r := must(antientropy.NewReplica(antientropy.Config{Format: 1, Limit: 10}))
 		put(r, "key", value)
@@ -161,13 +163,14 @@ func peaks(number int, close bool) (first, later int) {
 		} else if n%100 == 99 {
 			collect()
 		}
-		if now := resident(); n < 1_000 && now > first {
-			first = now
-		} else if n >= 1_000 && now > later {
-			later = now
-		}
 	}
-	return first, later
+	if close {
+		equal(t, forced(), before)
+	}
+	check(snapshot.Close())
+	collect()
+	debug.FreeOSMemory()
+	return resident()
 }
 
 // forced returns the number of collections that were forced.
@@ -177,23 +180,20 @@ func forced() uint32 {
 	return stats.NumForcedGC
 }
 
-// The process stops growing in the first thousand replicas with their snapshots and exchanges, of as many as
-// MEMORY_ROUNDS says: 10,000, or 1,500 in the gate. A program that closes them causes no collection.
+// A thousand replicas with their snapshots and exchanges leave as much memory as those that follow: as many as
+// MEMORY_ROUNDS says, 10,000, or 500 in the gate. A program that closes them causes no collection.
 func TestManyHandles(t *testing.T) {
 	number, err := strconv.Atoi(os.Getenv("MEMORY_ROUNDS"))
 	if err != nil {
-		number = 1_500
+		number = 500
 	}
+	runtime.LockOSThread()
+	defer runtime.UnlockOSThread()
 	for _, close := range []bool{true, false} {
-		collect()
-		before := forced()
-		first, later := peaks(number, close)
-		t.Logf("closed: %v: the process has at most %d MiB at first, and %d later", close, first/mebibyte, later/mebibyte)
+		first, later := handled(t, 1_000, close), handled(t, number, close)
+		t.Logf("closed: %v: the process has %d KiB at first, and %d later", close, first>>10, later>>10)
 		if 10*later > 11*first {
 			t.Error("the process grows")
-		}
-		if close {
-			equal(t, forced(), before)
 		}
 	}
 }
